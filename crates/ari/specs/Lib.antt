@@ -1,0 +1,6 @@
+pub mod Name
+pub mod Table
+pub mod Reader
+pub mod Items
+pub mod Decode
+pub mod Rules

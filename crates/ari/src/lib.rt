@@ -1,0 +1,1 @@
+// Definitions of ARIs and AMP messages, and the theorems about them.

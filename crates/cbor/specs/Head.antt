@@ -1,0 +1,144 @@
+-- Item heads: document 01, 'Heads', and the tests 2, 3 and 4.
+use Prim.Native.Nat.{ℕ, suc, _+_, _-_, _*_, _/_, _%_, _^_, _<_, _≤_}
+use mathlib.Core.Path.{_≡_}
+use mathlib.Core.Bool.{Bool, true, false, not, _&&_, _||_, cond}
+use mathlib.Core.List.{List, [], _∷_}
+use lib.ListN.{length, take}
+use lib.Dec.{ltb, leb, eqb}
+use Rattle.cbor.specs.Byte.{be, value, within}
+
+-- The kinds of items: the major types 0 to 5, the simple values, and the floats f9, fa and fb.
+abbrev pub unsigned : ℕ
+unsigned = 0
+
+abbrev pub negative : ℕ
+negative = 1
+
+abbrev pub bytes : ℕ
+bytes = 2
+
+abbrev pub text : ℕ
+text = 3
+
+abbrev pub array : ℕ
+array = 4
+
+abbrev pub map : ℕ
+map = 5
+
+abbrev pub simple : ℕ
+simple = 6
+
+abbrev pub half : ℕ
+half = 7
+
+abbrev pub single : ℕ
+single = 8
+
+abbrev pub double : ℕ
+double = 9
+
+-- A head: its kind, its argument (a number, a length, a simple value, a float's bits) and its info, the low five bits of its first byte,
+-- which say how many bytes the argument was given. Shortest heads alone are accepted now; a longer one would keep its own info.
+pub record Lead : Type 0 where
+  pub info : ℕ
+  pub kind : ℕ
+  pub arg : ℕ
+
+-- the bytes of the argument that an info asks for
+unfoldable pub width : ℕ → ℕ
+width i = cond (eqb i 24) 1 (cond (eqb i 25) 2 (cond (eqb i 26) 4 (cond (eqb i 27) 8 0)))
+
+-- "A length or number uses the shortest head that holds it": its info
+unfoldable pub shortest : ℕ → ℕ
+shortest a = cond (ltb a 24) a (cond (ltb a 256) 24 (cond (ltb a 65536) 25 (cond (ltb a 4294967296) 26 27)))
+
+unfoldable pub majorOf : ℕ → ℕ
+majorOf k = cond (leb k map) k 7
+
+unfoldable pub kindOf : ℕ → ℕ → ℕ
+kindOf m i = cond (leb m 5) m (cond (ltb i 24) simple (i - 18))
+
+unfoldable pub argument : ℕ → List ℕ → ℕ
+argument i bs = cond (ltb i 24) i (value (take (width i) bs))
+
+-- the bytes of a head, and how many they are
+unfoldable pub leadBytes : Lead → List ℕ
+leadBytes l = (majorOf (l .kind) * 32 + l .info) ∷ be (width (l .info)) (l .arg)
+
+abbrev pub size : Lead → ℕ
+size l = suc (width (l .info))
+
+-- the shortest bytes of a number or length: by these map keys are ordered
+unfoldable pub shortBytes : ℕ → ℕ → List ℕ
+shortBytes k a = (majorOf k * 32 + shortest a) ∷ be (width (shortest a)) a
+
+-- 2^p divides m
+abbrev pub divides : ℕ → ℕ → Bool
+divides p m = eqb (m % 2 ^ p) 0
+
+-- "fa (exponent e, fraction m) is too long if it is a zero or an infinity; if 113 <= e <= 142 and 2^13 divides m; or if 103 <= e <= 112 and
+-- 2^(126-e) divides m"; and with exponent 255 the others are NaNs
+unfoldable pub badSingle : ℕ → ℕ → Bool
+badSingle e m = (eqb e 0 && eqb m 0) || (eqb e 255 || ((within 113 142 e && divides 13 m) || (within 103 112 e && divides (126 - e) m)))
+
+-- "fb is too long if it is a zero or an infinity; if 897 <= e <= 1150 and 2^29 divides m; or if 874 <= e <= 896 and 2^(926-e) divides m";
+-- and with exponent 2047 the others are NaNs
+unfoldable pub badDouble : ℕ → ℕ → Bool
+badDouble e m = (eqb e 0 && eqb m 0) || (eqb e 2047 || ((within 897 1150 e && divides 29 m) || (within 874 896 e && divides (926 - e) m)))
+
+-- "The only NaN is f97e00"
+unfoldable pub badHalf : ℕ → Bool
+badHalf a = eqb (a / 2 ^ 10 % 32) 31 && (not (eqb (a % 2 ^ 10) 0) && not (eqb a 0x7e00))
+
+-- "A float has the shortest of its three sizes that keeps the number": this one has not, or it is another NaN
+unfoldable pub badFloat : ℕ → ℕ → Bool
+badFloat k a =
+    (eqb k half && badHalf a)
+    || ((eqb k single && badSingle (a / 2 ^ 23 % 256) (a % 2 ^ 23)) || (eqb k double && badDouble (a / 2 ^ 52 % 2048) (a % 2 ^ 52)))
+
+-- test 3: "head not in use: info 28 to 31, a tag, another simple value (f8 too)"
+unfoldable pub unused : ℕ → ℕ → Bool
+unused m i = leb 28 i || (eqb m 6 || (leb 8 m || (eqb m 7 && (ltb i 20 || eqb i 24))))
+
+-- test 4: "head or float not shortest, or another NaN"
+unfoldable pub notShortest : ℕ → ℕ → ℕ → Bool
+notShortest i k a = (leb k map && not (eqb (shortest a) i)) || badFloat k a
+
+pub data Got : Type 0 where
+  bad : ℕ → Got
+  got : Lead → Got
+
+-- the tests 2, 3 and 4, of a first byte with major type m and info i before bs
+unfoldable pub getFrom : ℕ → ℕ → List ℕ → Got
+getFrom m i bs =
+    cond (ltb (length bs) (width i)) (bad 2)
+    (cond (unused m i) (bad 3)
+    (cond (notShortest i (kindOf m i) (argument i bs)) (bad 4)
+    (got (record { info = i; kind = kindOf m i; arg = argument i bs }))))
+
+-- "the input ends where a head is due, or inside its argument" is 2
+unfoldable pub getHead : List ℕ → Got
+getHead [] = bad 2
+getHead (b ∷ bs) = getFrom (b / 32) (b % 32) bs
+
+-- the heads that may be written: document 01, 'Heads', with no reading in it
+pub data Sound (l : Lead) : Type 0 where
+  -- "Major types 0 to 5", "Unsigned numbers go to 2^64 - 1"; the range of negative numbers is test 7's
+  counted : l .kind ≤ map → l .arg < 2 ^ 64 → l .info ≡ shortest (l .arg) → Sound l
+  -- "simple values 20 to 23"
+  a-simple : l .kind ≡ simple → 20 ≤ l .arg → l .arg ≤ 23 → l .info ≡ l .arg → Sound l
+  -- "floats f9, fa, fb"
+  a-float : half ≤ l .kind → l .kind ≤ double → l .info ≡ l .kind + 18 → l .arg < 256 ^ width (l .info) → badFloat (l .kind) (l .arg) ≡ false → Sound l
+
+-- the bytes that follow a head as its string
+unfoldable pub stringSize : Lead → ℕ
+stringSize l = cond (within bytes text (l .kind)) (l .arg) 0
+
+-- arrays and maps
+unfoldable pub isContainer : ℕ → Bool
+isContainer k = within array map k
+
+-- the members that a head announces
+unfoldable pub arity : Lead → ℕ
+arity l = cond (eqb (l .kind) array) (l .arg) (cond (eqb (l .kind) map) (l .arg + l .arg) 0)

@@ -1,0 +1,3 @@
+pub mod Byte
+pub mod Head
+pub mod Utf8

@@ -1,0 +1,24 @@
+-- UTF-8 as RFC 3629, section 4, has it: the table of well-formed byte sequences.
+use Prim.Native.Nat.{ℕ, zero, suc}
+use mathlib.Core.Bool.{Bool, true, false, _&&_, _||_}
+use mathlib.Core.List.{List, [], _∷_}
+use lib.Dec.{ltb, eqb}
+use Rattle.cbor.specs.Byte.{within}
+
+-- n continuation bytes are due, the next of them from lo to hi
+unfoldable pub utf8From : ℕ → ℕ → ℕ → List ℕ → Bool
+utf8From zero lo hi [] = true
+utf8From zero lo hi (b ∷ bs) =
+    (ltb b 128 && utf8From 0 128 191 bs)
+    || ((within 194 223 b && utf8From 1 128 191 bs)
+    || ((eqb b 224 && utf8From 2 160 191 bs)
+    || (((within 225 236 b || within 238 239 b) && utf8From 2 128 191 bs)
+    || ((eqb b 237 && utf8From 2 128 159 bs)
+    || ((eqb b 240 && utf8From 3 144 191 bs)
+    || ((within 241 243 b && utf8From 3 128 191 bs)
+    || (eqb b 244 && utf8From 3 128 143 bs)))))))
+utf8From (suc n) lo hi [] = false
+utf8From (suc n) lo hi (b ∷ bs) = within lo hi b && utf8From n 128 191 bs
+
+abbrev pub utf8 : List ℕ → Bool
+utf8 = utf8From 0 128 191
