@@ -1,0 +1,3 @@
+pub mod Hits
+pub mod Ways
+pub mod Right

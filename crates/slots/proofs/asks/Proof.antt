@@ -1,0 +1,12 @@
+-- `slots::asks` meets its contract: a bit of the word.
+use borrow.Author.Needs.{needs}
+use mathlib.Core.Path.{_≡_, refl, sym, _∙_, ap}
+use Rattle.slots.proofs.asks.Statement.{statement}
+use Rattle.slots.proofs.asks.Tie as tie
+
+pub asks-spec : {M : Type 1} → statement M
+asks-spec =
+    tie.close
+    (tie.spec
+    (λ c κs. search needs)
+    (λ c. rw (c .rule-word .ensures)))
