@@ -34,6 +34,11 @@ Due (item l str ms rs) (sets d) =
 Due (item l str ms rs) (frame s n prev d ds) =
     Good s prev l str × ((isContainer (l .kind) && eqb d 0) ≡ false) × Due ms (push (members s l) [] (pred d) end) × Due rs (behind s l str n prev d ds)
 
+-- more sets, if there is another one
+pub due-sets : (d : ℕ) (g : Items) → Due g (frame (ari message) 0 [] d (sets d)) → Due g (sets d)
+due-sets d none f = absurd f
+due-sets d (item l str ms rs) f = f
+
 -- the key before, for what is due next on the level
 abbrev pub prevAfter : Slot → List ℕ → Lead → List ℕ → List ℕ
 prevAfter s prev l str = keyAfter (rule s .own) prev (keyBytes l str)

@@ -1,2 +1,3 @@
 pub mod Due
+pub mod Join
 pub mod Central
