@@ -1,3 +1,6 @@
 pub mod Due
 pub mod Join
 pub mod Central
+pub mod Decoded
+pub mod Rows
+pub mod Weight
