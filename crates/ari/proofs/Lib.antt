@@ -4,3 +4,4 @@ pub mod Central
 pub mod Decoded
 pub mod Rows
 pub mod Weight
+pub mod RulesFit

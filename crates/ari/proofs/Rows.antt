@@ -10,7 +10,7 @@ use borrow.Author.Tests.{eqb-true, leb-true}
 use Rattle.cbor.specs.Byte.{within}
 use Rattle.cbor.specs.Head.{array, map, isContainer}
 use Rattle.cbor.proofs.ByteLaws.{and-true, or-true, not-true, within-true}
-use Rattle.ari.specs.Table.{Place, alone, message, inside, param, Row, row, ariRows, Entry, entryOf, types, valueRows, fitsRow, fits}
+use Rattle.ari.specs.Table.{Place, alone, message, inside, param, Row, row, ariRows, Entry, entryOf, types, typeRows, valueRows, fitsRow, fits}
 
 abbrev pub every : (Row → Bool) → List Row → Bool
 every q [] = true
@@ -116,3 +116,10 @@ ari-arrays alone = refl
 ari-arrays message = refl
 ari-arrays inside = refl
 ari-arrays param = refl
+
+pub type-leaf : (w : Place) → every leafRow (typeRows w types) ≡ true
+unfolding types isContainer
+type-leaf alone = refl
+type-leaf message = refl
+type-leaf inside = refl
+type-leaf param = refl

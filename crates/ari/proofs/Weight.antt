@@ -12,7 +12,7 @@ use Rattle.ari.specs.Reader.{Dues, end, sets, frame, behind}
 use Rattle.ari.specs.Items.{Items, none, item, encode}
 use Rattle.ari.specs.Decode.{decode, trees, Well}
 use Rattle.ari.proofs.Due.{Due, prevAfter, Fit, split}
-use Rattle.ari.proofs.Rows.{every, leafRow, no-container, ArrayType, collection, orders, answers, array-type, map-type, arraysOnly, array-range, no-map, ari-arrays}
+use Rattle.ari.proofs.Rows.{every, leafRow, no-container, ArrayType, collection, orders, answers, array-type, map-type, arraysOnly, array-range, no-map, ari-arrays, type-leaf}
 use Rattle.ari.proofs.Decoded.{decode-encode}
 
 -- the items that a slot, with so many again, takes on its level
@@ -115,13 +115,6 @@ weigh-value t w a (answers e h) = rw e (omega arith)
 
 ari-counts : (w : Place) (g : ℕ → Level) → Counts (ariRows w) (ariLevel w) g
 ari-counts w g = array-counts 1 4 (ariRows w) (ariLevel w) g (ari-arrays w) (weigh-ari w)
-
-type-leaf : (w : Place) → every leafRow (typeRows w types) ≡ true
-unfolding types isContainer
-type-leaf alone = refl
-type-leaf message = refl
-type-leaf inside = refl
-type-leaf param = refl
 
 counts : (s : Slot) → Counts (rule s .rows) (rule s .inArray) (rule s .inMap)
 unfolding rule weigh weight isContainer
