@@ -1,0 +1,95 @@
+-- Laws of Byte: a number and its bytes; tests taken apart.
+use Prim.Native.Nat.{ℕ, zero, suc, _+_, _*_, _/_, _%_, _^_, _<_, _≤_}
+use mathlib.Core.Path.{_≡_, refl, sym, _∙_, ap}
+use mathlib.Core.Bool.{Bool, true, false, not, _&&_, _||_, cond}
+use mathlib.Core.List.{List, [], _∷_, _++_}
+use mathlib.Core.Logic.{_⊎_, inl, inr}
+use native.Mathlib.Omega.{arith}
+use native.Mathlib.Nat.{mod-lt, div-add-mod', pow-suc, one-le-pow, mul-comm}
+use lib.ListN.{length, take, drop}
+use lib.Seq.{length-take-le}
+use lib.Dec.{ltb, leb, eqb}
+use lib.Arith.{digits-div, digits-mod, digits-lt}
+use borrow.Author.Tests.{ltb-true, leb-true, le-leb}
+use Rattle.cbor.specs.Byte.{be, value, within, all, isByte}
+
+pub and-true : (a b : Bool) → a && b ≡ true → (a ≡ true) × (b ≡ true)
+and-true true b e = (refl, e)
+and-true false b e = (e, cc)
+
+pub or-false : (a b : Bool) → a || b ≡ false → (a ≡ false) × (b ≡ false)
+or-false true b e = (e, cc)
+or-false false b e = (refl, e)
+
+pub or-true : (a b : Bool) → a || b ≡ true → (a ≡ true) ⊎ (b ≡ true)
+or-true true b e = inl refl
+or-true false b e = inr e
+
+pub or-right : (a b : Bool) → b ≡ true → a || b ≡ true
+or-right true b e = refl
+or-right false b e = e
+
+pub or-nil : (a : Bool) → a || false ≡ true → a ≡ true
+or-nil true e = refl
+or-nil false e = e
+
+pub not-false : (a : Bool) → not a ≡ false → a ≡ true
+not-false true e = refl
+not-false false e = sym e
+
+pub not-true : (a : Bool) → not a ≡ true → a ≡ false
+not-true true e = sym e
+not-true false e = refl
+
+-- a test that was passed
+pub past : {A : Type 0} (t : Bool) (z x : A) {y : A} → (z ≡ y → ⊥) → cond t z x ≡ y → (t ≡ false) × (x ≡ y)
+past true z x n e = absurd (n e)
+past false z x n e = (refl, e)
+
+pub within-true : (lo hi x : ℕ) → within lo hi x ≡ true → (lo ≤ x) × (x ≤ hi)
+within-true lo hi x e = let (p, q) = and-true (leb lo x) (leb x hi) e in (leb-true lo x p, leb-true x hi q)
+
+pub within-is : (lo hi x : ℕ) → lo ≤ x → x ≤ hi → within lo hi x ≡ true
+within-is lo hi x l h = rw (le-leb lo x l, le-leb x hi h)
+
+pub pow-pos : (w : ℕ) → 0 < 256 ^ w
+pow-pos w = one-le-pow w 256 (omega arith)
+
+pub length-be : (w a : ℕ) → length (be w a) ≡ w
+length-be zero a = refl
+length-be (suc w) a = ap suc (length-be w (a % 256 ^ w))
+
+pub value-be : (w a : ℕ) → a < 256 ^ w → value (be w a) ≡ a
+value-be zero a h = omega arith
+value-be (suc w) a h = rw (length-be w (a % 256 ^ w), value-be w (a % 256 ^ w) (mod-lt a (pow-pos w))) (div-add-mod' a (256 ^ w))
+
+pub value-lt : (xs : List ℕ) → all isByte xs ≡ true → value xs < 256 ^ length xs
+value-lt [] e = omega arith
+value-lt (x ∷ xs) e =
+    let (p, q) = and-true (isByte x) (all isByte xs) e in
+    rw (pow-suc, mul-comm (256 ^ length xs) 256) (digits-lt (ltb-true x 256 p) (value-lt xs q))
+
+pub be-value : (xs : List ℕ) → all isByte xs ≡ true → be (length xs) (value xs) ≡ xs
+be-value [] e = refl
+be-value (x ∷ xs) e =
+    let q : all isByte xs ≡ true = and-true (isByte x) (all isByte xs) e .1 in
+    let v : value xs < 256 ^ length xs = value-lt xs q in
+    rw (digits-div x v, digits-mod x v, be-value xs q)
+
+pub all-take : (p : ℕ → Bool) (n : ℕ) (xs : List ℕ) → all p xs ≡ true → all p (take n xs) ≡ true
+all-take p zero xs e = refl
+all-take p (suc n) [] e = refl
+all-take p (suc n) (x ∷ xs) e = let (h, t) = and-true (p x) (all p xs) e in rw (h, all-take p n xs t)
+
+pub all-drop : (p : ℕ → Bool) (n : ℕ) (xs : List ℕ) → all p xs ≡ true → all p (drop n xs) ≡ true
+all-drop p zero xs e = e
+all-drop p (suc n) [] e = e
+all-drop p (suc n) (x ∷ xs) e = all-drop p n xs (and-true (p x) (all p xs) e .1)
+
+-- the same of the first w bytes
+module _ (w : ℕ) (bs : List ℕ) (e : all isByte bs ≡ true) (h : w ≤ length bs) where
+  pub value-part-lt : value (take w bs) < 256 ^ w
+  value-part-lt = rw (length-take-le w bs h) at (value-lt (take w bs) (all-take isByte w bs e))
+
+  pub value-part-be : be w (value (take w bs)) ≡ take w bs
+  value-part-be = ap (λ (n : ℕ). be n (value (take w bs))) (sym (length-take-le w bs h)) ∙ be-value (take w bs) (all-take isByte w bs e)
