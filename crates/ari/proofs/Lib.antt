@@ -5,3 +5,4 @@ pub mod Decoded
 pub mod Rows
 pub mod Weight
 pub mod RulesFit
+pub mod FitRules
