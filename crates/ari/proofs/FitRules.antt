@@ -97,7 +97,7 @@ ari-array w n ms h e f =
 abbrev OfArray : Items → Type 0
 OfArray ms = (w : Place) (l : Lead) (str : List ℕ) → AriArray w (trees ms) l str ms → Ari w l str ms
 
-of-ari : {w : Place} {prev : List ℕ} {l : Lead} {str : List ℕ} {ms : Items} → Here (ari w) prev l str ms → OfArray ms → Ari w l str ms
+pub of-ari : {w : Place} {prev : List ℕ} {l : Lead} {str : List ℕ} {ms : Items} → Here (ari w) prev l str ms → OfArray ms → Ari w l str ms
 unfolding rule isContainer
 of-ari {w} {l = l} {str = str} {ms = ms} h cb = go (eqb (l .kind) array) refl
   where

@@ -6,3 +6,4 @@ pub mod Rows
 pub mod Weight
 pub mod RulesFit
 pub mod FitRules
+pub mod Demand

@@ -24,7 +24,7 @@ pub record Here (s : Slot) (prev : List ℕ) (l : Lead) (str : List ℕ) (ms : I
   pub holds : Fit ms false (members s l) []
 
 -- a slot's own test is passed
-record Passes (o : Own) (prev kb : List ℕ) (a : ℕ) : Type 0 where
+pub record Passes (o : Own) (prev kb : List ℕ) (a : ℕ) : Type 0 where
   versioned : wrongVersion o a ≡ false
   rising : notGreater o prev kb ≡ false
   filled : isEmpty o a ≡ false
@@ -32,7 +32,7 @@ record Passes (o : Own) (prev kb : List ℕ) (a : ℕ) : Type 0 where
 no-test : {prev kb : List ℕ} {a : ℕ} → Passes none prev kb a
 no-test = record { versioned = refl; rising = refl; filled = refl }
 
-is-one : {prev kb : List ℕ} {a : ℕ} → a ≡ 1 → Passes one prev kb a
+pub is-one : {prev kb : List ℕ} {a : ℕ} → a ≡ 1 → Passes one prev kb a
 is-one {a = a} e = record { versioned = rw (eq-eqb a 1 e); rising = refl; filled = refl }
 
 is-rising : {prev kb : List ℕ} {a : ℕ} → below prev kb ≡ true → Passes Own.rising prev kb a
@@ -86,7 +86,7 @@ module _ (s : Slot) (prev : List ℕ) {l : Lead} {str : List ℕ} {ms : Items} (
     holds = rw (members-leaf s l c, p .bare) tt;
   }
 
-  here-plain : every leafRow (rule s .rows) ≡ true → Here s prev l str ms
+  pub here-plain : every leafRow (rule s .rows) ≡ true → Here s prev l str ms
   here-plain n = here-leaf (no-container (l .kind) (l .arg) (rule s .rows) n (p .fitting))
 
 -- an array or a map
