@@ -7,3 +7,4 @@ pub mod Weight
 pub mod RulesFit
 pub mod FitRules
 pub mod Demand
+pub mod Spots
