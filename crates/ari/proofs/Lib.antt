@@ -8,3 +8,4 @@ pub mod RulesFit
 pub mod FitRules
 pub mod Demand
 pub mod Spots
+pub mod Prefix
