@@ -9,3 +9,4 @@ pub mod FitRules
 pub mod Demand
 pub mod Spots
 pub mod Prefix
+pub mod Range
