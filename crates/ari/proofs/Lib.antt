@@ -10,3 +10,4 @@ pub mod Demand
 pub mod Spots
 pub mod Prefix
 pub mod Range
+pub mod Example
