@@ -1,8 +1,8 @@
 -- Demand 2: accepted exactly if document 01 makes it one, in these bytes, with this count, within the limits.
-use Prim.Native.Nat.{ℕ, _≤_}
+use Prim.Native.Nat.{ℕ}
 use mathlib.Core.Logic.{_↔_}
 use mathlib.Core.Path.{_≡_, refl, sym, _∙_, ap, subst}
-use mathlib.Core.Bool.{Bool, true, false, _&&_}
+use mathlib.Core.Bool.{Bool, true, false}
 use mathlib.Core.List.{List, [], _∷_}
 use native.Mathlib.Omega.{arith}
 use lib.Dec.{eqb}
@@ -11,15 +11,15 @@ use Rattle.cbor.specs.Byte.{all, isByte, within}
 use Rattle.cbor.specs.Head.{unsigned, Lead, isContainer}
 use Rattle.cbor.specs.Utf8.{utf8}
 use Rattle.cbor.proofs.ByteLaws.{and-true, or-nil, not-false, within-true}
-use Rattle.ari.specs.Table.{alone, message, version, ari, row, due, done, rule, fits}
-use Rattle.ari.specs.Reader.{Limits, Dues, Answer, accept, Input, single, aMessage, firstSlot, bottom, read}
-use Rattle.ari.specs.Items.{Items, none, item, encode}
+use Rattle.ari.specs.Table.{version, row, due, done, rule, fits}
+use Rattle.ari.specs.Reader.{Limits, accept, Input, single, aMessage, firstSlot, bottom, read}
+use Rattle.ari.specs.Items.{Items, none, item}
 use Rattle.ari.specs.Decode.{decode}
 use Rattle.ari.specs.Rules.{Plain, Sets, no-more, set, Stands, an-ari, a-message, Is}
-use Rattle.ari.proofs.Due.{Due, Fit, bottomOf, split, unsplit}
-use Rattle.ari.proofs.Central.{start, Reads, accepts, to-read}
+use Rattle.ari.proofs.Due.{Fit, bottomOf, split, unsplit}
+use Rattle.ari.proofs.Central.{accepts, to-read}
 use Rattle.ari.proofs.Decoded.{decode-encode}
-use Rattle.ari.proofs.Rows.{ofKind, one-kind}
+use Rattle.ari.proofs.Rows.{one-kind}
 use Rattle.ari.proofs.Weight.{well-fit}
 use Rattle.ari.proofs.RulesFit.{Here, is-one, here-plain, here-ari}
 use Rattle.ari.proofs.FitRules.{here, of-plain, of-ari, of-array}

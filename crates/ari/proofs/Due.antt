@@ -1,8 +1,8 @@
 -- Items that are due: with the containers that they may open (Due), and without limits (Fit). Due is Fit and depth.
-use Prim.Native.Nat.{ℕ, suc, pred, _≤_, max}
+use Prim.Native.Nat.{ℕ, suc, pred, _≤_}
 use mathlib.Core.Path.{_≡_, refl}
 use mathlib.Core.Bool.{Bool, true, false, not, _&&_, cond, true≢false}
-use mathlib.Core.List.{List, [], _∷_}
+use mathlib.Core.List.{List, []}
 use native.Mathlib.Omega.{arith}
 use lib.ListN.{length}
 use lib.Dec.{eqb}

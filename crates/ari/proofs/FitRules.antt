@@ -1,7 +1,7 @@
 -- The other way: what fits its slot stands by the rules.
 use Prim.Native.Nat.{ℕ, zero, suc, _-_, _≤_}
-use mathlib.Core.Path.{_≡_, refl, sym, _∙_, ap}
-use mathlib.Core.Bool.{Bool, true, false, not, _&&_, _||_, cond, true≢false}
+use mathlib.Core.Path.{_≡_, refl, sym, _∙_}
+use mathlib.Core.Bool.{Bool, true, false, _&&_, _||_, true≢false}
 use mathlib.Core.List.{List, [], _∷_, _++_}
 use native.Mathlib.Omega.{arith}
 use lib.ListN.{length}
@@ -10,14 +10,14 @@ use borrow.Author.Tests.{eqb-true, eqb-false, ne-eqb}
 use Rattle.cbor.specs.Byte.{within, below}
 use Rattle.cbor.specs.Head.{array, map, Lead, isContainer}
 use Rattle.cbor.proofs.ByteLaws.{not-false, within-true, within-is}
-use Rattle.ari.specs.Table.{Place, alone, message, inside, param, inner, Slot, ari, type, value, namespace, objectNamespace, objectType, objectId, params, key, entry, nonce, setTime, target, report, reportTime, reportSource, Row, row, max64, arrays, literals, ariRows, types, Level, done, due, many, ariLevel, rule, fits, members}
+use Rattle.ari.specs.Table.{Place, alone, message, inside, param, Slot, ari, value, params, key, nonce, target, report, reportTime, Row, row, max64, arrays, literals, ariRows, types, done, due, many, ariLevel, rule, fits, members}
 use Rattle.ari.specs.Reader.{keyBytes}
 use Rattle.ari.specs.Items.{Items, none, item}
 use Rattle.ari.specs.Decode.{trees}
-use Rattle.ari.specs.Rules.{Plain, Holds, Nonce, Vast, Key, free, Ari, literal, namespace-ref, typed, object-ref, Object, plain, with-params, Params, list, table, Value, simple-value, ac, am, execset, rptset, Aris, no-aris, aris, Pairs, no-pairs, pairs, Targets, no-targets, targets, Reports, no-reports, reports}
+use Rattle.ari.specs.Rules.{Plain, Holds, Nonce, Vast, free, Ari, literal, namespace-ref, typed, object-ref, Object, plain, with-params, Params, list, table, Value, simple-value, ac, am, execset, rptset, Aris, no-aris, aris, Pairs, no-pairs, pairs, Targets, no-targets, targets, Reports, no-reports, reports}
 use Rattle.ari.proofs.Due.{Good, Fit, members-leaf, memberLevel, members-held, container-string}
-use Rattle.ari.proofs.Rows.{every, FitsBy, fits-by, leafRow, no-container, ofKind, one-kind, ArrayType, collection, orders, answers, array-type, map-type, array-range, ari-arrays, type-leaf}
-use Rattle.ari.proofs.Weight.{weigh, weigh-ari, trees-fit}
+use Rattle.ari.proofs.Rows.{every, fits-by, leafRow, no-container, one-kind, ArrayType, collection, orders, answers, array-type, map-type, array-range, ari-arrays, type-leaf}
+use Rattle.ari.proofs.Weight.{weigh-ari, trees-fit}
 use Rattle.ari.proofs.RulesFit.{Here, here-as, alike-sym, entry-alike, source-alike}
 
 pub here : {s : Slot} {prev : List ℕ} {l : Lead} {str : List ℕ} {ms : Items} → Good s prev l str → Fit ms false (members s l) [] → Here s prev l str ms

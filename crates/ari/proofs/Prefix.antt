@@ -1,13 +1,13 @@
 -- A refusal other than 2 and 9 is that of every continuation.
-use Prim.Native.Nat.{ℕ, zero, suc, pred, _+_, _-_, _/_, _%_, _≤_}
-use mathlib.Core.Path.{_≡_, refl, sym, _∙_, ap}
+use Prim.Native.Nat.{ℕ, zero, suc, _+_, _/_, _%_, _≤_}
+use mathlib.Core.Path.{_≡_, refl, _∙_}
 use mathlib.Core.Bool.{Bool, true, false, not, _&&_, cond}
 use mathlib.Core.List.{List, [], _∷_, _++_}
 use native.Mathlib.Omega.{arith}
 use lib.ListN.{length, take, drop, length-append, length-drop}
 use lib.Seq.{take-append-le, drop-append-le, length-take-le}
 use lib.Dec.{ltb, eqb}
-use borrow.Author.Tests.{ltb-false, ltb-true, le-ltb}
+use borrow.Author.Tests.{ltb-false, le-ltb}
 use Rattle.cbor.specs.Head.{text, Lead, size, width, argument, Got, bad, got, getFrom, getHead, stringSize, isContainer}
 use Rattle.cbor.proofs.HeadLaws.{head-fits}
 use Rattle.ari.specs.Table.{message, Slot, ari, rule, fits}

@@ -1,7 +1,7 @@
 -- Number ranges, once over the width: the rows allow exactly the numbers of w bits, unsigned or in two's complement.
 use Prim.Native.Nat.{ℕ, suc, pred, _-_, _+_, _^_, _≤_, _<_}
 use mathlib.Core.Logic.{_↔_, _⊎_, inl, inr}
-use mathlib.Core.Path.{_≡_, refl, sym, _∙_, ap}
+use mathlib.Core.Path.{_≡_, refl, sym}
 use mathlib.Core.Bool.{Bool, true, false, _&&_, _||_, cond}
 use mathlib.Core.List.{List, [], _∷_, _++_}
 use native.Mathlib.Omega.{arith}

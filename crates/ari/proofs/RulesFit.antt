@@ -1,17 +1,16 @@
 -- The rules of document 01 and the slots say the same: what stands by the rules fits its slot.
-use Prim.Native.Nat.{ℕ, suc, _-_, _≤_, _<_, _^_}
-use mathlib.Core.Path.{_≡_, refl, sym, _∙_, ap}
-use mathlib.Core.Bool.{Bool, true, false, not, _&&_, _||_, cond, true≢false}
+use Prim.Native.Nat.{ℕ, suc, _-_, _≤_}
+use mathlib.Core.Path.{_≡_, refl, sym}
+use mathlib.Core.Bool.{Bool, true, false, _&&_, _||_, true≢false}
 use mathlib.Core.List.{List, [], _∷_, _++_}
 use native.Mathlib.Omega.{arith}
-use lib.ListN.{length}
-use lib.Dec.{eqb, leb}
-use borrow.Author.Tests.{le-leb, lt-leb, eq-eqb, ne-eqb, eqb-true, eqb-false}
+use lib.Dec.{eqb}
+use borrow.Author.Tests.{eq-eqb, ne-eqb}
 use Rattle.cbor.specs.Byte.{within, below}
-use Rattle.cbor.specs.Head.{text, array, map, Lead, stringSize, isContainer}
-use Rattle.cbor.proofs.ByteLaws.{or-true, or-right, within-true, within-is}
+use Rattle.cbor.specs.Head.{array, Lead, isContainer}
+use Rattle.cbor.proofs.ByteLaws.{or-right, within-true, within-is}
 use Rattle.cbor.proofs.HeadLaws.{sound-64}
-use Rattle.ari.specs.Table.{Place, alone, message, inside, param, inner, Slot, version, ari, type, value, namespace, objectNamespace, objectType, objectId, params, key, entry, nonce, setTime, target, report, reportTime, reportSource, Row, row, max64, arrays, literals, ariRows, types, typeRows, valueRows, Own, none, one, rising, filled, Level, done, due, many, referenceLevel, ariLevel, valueLevel, rule, fits, members}
+use Rattle.ari.specs.Table.{Place, alone, message, inside, param, Slot, ari, type, value, namespace, objectNamespace, objectType, objectId, params, key, entry, nonce, setTime, target, report, reportTime, reportSource, Row, row, max64, arrays, literals, ariRows, types, Own, none, one, rising, filled, many, referenceLevel, rule, fits, members}
 use Rattle.ari.specs.Reader.{keyBytes, wrongVersion, notGreater, isEmpty}
 use Rattle.ari.specs.Items.{Items, item}
 use Rattle.ari.specs.Rules.{Plain, Holds, free, Ari, literal, namespace-ref, typed, object-ref, Object, plain, with-params, Params, list, table, Value, simple-value, ac, am, execset, rptset, Aris, no-aris, aris, Pairs, no-pairs, pairs, Targets, no-targets, targets, Reports, no-reports, reports}

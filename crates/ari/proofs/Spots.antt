@@ -8,14 +8,14 @@ use native.Mathlib.Omega.{arith}
 use native.Mathlib.Nat.{zero-add, add-zero}
 use lib.ListN.{length, drop, length-append}
 use lib.Seq.{drop-at}
-use Rattle.cbor.specs.Head.{Lead, size, leadBytes}
+use Rattle.cbor.specs.Head.{Lead, leadBytes}
 use Rattle.cbor.proofs.HeadLaws.{length-lead}
 use Rattle.ari.specs.Table.{alone, message, Slot, ari, Level, done, due, rule, members}
 use Rattle.ari.specs.Reader.{Limits, Input, single, firstSlot}
 use Rattle.ari.specs.Items.{Items, none, item, encode, heads, Spot, insideAt, spotAt, spots}
 use Rattle.ari.specs.Rules.{Is, Stands, an-ari}
 use Rattle.ari.proofs.Due.{Fit, prevAfter}
-use Rattle.ari.proofs.Demand.{openEnded, Grammar, stands-fit}
+use Rattle.ari.proofs.Demand.{openEnded, stands-fit}
 
 -- a spot for each head
 pub one-each : (g : Items) (more : Bool) (v : Level) (prev : List ℕ) (p d : ℕ) → Fit g more v prev → length (spots g more v p d) ≡ heads g
