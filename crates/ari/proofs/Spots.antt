@@ -123,8 +123,8 @@ last (tree {lo = lo} {x = x} {xs = xs} {ys = ys} e a c f g) =
     last-append (x .after) xs ys ∙ rw (last-any (insideAt lo (x .lead) (x .str)) (x .after) xs (last f)) (last g)
 
 -- Each stands for its own bytes.
-abbrev pub Reads : List ℕ → Spot → Type 0
-Reads b x = drop (x .first) b ≡ leadBytes (x .lead) ++ (x .str ++ (encode (x .inside) ++ drop (x .after) b))
+abbrev pub Covers : List ℕ → Spot → Type 0
+Covers b x = drop (x .first) b ≡ leadBytes (x .lead) ++ (x .str ++ (encode (x .inside) ++ drop (x .after) b))
 
 -- bytes with so much before them, and some behind them
 pub record At (b : List ℕ) (p : ℕ) (mid : List ℕ) : Type 0 where
@@ -152,29 +152,29 @@ module _ {b : List ℕ} {p : ℕ} (l : Lead) (str : List ℕ) (ms rs : Items) (a
     place = simp length-append (omega (arith, a .place, length-lead l));
   }
 
-  reads-item : (s : Slot) (d : ℕ) → Reads b (spotAt s p d l str ms)
+  covers-item : (s : Slot) (d : ℕ) → Covers b (spotAt s p d l str ms)
   unfolding at-rest
-  reads-item s d =
+  covers-item s d =
       let r = at-rest in
       let here : drop p b ≡ encode (item l str ms rs) ++ behind = ap (drop p) (a .whole) ∙ drop-at before _ p (a .place) in
       let there : drop (insideAt p l str + length (encode ms)) b ≡ encode rs ++ behind
       = ap (drop (insideAt p l str + length (encode ms))) (r .whole) ∙ drop-at (r .before) _ _ (r .place) in
       rw (here, there) (simp append-assoc)
 
-pub reads : (g : Items) (more : Bool) (v : Level) (prev : List ℕ) (p d : ℕ) {b : List ℕ} → Fit g more v prev → At b p (encode g) → All (Reads b) (spots g more v p d)
-reads none more done prev p d f a = no-spot
-reads none more (due s n) prev p d f a = absurd f
-reads (item l str ms rs) false done prev p d f a = absurd f
-reads (item l str ms rs) true done prev p d f a =
+pub covers : (g : Items) (more : Bool) (v : Level) (prev : List ℕ) (p d : ℕ) {b : List ℕ} → Fit g more v prev → At b p (encode g) → All (Covers b) (spots g more v p d)
+covers none more done prev p d f a = no-spot
+covers none more (due s n) prev p d f a = absurd f
+covers (item l str ms rs) false done prev p d f a = absurd f
+covers (item l str ms rs) true done prev p d f a =
     let q : ℕ = insideAt p l str in
-    spot-too (reads-item l str ms rs a (ari message) d)
-    (all-append (reads ms false (members (ari message) l) [] q (suc d) (f .1) (at-members l str ms rs a))
-    (reads rs true (rule (ari message) .next (l .arg) 0) (prevAfter (ari message) [] l str) (q + length (encode ms)) d (f .2) (at-rest l str ms rs a)))
-reads (item l str ms rs) more (due s n) prev p d f a =
+    spot-too (covers-item l str ms rs a (ari message) d)
+    (all-append (covers ms false (members (ari message) l) [] q (suc d) (f .1) (at-members l str ms rs a))
+    (covers rs true (rule (ari message) .next (l .arg) 0) (prevAfter (ari message) [] l str) (q + length (encode ms)) d (f .2) (at-rest l str ms rs a)))
+covers (item l str ms rs) more (due s n) prev p d f a =
     let q : ℕ = insideAt p l str in
-    spot-too (reads-item l str ms rs a s d)
-    (all-append (reads ms false (members s l) [] q (suc d) (f .1) (at-members l str ms rs a))
-    (reads rs more (rule s .next (l .arg) n) (prevAfter s prev l str) (q + length (encode ms)) d (f .2) (at-rest l str ms rs a)))
+    spot-too (covers-item l str ms rs a s d)
+    (all-append (covers ms false (members s l) [] q (suc d) (f .1) (at-members l str ms rs a))
+    (covers rs more (rule s .next (l .arg) n) (prevAfter s prev l str) (q + length (encode ms)) d (f .2) (at-rest l str ms rs a)))
 
 -- The same of an accepted input.
 abbrev pub spotsOf : Input → Items → List Spot
@@ -196,9 +196,9 @@ module _ {m : Limits} {i : Input} {b : List ℕ} {g : Items} {n : ℕ} (c : Is m
   pub spot-last : lastAfter 0 (spotsOf i g) ≡ length b
   spot-last = last spot-forest
 
-  pub spot-reads : All (Reads b) (spotsOf i g)
-  spot-reads =
-      reads g (openEnded i) (due (firstSlot i) 0) [] 0 0 (stands-fit (c .stands))
+  pub spot-covers : All (Covers b) (spotsOf i g)
+  spot-covers =
+      covers g (openEnded i) (due (firstSlot i) 0) [] 0 0 (stands-fit (c .stands))
       (record { before = []; behind = []; whole = sym (append-nil (encode g) ∙ c .bytes); place = refl })
 
 -- A single ARI is one item, from the first byte to the last.
