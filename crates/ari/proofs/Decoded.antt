@@ -1,9 +1,9 @@
 -- Bytes are read back as the items that they encode.
-use Prim.Native.Nat.{ℕ, zero, suc, _+_, _≤_}
+use Prim.Native.Nat.{ℕ, zero, suc, _≤_}
 use mathlib.Core.Path.{_≡_, refl, sym, _∙_, ap}
 use mathlib.Core.List.{List, [], _∷_, _++_, append-assoc, append-nil}
 use native.Mathlib.Omega.{arith}
-use lib.ListN.{length, take, drop, length-append}
+use lib.ListN.{length, length-append}
 use lib.Seq.{take-at, drop-at, drop-append-add}
 use Rattle.cbor.specs.Head.{size, leadBytes, getHead, stringSize, arity}
 use Rattle.cbor.proofs.HeadLaws.{length-lead, getHead-back}

@@ -1,13 +1,14 @@
 -- Items that are due: with the containers that they may open (Due), and without limits (Fit). Due is Fit and depth.
-use Prim.Native.Nat.{ℕ, suc, pred, _≤_, max}
+use Prim.Native.Nat.{ℕ, suc, pred, _≤_}
 use mathlib.Core.Path.{_≡_, refl}
 use mathlib.Core.Bool.{Bool, true, false, not, _&&_, cond, true≢false}
-use mathlib.Core.List.{List, [], _∷_}
+use mathlib.Core.List.{List, []}
 use native.Mathlib.Omega.{arith}
 use lib.ListN.{length}
 use lib.Dec.{eqb}
-use borrow.Author.Tests.{eqb-false, ne-eqb}
+use borrow.Author.Tests.{eqb-false, ne-eqb, eq-eqb, le-leb, lt-leb}
 use Rattle.cbor.specs.Head.{text, array, map, Lead, Sound, stringSize, isContainer}
+use Rattle.cbor.proofs.ByteLaws.{within-true}
 use Rattle.ari.specs.Table.{message, Slot, ari, Level, done, due, rule, fits, members}
 use Rattle.ari.specs.Reader.{Dues, end, sets, frame, push, keyBytes, wrongVersion, notGreater, isEmpty, keyAfter, behind}
 use Rattle.ari.specs.Items.{Items, none, item, depth}
@@ -61,6 +62,26 @@ bottomOf false d = end
 pub members-leaf : (s : Slot) (l : Lead) → isContainer (l .kind) ≡ false → members s l ≡ done
 unfolding members isContainer
 members-leaf s l e = rw (ne-eqb (l .kind) 4 (λ q. true≢false (rw q at e)), ne-eqb (l .kind) 5 (λ q. true≢false (rw q at e)))
+
+-- the level inside an array or a map
+abbrev pub memberLevel : Slot → ℕ → ℕ → Level
+memberLevel s k n = cond (eqb k array) (rule s .inArray n) (rule s .inMap n)
+
+pub members-held : (s : Slot) (l : Lead) → isContainer (l .kind) ≡ true → members s l ≡ memberLevel s (l .kind) (l .arg)
+unfolding members isContainer
+members-held s l c = go (eqb (l .kind) array) refl
+  where
+    go : (t : Bool) → eqb (l .kind) array ≡ t
+        → cond t (rule s .inArray (l .arg)) (cond (eqb (l .kind) map) (rule s .inMap (l .arg)) done) ≡ cond t (rule s .inArray (l .arg)) (rule s .inMap (l .arg))
+    go true e = refl
+    go false e =
+        let (p, q) = within-true 4 5 (l .kind) c in
+        let n : l .kind ≡ 4 → ⊥ = eqb-false (l .kind) 4 e in
+        rw (eq-eqb (l .kind) 5 (omega arith))
+
+pub container-string : (l : Lead) → isContainer (l .kind) ≡ true → stringSize l ≡ 0
+unfolding stringSize isContainer
+container-string l c = let (p, q) = within-true 4 5 (l .kind) c in rw (le-leb 2 (l .kind) (omega arith), lt-leb (l .kind) 3 (omega arith))
 
 -- the depth of one item's members
 room : (t : Bool) (d m : ℕ) → (t && eqb d 0) ≡ false → m ≤ pred d → cond t (suc m) 0 ≤ d

@@ -5,3 +5,9 @@ pub mod Decoded
 pub mod Rows
 pub mod Weight
 pub mod RulesFit
+pub mod FitRules
+pub mod Demand
+pub mod Spots
+pub mod Prefix
+pub mod Range
+pub mod Example

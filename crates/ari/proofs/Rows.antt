@@ -2,7 +2,7 @@
 use Prim.Native.Nat.{ℕ, _≤_}
 use mathlib.Core.Path.{_≡_, refl, sym}
 use mathlib.Core.Bool.{Bool, true, false, not, _&&_, _||_, cond, true≢false}
-use mathlib.Core.List.{List, [], _∷_, _++_}
+use mathlib.Core.List.{List, [], _∷_}
 use mathlib.Core.Logic.{_⊎_, inl, inr}
 use native.Mathlib.Omega.{arith}
 use lib.Dec.{eqb, leb}
@@ -10,7 +10,7 @@ use borrow.Author.Tests.{eqb-true, leb-true}
 use Rattle.cbor.specs.Byte.{within}
 use Rattle.cbor.specs.Head.{array, map, isContainer}
 use Rattle.cbor.proofs.ByteLaws.{and-true, or-true, not-true, within-true}
-use Rattle.ari.specs.Table.{Place, alone, message, inside, param, Row, row, ariRows, Entry, entryOf, types, typeRows, valueRows, fitsRow, fits}
+use Rattle.ari.specs.Table.{Place, alone, message, inside, param, Row, row, ariRows, Entry, entryOf, types, typeRows, valueRows, fits}
 
 abbrev pub every : (Row → Bool) → List Row → Bool
 every q [] = true

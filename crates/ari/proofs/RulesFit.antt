@@ -1,21 +1,20 @@
 -- The rules of document 01 and the slots say the same: what stands by the rules fits its slot.
-use Prim.Native.Nat.{ℕ, suc, _-_, _≤_, _<_, _^_}
-use mathlib.Core.Path.{_≡_, refl, sym, _∙_, ap}
-use mathlib.Core.Bool.{Bool, true, false, not, _&&_, _||_, cond, true≢false}
+use Prim.Native.Nat.{ℕ, suc, _-_, _≤_}
+use mathlib.Core.Path.{_≡_, refl, sym}
+use mathlib.Core.Bool.{Bool, true, false, _&&_, _||_, true≢false}
 use mathlib.Core.List.{List, [], _∷_, _++_}
 use native.Mathlib.Omega.{arith}
-use lib.ListN.{length}
-use lib.Dec.{eqb, leb}
-use borrow.Author.Tests.{le-leb, lt-leb, eq-eqb, ne-eqb, eqb-true, eqb-false}
+use lib.Dec.{eqb}
+use borrow.Author.Tests.{eq-eqb, ne-eqb}
 use Rattle.cbor.specs.Byte.{within, below}
-use Rattle.cbor.specs.Head.{text, array, map, Lead, stringSize, isContainer}
-use Rattle.cbor.proofs.ByteLaws.{or-true, or-right, within-true, within-is}
+use Rattle.cbor.specs.Head.{array, Lead, isContainer}
+use Rattle.cbor.proofs.ByteLaws.{or-right, within-true, within-is}
 use Rattle.cbor.proofs.HeadLaws.{sound-64}
-use Rattle.ari.specs.Table.{Place, alone, message, inside, param, inner, Slot, version, ari, type, value, namespace, objectNamespace, objectType, objectId, params, key, entry, nonce, setTime, target, report, reportTime, reportSource, Row, row, max64, arrays, literals, ariRows, types, typeRows, valueRows, Own, none, one, rising, filled, Level, done, due, many, referenceLevel, ariLevel, valueLevel, rule, fits, members}
+use Rattle.ari.specs.Table.{Place, alone, message, inside, param, Slot, ari, type, value, namespace, objectNamespace, objectType, objectId, params, key, entry, nonce, setTime, target, report, reportTime, reportSource, Row, row, max64, arrays, literals, ariRows, types, Own, none, one, rising, filled, many, referenceLevel, rule, fits, members}
 use Rattle.ari.specs.Reader.{keyBytes, wrongVersion, notGreater, isEmpty}
 use Rattle.ari.specs.Items.{Items, item}
 use Rattle.ari.specs.Rules.{Plain, Holds, free, Ari, literal, namespace-ref, typed, object-ref, Object, plain, with-params, Params, list, table, Value, simple-value, ac, am, execset, rptset, Aris, no-aris, aris, Pairs, no-pairs, pairs, Targets, no-targets, targets, Reports, no-reports, reports}
-use Rattle.ari.proofs.Due.{Good, Fit, members-leaf}
+use Rattle.ari.proofs.Due.{Good, Fit, members-leaf, memberLevel, members-held, container-string}
 use Rattle.ari.proofs.Rows.{every, leafRow, no-container, type-leaf}
 
 -- what an item owes its slot: to be good there, and its members
@@ -24,7 +23,7 @@ pub record Here (s : Slot) (prev : List ℕ) (l : Lead) (str : List ℕ) (ms : I
   pub holds : Fit ms false (members s l) []
 
 -- a slot's own test is passed
-record Passes (o : Own) (prev kb : List ℕ) (a : ℕ) : Type 0 where
+pub record Passes (o : Own) (prev kb : List ℕ) (a : ℕ) : Type 0 where
   versioned : wrongVersion o a ≡ false
   rising : notGreater o prev kb ≡ false
   filled : isEmpty o a ≡ false
@@ -32,7 +31,7 @@ record Passes (o : Own) (prev kb : List ℕ) (a : ℕ) : Type 0 where
 no-test : {prev kb : List ℕ} {a : ℕ} → Passes none prev kb a
 no-test = record { versioned = refl; rising = refl; filled = refl }
 
-is-one : {prev kb : List ℕ} {a : ℕ} → a ≡ 1 → Passes one prev kb a
+pub is-one : {prev kb : List ℕ} {a : ℕ} → a ≡ 1 → Passes one prev kb a
 is-one {a = a} e = record { versioned = rw (eq-eqb a 1 e); rising = refl; filled = refl }
 
 is-rising : {prev kb : List ℕ} {a : ℕ} → below prev kb ≡ true → Passes Own.rising prev kb a
@@ -40,6 +39,42 @@ is-rising h = record { versioned = refl; rising = rw h; filled = refl }
 
 is-filled : {prev kb : List ℕ} {n : ℕ} → Passes Own.filled prev kb (suc n)
 is-filled {n = n} = record { versioned = refl; rising = refl; filled = ne-eqb (suc n) 0 (λ e. omega arith) }
+
+-- slots that ask the same of an item, and differ in what follows it
+pub record Alike (s t : Slot) : Type 0 where
+  pub rows : rule s .rows ≡ rule t .rows
+  pub spelling : rule s .spelling ≡ rule t .spelling
+  pub own : rule s .own ≡ rule t .own
+  pub inArray : rule s .inArray ≡ rule t .inArray
+  pub inMap : rule s .inMap ≡ rule t .inMap
+
+pub here-as : {s t : Slot} (prev : List ℕ) {l : Lead} {str : List ℕ} {ms : Items} → Alike s t → Here s prev l str ms → Here t prev l str ms
+unfolding members
+here-as prev a h =
+    let g = h .good in
+    record {
+      good = record {
+        head = g .head;
+        fitting = rw (← a .rows) (g .fitting);
+        versioned = rw (← a .own) (g .versioned);
+        sized = g .sized;
+        spelled = rw (← a .spelling) (g .spelled);
+        rising = rw (← a .own) (g .rising);
+        filled = rw (← a .own) (g .filled);
+      };
+      holds = rw (← a .inArray, ← a .inMap) (h .holds);
+    }
+
+pub alike-sym : {s t : Slot} → Alike s t → Alike t s
+alike-sym a = record { rows = sym (a .rows); spelling = sym (a .spelling); own = sym (a .own); inArray = sym (a .inArray); inMap = sym (a .inMap) }
+
+pub entry-alike : (w : Place) → Alike (ari w) (entry w)
+unfolding rule
+entry-alike w = record { rows = refl; spelling = refl; own = refl; inArray = refl; inMap = refl }
+
+pub source-alike : Alike target reportSource
+unfolding rule
+source-alike = record { rows = refl; spelling = refl; own = refl; inArray = refl; inMap = refl }
 
 -- an item with no members
 module _ (s : Slot) (prev : List ℕ) {l : Lead} {str : List ℕ} {ms : Items} (o : Passes (rule s .own) prev (keyBytes l str) (l .arg))
@@ -50,44 +85,27 @@ module _ (s : Slot) (prev : List ℕ) {l : Lead} {str : List ℕ} {ms : Items} (
     holds = rw (members-leaf s l c, p .bare) tt;
   }
 
-  here-plain : every leafRow (rule s .rows) ≡ true → Here s prev l str ms
+  pub here-plain : every leafRow (rule s .rows) ≡ true → Here s prev l str ms
   here-plain n = here-leaf (no-container (l .kind) (l .arg) (rule s .rows) n (p .fitting))
 
 -- an array or a map
-abbrev memberLevel : Slot → ℕ → ℕ → Level
-memberLevel s k n = cond (eqb k array) (rule s .inArray n) (rule s .inMap n)
-
-held-level : (s : Slot) {k n : ℕ} {l : Lead} {str : List ℕ} → isContainer k ≡ true → Holds k n l str → members s l ≡ memberLevel s k n
-unfolding members isContainer
-held-level s {k} {n} {l} c h = rw (h .kind-is, h .arg-is) (go (eqb k array) refl)
-  where
-    go : (t : Bool) → eqb k array ≡ t → cond t (rule s .inArray n) (cond (eqb k map) (rule s .inMap n) done) ≡ cond t (rule s .inArray n) (rule s .inMap n)
-    go true e = refl
-    go false e =
-        let (p, q) = within-true 4 5 k c in
-        let i : k ≡ 4 → ⊥ = eqb-false k 4 e in
-        rw (eq-eqb k 5 (omega arith))
-
-held-string : {k n : ℕ} {l : Lead} {str : List ℕ} → isContainer k ≡ true → Holds k n l str → stringSize l ≡ 0
-unfolding stringSize isContainer
-held-string {k} c h = let (p, q) = within-true 4 5 k c in rw (h .kind-is, le-leb 2 k (omega arith), lt-leb k 3 (omega arith))
-
 here-held : (s : Slot) (prev : List ℕ) {k n : ℕ} {l : Lead} {str : List ℕ} {ms : Items} → isContainer k ≡ true → Holds k n l str
     → Passes (rule s .own) prev (keyBytes l str) n → fits k n (rule s .rows) ≡ true → Fit ms false (memberLevel s k n) [] → Here s prev l str ms
 unfolding isContainer
-here-held s prev {k} c h o f g =
+here-held s prev {k} {l = l} c h o f g =
+    let c′ : isContainer (l .kind) ≡ true = rw (h .kind-is) c in
     let (p, q) = within-true 4 5 k c in
     record {
       good = record {
         head = h .head;
         fitting = rw (h .kind-is, h .arg-is) f;
         versioned = rw (h .arg-is) (o .versioned);
-        sized = rw (h .bare, held-string c h);
+        sized = rw (h .bare, container-string l c′);
         spelled = rw (h .kind-is, ne-eqb k 3 (λ e. omega arith));
         rising = o .rising;
         filled = rw (h .arg-is) (o .filled);
       };
-      holds = rw (held-level s c h) g;
+      holds = rw (members-held s l c′, h .kind-is, h .arg-is) g;
     }
 
 -- rows that an array, a map fits
@@ -155,20 +173,6 @@ here-target : (prev : List ℕ) {l : Lead} {str : List ℕ} {ms : Items} → Ref
 unfolding rule isContainer
 here-target prev r = here-held target prev refl (r .holds) no-test (array-fits 3 4 (r .count) (r .low) (r .high)) (r .inner-fit)
 
-here-source : (prev : List ℕ) {l : Lead} {str : List ℕ} {ms : Items} → Refers l str ms → Here reportSource prev l str ms
-unfolding rule isContainer
-here-source prev r = here-held reportSource prev refl (r .holds) no-test (array-fits 3 4 (r .count) (r .low) (r .high)) (r .inner-fit)
-
--- a map's value is an ARI
-here-entry : (w : Place) (prev : List ℕ) {l : Lead} {str : List ℕ} {ms : Items} → Here (ari w) prev l str ms → Here (entry w) prev l str ms
-unfolding rule members
-here-entry w prev h =
-    let g = h .good in
-    record {
-      good = record { head = g .head; fitting = g .fitting; versioned = refl; sized = g .sized; spelled = g .spelled; rising = refl; filled = refl };
-      holds = h .holds;
-    }
-
 less-one : (n : ℕ) → suc n - 1 ≡ n
 less-one n = omega arith
 
@@ -228,7 +232,7 @@ mutual
   here-pairs no-pairs = tt
   here-pairs (pairs {prev = prev} {w = w} {l = l} {s = s} p o v r) =
       let x = here-plain (key w) prev (is-rising o) p refl in
-      let y = here-entry w (keyBytes l s) (here-ari (keyBytes l s) v) in
+      let y = here-as (keyBytes l s) (entry-alike w) (here-ari (keyBytes l s) v) in
       (x .good, x .holds, (y .good, y .holds, here-pairs r))
 
   here-targets : {n : ℕ} {g : Items} (prev : List ℕ) → Targets n g → Fit g false (many target n) prev
@@ -239,7 +243,7 @@ mutual
   here-reports prev no-reports = tt
   here-reports prev (reports {n = n} {l₁ = l₁} {l₂ = l₂} {s₁ = s₁} {s₂ = s₂} {m₁ = m₁} {m₂ = m₂} {r = r} h v o a l) =
       let y = here-plain reportTime [] no-test v refl in
-      let t = here-source [] (here-object o) in
+      let t = here-as [] source-alike (here-target [] (here-object o)) in
       let x = here-held report prev {ms = item l₁ s₁ m₁ (item l₂ s₂ m₂ r)} refl h no-test (array-fits 2 max64 (suc (suc n)) (omega arith) (held-64 h))
       (y .good, y .holds, (t .good, t .holds, rw (less-two n) (here-aris [] a))) in
       (x .good, x .holds, here-reports prev l)

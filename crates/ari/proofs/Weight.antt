@@ -1,18 +1,18 @@
 -- Items that are due are well formed: each array and map holds as many members as its head says.
-use Prim.Native.Nat.{ℕ, zero, suc, pred, _+_, _-_, _≤_}
-use mathlib.Core.Path.{_≡_, refl, sym, _∙_, ap}
+use Prim.Native.Nat.{ℕ, zero, suc, pred, _+_, _≤_}
+use mathlib.Core.Path.{_≡_, refl, _∙_, ap}
 use mathlib.Core.Bool.{Bool, true, false, cond, true≢false}
-use mathlib.Core.List.{List, [], _∷_}
+use mathlib.Core.List.{List, []}
 use native.Mathlib.Omega.{arith}
 use lib.Dec.{eqb}
 use borrow.Author.Tests.{eqb-true, ne-eqb}
 use Rattle.cbor.specs.Head.{array, map, Lead, isContainer, arity}
-use Rattle.ari.specs.Table.{Place, alone, message, inside, param, Slot, version, ari, type, value, namespace, objectNamespace, objectType, objectId, params, key, entry, nonce, setTime, target, report, reportTime, reportSource, Row, max64, ariRows, types, typeRows, valueRows, Level, done, due, many, referenceLevel, ariLevel, valueLevel, rule, fits, members}
-use Rattle.ari.specs.Reader.{Dues, end, sets, frame, behind}
+use Rattle.ari.specs.Table.{Place, message, inside, param, Slot, version, ari, type, value, namespace, objectNamespace, objectType, objectId, params, key, entry, nonce, setTime, target, report, reportTime, reportSource, Row, max64, ariRows, Level, done, due, many, referenceLevel, ariLevel, valueLevel, rule, fits, members}
+use Rattle.ari.specs.Reader.{Dues, end, sets, frame}
 use Rattle.ari.specs.Items.{Items, none, item, encode}
 use Rattle.ari.specs.Decode.{decode, trees, Well}
 use Rattle.ari.proofs.Due.{Due, prevAfter, Fit, split}
-use Rattle.ari.proofs.Rows.{every, leafRow, no-container, ArrayType, collection, orders, answers, array-type, map-type, arraysOnly, array-range, no-map, ari-arrays, type-leaf}
+use Rattle.ari.proofs.Rows.{every, leafRow, no-container, ArrayType, collection, orders, answers, array-type, arraysOnly, array-range, no-map, ari-arrays, type-leaf}
 use Rattle.ari.proofs.Decoded.{decode-encode}
 
 -- the items that a slot, with so many again, takes on its level

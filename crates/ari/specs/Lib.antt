@@ -4,3 +4,4 @@ pub mod Reader
 pub mod Items
 pub mod Decode
 pub mod Rules
+pub mod Limits

@@ -1,6 +1,6 @@
 -- A head written and read again; a head read is the one that was written.
-use Prim.Native.Nat.{ℕ, zero, suc, _+_, _-_, _*_, _/_, _%_, _^_, _<_, _≤_}
-use mathlib.Core.Path.{_≡_, refl, sym, _∙_, ap}
+use Prim.Native.Nat.{ℕ, suc, _-_, _/_, _%_, _^_, _<_, _≤_}
+use mathlib.Core.Path.{_≡_, refl, sym, ap}
 use mathlib.Core.Bool.{Bool, true, false, not, _&&_, _||_, cond}
 use mathlib.Core.List.{List, [], _∷_, _++_}
 use native.Mathlib.Omega.{arith}
@@ -10,8 +10,8 @@ use lib.Seq.{take-at}
 use lib.Dec.{ltb, leb, eqb}
 use lib.Arith.{digits-div, digits-mod}
 use borrow.Author.Tests.{ltb-true, ltb-false, leb-true, leb-false, eqb-true, eqb-false, lt-ltb, le-ltb, le-leb, lt-leb, eq-eqb, ne-eqb}
-use Rattle.cbor.specs.Byte.{be, value, within, all, isByte}
-use Rattle.cbor.specs.Head.{Lead, width, shortest, majorOf, kindOf, argument, leadBytes, size, shortBytes, badFloat, unused, notShortest, Got, bad, got, getFrom, getHead, Sound, counted, a-simple, a-float}
+use Rattle.cbor.specs.Byte.{be, value, all, isByte}
+use Rattle.cbor.specs.Head.{Lead, width, shortest, majorOf, kindOf, argument, leadBytes, size, shortBytes, badFloat, unused, notShortest, bad, got, getFrom, getHead, Sound, counted, a-simple, a-float}
 use Rattle.cbor.proofs.ByteLaws.{and-true, or-false, not-false, past, length-be, value-be, value-part-lt, value-part-be}
 
 -- an info that carries an argument
