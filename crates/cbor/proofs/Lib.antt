@@ -1,0 +1,3 @@
+pub mod NumberWays
+pub mod FloatWays
+pub mod HeadWays
