@@ -1,3 +1,5 @@
 pub mod NumberWays
 pub mod FloatWays
 pub mod HeadWays
+pub mod TextWays
+pub mod OrderWays

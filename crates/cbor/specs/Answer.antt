@@ -1,12 +1,14 @@
--- What head_at answers: getHead's answer at a place of the input, and its parts.
+-- What the functions answer: the definitions at a place of the input, and their parts.
 use Prim.Native.Nat.{ℕ, _+_, _-_, _<_, _≤_}
 use mathlib.Core.Bool.{Bool, _&&_, _||_, cond}
+use mathlib.Core.Path.{_≡_}
 use mathlib.Core.List.{List}
-use lib.ListN.{length, drop}
+use lib.ListN.{length, drop, getD}
 use lib.Dec.{ltb, eqb}
 use Rattle.cbor.specs.declared.Head.{Head}
 use Rattle.cbor.specs.declared.Head.the-variants.{Bad, Good}
 use Rattle.cbor.specs.Byte.{within}
+use Rattle.cbor.specs.Utf8.{utf8From, utf8}
 use Rattle.cbor.specs.Head.{divides, double, kindOf, Lead, size, unused, notShortest, Got, bad, got, getHead}
 
 -- a head that starts at `at`
@@ -36,3 +38,17 @@ tooLong top low normal high spare e m =
 abbrev pub Passed : List ℕ → ℕ → Head → Type 0
 Passed b at (Bad r) = Unit {0}
 Passed b at (Good k a n) = (at < n) × (n ≤ length b) × (k ≤ double)
+
+-- a byte from lo to hi stands at `at`
+unfoldable pub follows : List ℕ → ℕ → ℕ → ℕ → Bool
+follows s at lo hi = ltb at (length s) && within lo hi (getD s at 0)
+
+-- behind the byte at i stand n continuation bytes, the first from lo to hi, and r is n + 1; or r is 0 and they do not
+pub record Tail (s : List ℕ) (i n lo hi r : ℕ) : Type 0 where
+  pub inside : i + r ≤ length s
+  pub rest : utf8From n lo hi (drop (i + 1) s) ≡ (ltb 0 r && utf8 (drop (i + r) s))
+
+-- at i stands a well-formed sequence of r bytes; or r is 0 and none does
+pub record Sequence (s : List ℕ) (i r : ℕ) : Type 0 where
+  pub inside : i + r ≤ length s
+  pub rest : utf8 (drop i s) ≡ (ltb 0 r && utf8 (drop (i + r) s))

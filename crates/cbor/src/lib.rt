@@ -1,10 +1,11 @@
 // CBOR item heads and UTF-8, as document 01 narrows RFC 8949 and RFC 3629.
 ghost use mathlib.Core.Path.{_≡_};
 ghost use Prim.Native.Nat.{_+_, _^_, _<_, _≤_};
-ghost use lib.ListN.{length, take, drop};
-ghost use Rattle.cbor.specs.Byte.{value};
+ghost use lib.ListN.{length, take, drop, getD};
+ghost use Rattle.cbor.specs.Byte.{below, value};
 ghost use Rattle.cbor.specs.Head.{divides, badHalf, badFloat, getFrom};
-ghost use Rattle.cbor.specs.Answer.{answer, counted, headAt, judged, Passed, tooLong};
+ghost use Rattle.cbor.specs.Answer.{answer, counted, headAt, judged, Passed, tooLong, follows, Tail, Sequence};
+ghost use Rattle.cbor.specs.Utf8.{utf8};
 
 // A refusal's number, or a head: its kind (specs/Head.antt), its argument and the place behind it.
 pub enum Head {
@@ -18,7 +19,7 @@ fn wide(x: u8) -> u64
     x as u64
 }
 
-// Big-endian numbers. LLVM makes one load and a byte swap of each.
+// Big-endian numbers, by halves. (The test for the shortest size keeps LLVM from making one load of any form, Horner's and shifts too.)
 fn be2(s: &[u8], at: usize) -> u64
     requires { ⌜ at + 2 ≤ length (now s) ⌝ }
     ensures { λ r. ⌜ (r ≡ value (take 2 (drop at (now (s .entry))))) × (r < 2 ^ 16) ⌝ }
@@ -208,4 +209,128 @@ pub fn head_at(s: &[u8], at: usize) -> Head
         };
     }
     long(s, at, (b / 32) as u8, info)
+}
+
+// A byte from lo to hi stands at a place.
+fn is_next(s: &[u8], at: usize, lo: u8, hi: u8) -> bool
+    ensures { λ r. ⌜ r ≡ follows (now (s .entry)) at lo hi ⌝ }
+{
+    if s.len() <= at {
+        return false;
+    }
+    let b = s[at];
+    if b < lo {
+        return false;
+    }
+    b <= hi
+}
+
+// The size of a sequence of two, three or four bytes that starts at i, if the bytes behind the first are as they must be: else 0.
+fn two(s: &[u8], i: usize) -> usize
+    requires { ⌜ i < length (now s) ⌝ }
+    ensures { λ r. ⌜ Tail (now (s .entry)) i 1 128 191 r ⌝ }
+{
+    if is_next(s, i + 1, 128, 191) {
+        return 2;
+    }
+    0
+}
+
+fn three(s: &[u8], i: usize, lo: u8, hi: u8) -> usize
+    requires { ⌜ i < length (now s) ⌝ }
+    ensures { λ r. ⌜ Tail (now (s .entry)) i 2 lo hi r ⌝ }
+{
+    if is_next(s, i + 1, lo, hi) {
+        if is_next(s, i + 2, 128, 191) {
+            return 3;
+        }
+        return 0;
+    }
+    0
+}
+
+fn four(s: &[u8], i: usize, lo: u8, hi: u8) -> usize
+    requires { ⌜ i < length (now s) ⌝ }
+    ensures { λ r. ⌜ Tail (now (s .entry)) i 3 lo hi r ⌝ }
+{
+    if is_next(s, i + 1, lo, hi) {
+        if is_next(s, i + 2, 128, 191) {
+            if is_next(s, i + 3, 128, 191) {
+                return 4;
+            }
+            return 0;
+        }
+        return 0;
+    }
+    0
+}
+
+// The size of the sequence that starts at i with a byte past ASCII, 0 if it is malformed: RFC 3629's table.
+fn sequence(s: &[u8], i: usize) -> usize
+    requires { ⌜ (i < length (now s)) × (128 ≤ getD (now s) i 0) ⌝ }
+    ensures { λ r. ⌜ Sequence (now (s .entry)) i r ⌝ }
+{
+    let b = s[i];
+    if b < 0xc2 {
+        return 0;
+    }
+    if b < 0xe0 {
+        return two(s, i);
+    }
+    if b == 0xe0 {
+        return three(s, i, 0xa0, 0xbf);
+    }
+    if b == 0xed {
+        return three(s, i, 0x80, 0x9f);
+    }
+    if b < 0xf0 {
+        return three(s, i, 0x80, 0xbf);
+    }
+    if b == 0xf0 {
+        return four(s, i, 0x90, 0xbf);
+    }
+    if b < 0xf4 {
+        return four(s, i, 0x80, 0xbf);
+    }
+    if b == 0xf4 {
+        return four(s, i, 0x80, 0x8f);
+    }
+    0
+}
+
+pub fn is_utf8(s: &[u8]) -> bool
+    ensures { λ r. ⌜ r ≡ utf8 (now (s .entry)) ⌝ }
+{
+    let mut i = 0;
+    while i < s.len() {
+        if s[i] < 128 {
+            i += 1;
+            continue;
+        }
+        let n = sequence(s, i);
+        if n == 0 {
+            return false;
+        }
+        i += n;
+    }
+    true
+}
+
+// Byte order: a comes before b.
+pub fn is_below(a: &[u8], b: &[u8]) -> bool
+    ensures { λ r. ⌜ r ≡ below (now (a .entry)) (now (b .entry)) ⌝ }
+{
+    let mut i = 0;
+    while i < a.len() {
+        if b.len() <= i {
+            return false;
+        }
+        let x = a[i];
+        let y = b[i];
+        if x != y {
+            return x < y;
+        }
+        i += 1;
+    }
+    i < b.len()
 }
