@@ -1,2 +1,7 @@
 pub mod ByteLaws
 pub mod HeadLaws
+pub mod NumberWays
+pub mod FloatWays
+pub mod HeadWays
+pub mod TextWays
+pub mod OrderWays

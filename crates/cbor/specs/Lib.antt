@@ -1,3 +1,4 @@
 pub mod Byte
 pub mod Head
 pub mod Utf8
+pub mod Answer

@@ -1,1 +1,336 @@
 // CBOR item heads and UTF-8, as document 01 narrows RFC 8949 and RFC 3629.
+ghost use mathlib.Core.Path.{_≡_};
+ghost use Prim.Native.Nat.{_+_, _^_, _<_, _≤_};
+ghost use lib.ListN.{length, take, drop, getD};
+ghost use Rattle.cbor.specs.Byte.{below, value};
+ghost use Rattle.cbor.specs.Head.{divides, badHalf, badFloat, getFrom};
+ghost use Rattle.cbor.specs.Answer.{answer, counted, headAt, judged, Passed, tooLong, follows, Tail, Sequence};
+ghost use Rattle.cbor.specs.Utf8.{utf8};
+
+// A refusal's number, or a head: its kind (specs/Head.antt), its argument and the place behind it.
+pub enum Head {
+    Bad(u64),
+    Good { kind: u8, arg: u64, next: usize },
+}
+
+fn wide(x: u8) -> u64
+    ensures { λ r. ⌜ (r ≡ x) × (r < 256) ⌝ }
+{
+    x as u64
+}
+
+// Big-endian numbers, by halves. (The test for the shortest size keeps LLVM from making one load of any form, Horner's and shifts too.)
+fn be2(s: &[u8], at: usize) -> u64
+    requires { ⌜ at + 2 ≤ length (now s) ⌝ }
+    ensures { λ r. ⌜ (r ≡ value (take 2 (drop at (now (s .entry))))) × (r < 2 ^ 16) ⌝ }
+{
+    wide(s[at]) * 256 + wide(s[at + 1])
+}
+
+fn be4(s: &[u8], at: usize) -> u64
+    requires { ⌜ at + 4 ≤ length (now s) ⌝ }
+    ensures { λ r. ⌜ (r ≡ value (take 4 (drop at (now (s .entry))))) × (r < 2 ^ 32) ⌝ }
+{
+    be2(s, at) * 65536 + be2(s, at + 2)
+}
+
+fn be8(s: &[u8], at: usize) -> u64
+    requires { ⌜ at + 8 ≤ length (now s) ⌝ }
+    ensures { λ r. ⌜ r ≡ value (take 8 (drop at (now (s .entry)))) ⌝ }
+{
+    be4(s, at) * 4294967296 + be4(s, at + 4)
+}
+
+// Another NaN than f97e00.
+fn is_bad_half(a: u64) -> bool
+    ensures { λ r. ⌜ r ≡ badHalf a ⌝ }
+{
+    if a / 1024 % 32 != 31 {
+        return false;
+    }
+    if a % 1024 == 0 {
+        return false;
+    }
+    a != 0x7e00
+}
+
+// 2^p divides m.
+fn is_multiple(m: u64, p: u64) -> bool
+    requires { ⌜ p < 64 ⌝ }
+    ensures { λ r. ⌜ r ≡ divides p m ⌝ }
+{
+    m % (1 << p) == 0
+}
+
+// A float of exponent e and fraction m that is a NaN or would fit the next shorter size: `top` is the exponent of NaNs and infinities;
+// the shorter size has normal numbers from the exponent `normal` to `high`, subnormal ones from `low` on, and `spare` bits less.
+fn is_long(e: u64, m: u64, top: u64, low: u64, normal: u64, high: u64, spare: u64) -> bool
+    requires { ⌜ (0 < low) × (low ≤ normal) × (normal < 1024) × (normal + spare < low + 64) ⌝ }
+    ensures { λ r. ⌜ r ≡ tooLong top low normal high spare e m ⌝ }
+{
+    if e == top {
+        return true;
+    }
+    if e < low {
+        if e == 0 {
+            return m == 0;
+        }
+        return false;
+    }
+    if e < normal {
+        return is_multiple(m, normal + spare - e);
+    }
+    if e <= high {
+        return is_multiple(m, spare);
+    }
+    false
+}
+
+fn is_bad_float(kind: u8, a: u64) -> bool
+    requires { ⌜ (7 ≤ kind) × (kind ≤ 9) ⌝ }
+    ensures { λ r. ⌜ r ≡ badFloat kind a ⌝ }
+{
+    if kind == 7 {
+        return is_bad_half(a);
+    }
+    if kind == 8 {
+        return is_long(a / 8388608 % 256, a % 8388608, 255, 103, 113, 142, 13);
+    }
+    is_long(
+        a / 4503599627370496 % 2048,
+        a % 4503599627370496,
+        2047,
+        874,
+        897,
+        1150,
+        29,
+    )
+}
+
+// A head of major type 6 or 7 with an argument of 2, 4 or 8 bytes. It stands alone so that the code for numbers stays small.
+fn float(major: u8, info: u8, arg: u64, next: usize) -> Head
+    requires { ⌜ (6 ≤ major) × (major < 8) × (25 ≤ info) × (info < 28) ⌝ }
+    ensures { λ r. ⌜ r ≡ judged major info arg next ⌝ }
+{
+    if major == 6 {
+        return Head::Bad(3);
+    }
+    let kind = info - 18;
+    if is_bad_float(kind, arg) {
+        return Head::Bad(4);
+    }
+    Head::Good { kind, arg, next }
+}
+
+// A number or length after the first byte: `least` is the least that needs so many bytes.
+fn number(major: u8, arg: u64, least: u64, next: usize) -> Head
+    ensures { λ r. ⌜ r ≡ counted major arg least next ⌝ }
+{
+    if arg < least {
+        return Head::Bad(4);
+    }
+    Head::Good {
+        kind: major,
+        arg,
+        next,
+    }
+}
+
+// A head with an argument after its first byte, or with an info that is not in use.
+fn long(s: &[u8], at: usize, major: u8, info: u64) -> Head
+    requires { ⌜ (at < length (now s)) × (major < 8) × (24 ≤ info) ⌝ }
+    ensures { λ r. ⌜ r ≡ answer at (getFrom major info (drop (at + 1) (now (s .entry)))) ⌝ }
+{
+    let left = s.len() - at;
+    if info == 24 {
+        if left < 2 {
+            return Head::Bad(2);
+        }
+        if major < 6 {
+            return number(major, wide(s[at + 1]), 24, at + 2);
+        }
+        return Head::Bad(3);
+    }
+    if info == 25 {
+        if left < 3 {
+            return Head::Bad(2);
+        }
+        if major < 6 {
+            return number(major, be2(s, at + 1), 256, at + 3);
+        }
+        return float(major, 25, be2(s, at + 1), at + 3);
+    }
+    if info == 26 {
+        if left < 5 {
+            return Head::Bad(2);
+        }
+        if major < 6 {
+            return number(major, be4(s, at + 1), 65536, at + 5);
+        }
+        return float(major, 26, be4(s, at + 1), at + 5);
+    }
+    if info == 27 {
+        if left < 9 {
+            return Head::Bad(2);
+        }
+        if major < 6 {
+            return number(major, be8(s, at + 1), 4294967296, at + 9);
+        }
+        return float(major, 27, be8(s, at + 1), at + 9);
+    }
+    Head::Bad(3)
+}
+
+// The head at a place of the input. Most heads are one byte: they come first.
+pub fn head_at(s: &[u8], at: usize) -> Head
+    ensures { λ r. ⌜ r ≡ headAt (now (s .entry)) at ⌝ }
+    ensures { λ r. ⌜ Passed (now (s .entry)) at r ⌝ }
+{
+    if s.len() <= at {
+        return Head::Bad(2);
+    }
+    let b = wide(s[at]);
+    let info = b % 32;
+    if info < 24 {
+        if b < 192 {
+            return Head::Good {
+                kind: (b / 32) as u8,
+                arg: info,
+                next: at + 1,
+            };
+        }
+        if b < 244 {
+            return Head::Bad(3);
+        }
+        return Head::Good {
+            kind: 6,
+            arg: info,
+            next: at + 1,
+        };
+    }
+    long(s, at, (b / 32) as u8, info)
+}
+
+// A byte from lo to hi stands at a place.
+fn is_next(s: &[u8], at: usize, lo: u8, hi: u8) -> bool
+    ensures { λ r. ⌜ r ≡ follows (now (s .entry)) at lo hi ⌝ }
+{
+    if s.len() <= at {
+        return false;
+    }
+    let b = s[at];
+    if b < lo {
+        return false;
+    }
+    b <= hi
+}
+
+// The size of a sequence of two, three or four bytes that starts at i, if the bytes behind the first are as they must be: else 0.
+fn two(s: &[u8], i: usize) -> usize
+    requires { ⌜ i < length (now s) ⌝ }
+    ensures { λ r. ⌜ Tail (now (s .entry)) i 1 128 191 r ⌝ }
+{
+    if is_next(s, i + 1, 128, 191) {
+        return 2;
+    }
+    0
+}
+
+fn three(s: &[u8], i: usize, lo: u8, hi: u8) -> usize
+    requires { ⌜ i < length (now s) ⌝ }
+    ensures { λ r. ⌜ Tail (now (s .entry)) i 2 lo hi r ⌝ }
+{
+    if is_next(s, i + 1, lo, hi) {
+        if is_next(s, i + 2, 128, 191) {
+            return 3;
+        }
+        return 0;
+    }
+    0
+}
+
+fn four(s: &[u8], i: usize, lo: u8, hi: u8) -> usize
+    requires { ⌜ i < length (now s) ⌝ }
+    ensures { λ r. ⌜ Tail (now (s .entry)) i 3 lo hi r ⌝ }
+{
+    if is_next(s, i + 1, lo, hi) {
+        if is_next(s, i + 2, 128, 191) {
+            if is_next(s, i + 3, 128, 191) {
+                return 4;
+            }
+            return 0;
+        }
+        return 0;
+    }
+    0
+}
+
+// The size of the sequence that starts at i with a byte past ASCII, 0 if it is malformed: RFC 3629's table.
+fn sequence(s: &[u8], i: usize) -> usize
+    requires { ⌜ (i < length (now s)) × (128 ≤ getD (now s) i 0) ⌝ }
+    ensures { λ r. ⌜ Sequence (now (s .entry)) i r ⌝ }
+{
+    let b = s[i];
+    if b < 0xc2 {
+        return 0;
+    }
+    if b < 0xe0 {
+        return two(s, i);
+    }
+    if b == 0xe0 {
+        return three(s, i, 0xa0, 0xbf);
+    }
+    if b == 0xed {
+        return three(s, i, 0x80, 0x9f);
+    }
+    if b < 0xf0 {
+        return three(s, i, 0x80, 0xbf);
+    }
+    if b == 0xf0 {
+        return four(s, i, 0x90, 0xbf);
+    }
+    if b < 0xf4 {
+        return four(s, i, 0x80, 0xbf);
+    }
+    if b == 0xf4 {
+        return four(s, i, 0x80, 0x8f);
+    }
+    0
+}
+
+pub fn is_utf8(s: &[u8]) -> bool
+    ensures { λ r. ⌜ r ≡ utf8 (now (s .entry)) ⌝ }
+{
+    let mut i = 0;
+    while i < s.len() {
+        if s[i] < 128 {
+            i += 1;
+            continue;
+        }
+        let n = sequence(s, i);
+        if n == 0 {
+            return false;
+        }
+        i += n;
+    }
+    true
+}
+
+// Byte order: a comes before b.
+pub fn is_below(a: &[u8], b: &[u8]) -> bool
+    ensures { λ r. ⌜ r ≡ below (now (a .entry)) (now (b .entry)) ⌝ }
+{
+    let mut i = 0;
+    while i < a.len() {
+        if b.len() <= i {
+            return false;
+        }
+        let x = a[i];
+        let y = b[i];
+        if x != y {
+            return x < y;
+        }
+        i += 1;
+    }
+    i < b.len()
+}

@@ -1,0 +1,7 @@
+use borrow.Author.Needs.{needs}
+use Rattle.names.proofs.NameWays.{names}
+use Rattle.names.proofs.starts_name.Statement.{statement}
+use Rattle.names.proofs.starts_name.Tie as tie
+
+pub starts-name-spec : {M : Type 1} → statement M
+starts-name-spec = tie.close (tie.spec (λ c. search (names, needs)) (λ c. search (names, needs)) (λ c. search (names, needs)) (λ c. search (names, needs)))
