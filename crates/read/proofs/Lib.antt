@@ -1,0 +1,6 @@
+pub mod Tables
+pub mod Walking
+pub mod Keys
+pub mod Loop
+pub mod Bounds
+pub mod Heads

@@ -1,0 +1,13 @@
+-- `read::is_empty` meets its contract: only parameters ask for members.
+use borrow.Author.Needs.{needs}
+use Rattle.read.proofs.Keys.{owns}
+use Rattle.read.proofs.is_empty.Statement.{statement}
+use Rattle.read.proofs.is_empty.Tie as tie
+
+pub is-empty-spec : {M : Type 1} → statement M
+is-empty-spec =
+    tie.close
+    (tie.spec
+    (λ c κs. search needs)
+    (λ c. search (owns, needs))
+    (λ c. search (owns, needs)))

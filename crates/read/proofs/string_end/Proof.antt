@@ -1,0 +1,15 @@
+-- `read::string_end` meets its contract: strings are of kind 2 and 3.
+use borrow.Author.Needs.{needs}
+use Rattle.read.proofs.Heads.{string-ways}
+use Rattle.read.proofs.string_end.Statement.{statement}
+use Rattle.read.proofs.string_end.Tie as tie
+
+pub string-end-spec : {M : Type 1} → statement M
+string-end-spec =
+    tie.close
+    (tie.spec
+    (λ c κs. search needs)
+    (λ c. search (string-ways, needs))
+    (λ c κs. search needs)
+    (λ c. search (string-ways, needs))
+    (λ c. search (string-ways, needs)))
