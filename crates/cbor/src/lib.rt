@@ -19,7 +19,7 @@ fn wide(x: u8) -> u64
     x as u64
 }
 
-// Big-endian numbers, by halves. (The test for the shortest size keeps LLVM from making one load of any form, Horner's and shifts too.)
+// Big-endian numbers. Each is one load and a byte swap, but beside the test for the shortest size LLVM loads the halves apart.
 fn be2(s: &[u8], at: usize) -> u64
     requires { ⌜ at + 2 ≤ length (now s) ⌝ }
     ensures { λ r. ⌜ (r ≡ value (take 2 (drop at (now (s .entry))))) × (r < 2 ^ 16) ⌝ }
