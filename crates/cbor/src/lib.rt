@@ -107,7 +107,7 @@ fn is_bad_float(kind: u8, a: u64) -> bool
     )
 }
 
-// A head of major type 6 or 7 with an argument of 2, 4 or 8 bytes. It stands alone so that the code for numbers stays small.
+// A head of major type 6 or 7 with an argument of 2, 4 or 8 bytes.
 fn float(major: u8, info: u8, arg: u64, next: usize) -> Head
     requires { ⌜ (6 ≤ major) × (major < 8) × (25 ≤ info) × (info < 28) ⌝ }
     ensures { λ r. ⌜ r ≡ judged major info arg next ⌝ }
