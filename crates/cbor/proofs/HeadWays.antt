@@ -303,4 +303,23 @@ module _ (b : List ℕ) (at : ℕ) {r : Head} (e : r ≡ headAt b at) where
       go (bad y) p f = absurd (let z : _≡_ {A = ℕ} 0 1 = cc in omega arith)
       go (got l) p f = record { lead = l; is-got = p; kind-is = cc; arg-is = cc; next-is = cc }
 
+-- The bounds that a caller has of a head that was read.
+module _ (b : List ℕ) (at : ℕ) {r : Head} {k a n : ℕ} (p : Passed b at r) (e : r ≡ Good k a n) where
+  passed-good : Passed b at (Good k a n)
+  passed-good = rw e at p
+
+  pub advances : at < n
+  advances = passed-good .0
+
+  pub reaches : at ≤ n
+  reaches = let h = advances in omega arith
+
+  pub stays-inside : n ≤ length b
+  stays-inside = passed-good .1
+
+  pub kind-known : k ≤ double
+  kind-known = passed-good .2
+
+pub ruleset bounds = (advances, reaches, stays-inside, kind-known)
+
 pub ruleset heads = (sized-1, sized-2, sized-4, sized-8, too-long, well, tag, bad-float, good-float, cut, long-judged, long-counted, byte-counted, one-byte-more, not-in-use, at-end, by-long, small-count, small-unused, small-simple, passed)

@@ -43,7 +43,8 @@ Passed b at (Good k a n) = (at < n) × (n ≤ length b) × (k ≤ double)
 unfoldable pub follows : List ℕ → ℕ → ℕ → ℕ → Bool
 follows s at lo hi = ltb at (length s) && within lo hi (getD s at 0)
 
--- behind the byte at i stand n continuation bytes, the first from lo to hi, and r is n + 1; or r is 0 and they do not
+-- n continuation bytes, the first from lo to hi, are due behind the byte at i: they are there, and the text goes on at i + r; or r is 0 and
+-- they are not
 pub record Tail (s : List ℕ) (i n lo hi r : ℕ) : Type 0 where
   pub inside : i + r ≤ length s
   pub rest : utf8From n lo hi (drop (i + 1) s) ≡ (ltb 0 r && utf8 (drop (i + r) s))

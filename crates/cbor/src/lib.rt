@@ -19,7 +19,7 @@ fn wide(x: u8) -> u64
     x as u64
 }
 
-// Big-endian numbers, by halves. (The test for the shortest size keeps LLVM from making one load of any form, Horner's and shifts too.)
+// Big-endian numbers. Each is one load and a byte swap, but beside the test for the shortest size LLVM loads the halves apart.
 fn be2(s: &[u8], at: usize) -> u64
     requires { ⌜ at + 2 ≤ length (now s) ⌝ }
     ensures { λ r. ⌜ (r ≡ value (take 2 (drop at (now (s .entry))))) × (r < 2 ^ 16) ⌝ }
@@ -107,7 +107,7 @@ fn is_bad_float(kind: u8, a: u64) -> bool
     )
 }
 
-// A head of major type 6 or 7 with an argument of 2, 4 or 8 bytes. It stands alone so that the code for numbers stays small.
+// A head of major type 6 or 7 with an argument of 2, 4 or 8 bytes.
 fn float(major: u8, info: u8, arg: u64, next: usize) -> Head
     requires { ⌜ (6 ≤ major) × (major < 8) × (25 ≤ info) × (info < 28) ⌝ }
     ensures { λ r. ⌜ r ≡ judged major info arg next ⌝ }
