@@ -41,7 +41,7 @@ cut (item l str ms rs) (due s n) prev d ds f =
       back-due = c .back-due;
     }
 
-paste : (g h : Items) (v : Level) (prev : List ℕ) (d : ℕ) (ds : Dues) → Due g (push v prev d end) → Due h ds → Due (join g h) (push v prev d ds)
+pub paste : (g h : Items) (v : Level) (prev : List ℕ) (d : ℕ) (ds : Dues) → Due g (push v prev d end) → Due h ds → Due (join g h) (push v prev d ds)
 paste none h done prev d ds p q = q
 paste none h (due s n) prev d ds p q = absurd p
 paste (item l str ms rs) h done prev d ds p q = absurd p

@@ -13,7 +13,7 @@ use Rattle.cbor.specs.Utf8.{utf8}
 use Rattle.cbor.proofs.ByteLaws.{and-true, or-nil, not-false, within-true}
 use Rattle.ari.specs.Table.{version, row, due, done, rule, fits}
 use Rattle.ari.specs.Reader.{Limits, accept, Input, single, aMessage, firstSlot, bottom, read}
-use Rattle.ari.specs.Items.{Items, none, item}
+use Rattle.ari.specs.Items.{Items, none, item, openEnded}
 use Rattle.ari.specs.Decode.{decode}
 use Rattle.ari.specs.Rules.{Plain, Sets, no-more, set, Stands, an-ari, a-message, Is}
 use Rattle.ari.proofs.Due.{Fit, bottomOf, split, unsplit}
@@ -23,11 +23,6 @@ use Rattle.ari.proofs.Rows.{one-kind}
 use Rattle.ari.proofs.Weight.{well-fit}
 use Rattle.ari.proofs.RulesFit.{Here, is-one, here-plain, here-ari}
 use Rattle.ari.proofs.FitRules.{here, of-plain, of-ari, of-array}
-
--- the slots' grammar of an input
-abbrev pub openEnded : Input → Bool
-openEnded single = false
-openEnded aMessage = true
 
 abbrev pub Grammar : Input → Items → Type 0
 Grammar i g = Fit g (openEnded i) (due (firstSlot i) 0) []

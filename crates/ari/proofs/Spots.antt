@@ -12,10 +12,10 @@ use Rattle.cbor.specs.Head.{Lead, leadBytes}
 use Rattle.cbor.proofs.HeadLaws.{length-lead}
 use Rattle.ari.specs.Table.{alone, message, Slot, ari, Level, done, due, rule, members}
 use Rattle.ari.specs.Reader.{Limits, Input, single, firstSlot}
-use Rattle.ari.specs.Items.{Items, none, item, encode, heads, Spot, insideAt, spotAt, spots}
+use Rattle.ari.specs.Items.{Items, none, item, encode, heads, Spot, insideAt, spotAt, spots, openEnded, spotsOf}
 use Rattle.ari.specs.Rules.{Is, Stands, an-ari}
 use Rattle.ari.proofs.Due.{Fit, prevAfter}
-use Rattle.ari.proofs.Demand.{openEnded, stands-fit}
+use Rattle.ari.proofs.Demand.{stands-fit}
 
 -- a spot for each head
 pub one-each : (g : Items) (more : Bool) (v : Level) (prev : List ℕ) (p d : ℕ) → Fit g more v prev → length (spots g more v p d) ≡ heads g
@@ -175,10 +175,6 @@ covers (item l str ms rs) more (due s n) prev p d f a =
     spot-too (covers-item l str ms rs a s d)
     (all-append (covers ms false (members s l) [] q (suc d) (f .1) (at-members l str ms rs a))
     (covers rs more (rule s .next (l .arg) n) (prevAfter s prev l str) (q + length (encode ms)) d (f .2) (at-rest l str ms rs a)))
-
--- The same of an accepted input.
-abbrev pub spotsOf : Input → Items → List Spot
-spotsOf i g = spots g (openEnded i) (due (firstSlot i) 0) 0 0
 
 module _ {m : Limits} {i : Input} {b : List ℕ} {g : Items} {n : ℕ} (c : Is m i b g n) where
   pub spot-count : length (spotsOf i g) ≡ n

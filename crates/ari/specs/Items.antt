@@ -5,6 +5,7 @@ use mathlib.Core.List.{List, [], _∷_, _++_}
 use lib.ListN.{length}
 use Rattle.cbor.specs.Head.{Lead, size, leadBytes, isContainer}
 use Rattle.ari.specs.Table.{message, Slot, ari, Level, done, due, rule, members}
+use Rattle.ari.specs.Reader.{Input, single, aMessage, firstSlot}
 
 -- A run of items: the head and the string of the first, its members, and the items after it.
 pub data Items : Type 0 where
@@ -61,3 +62,12 @@ spots (item l str ms rs) more (due s n) p d =
     spotAt s p d l str ms
     ∷ (spots ms false (members s l) (insideAt p l str) (suc d)
     ++ spots rs more (rule s .next (l .arg) n) (insideAt p l str + length (encode ms)) d)
+
+-- sets may follow what is due first
+abbrev pub openEnded : Input → Bool
+openEnded single = false
+openEnded aMessage = true
+
+-- all items of an input
+abbrev pub spotsOf : Input → Items → List Spot
+spotsOf i g = spots g (openEnded i) (due (firstSlot i) 0) 0 0

@@ -5,7 +5,7 @@ use mathlib.Core.Bool.{Bool, true, false, not, _&&_, cond, true≢false}
 use mathlib.Core.List.{List, [], _∷_}
 use native.Mathlib.Omega.{arith}
 use native.Mathlib.Numerals.{add-one, sub-one}
-use lib.ListN.{length}
+use lib.ListN.{length, length-append}
 use lib.Dec.{eqb}
 use mir.Syntax.{w64}
 use mir.Val.{Fits}
@@ -13,6 +13,11 @@ use borrow.Author.Tests.{eqb-false, eqb-true}
 use Rattle.cbor.specs.Byte.{within}
 use Rattle.cbor.specs.Head.{isContainer}
 use Rattle.ari.specs.Table.{Slot, Own, none, one, rising, filled, Level, due}
+use Rattle.cbor.proofs.HeadLaws.{length-lead}
+use Rattle.ari.specs.Reader.{end, frame}
+use Rattle.ari.specs.Items as items
+use Rattle.ari.specs.Items.{Items, item, encode}
+use Rattle.ari.proofs.Due.{Due as DueItems}
 use Rattle.slots.specs.declared.Next.{Next}
 use Rattle.slots.specs.declared.Next.the-variants.{Done, Due}
 use Rattle.slots.specs.Code.{slotOf, levelOf, fitsCode, insideCode, inArrayCode, inMapCode}
@@ -75,6 +80,19 @@ module _ (b : List ℕ) (items : ℕ) (v : Level) (prev : List ℕ) (d around p 
   pub read-on : p ≤ q
   read-on = let z = read .held .0 .place in omega arith
 
+-- a slot takes at least a byte
+due-long : (g : Items) (s : Slot) (n : ℕ) (prev : List ℕ) (d : ℕ) → DueItems g (frame s n prev d end) → 0 < length (encode g)
+due-long items.none s n prev d f = absurd f
+due-long (item l str ms rs) s n prev d f =
+    simp length-append (omega (arith, length-lead l))
+
+pub read-past : (b : List ℕ) (items : ℕ) (s : Slot) (n : ℕ) (prev : List ℕ) (d around p c : ℕ) {w : Walk} {t t′ : List ℕ}
+    → Walked b items (due s n) prev d around p c w t t′ → {q e : ℕ} → w ≡ Read q e → p < q
+read-past b items s n prev d around p c h g =
+    let r = rw g at h in
+    let k = r .held .0 in
+    omega (arith, k .place, due-long (k .tree) s n prev d (k .fit))
+
 pub span-order : (o : Own) (f t p q : ℕ) → f ≤ t → p ≤ q → keySpan o f p ≤ keySpan o t q
 span-order none f t p q h g = h
 span-order one f t p q h g = h
@@ -124,6 +142,9 @@ less-deep d t h e = omega arith
 
 pub one-in : (d a : ℕ) → 0 < d → d + a < 256 → d - 1 + (a + 1) < 256
 one-in d a h g = omega arith
+
+pub falls-to : (n p q : ℕ) → p < q → q ≤ n → n - q < n - p
+falls-to n p q h l = omega arith
 
 pub falls-on : (n p r q : ℕ) → p < r → r ≤ q → q ≤ n → n - q < n - p
 falls-on n p r q h g l = omega arith

@@ -12,7 +12,8 @@ use Rattle.cbor.specs.Byte.{all, isByte, within}
 use Rattle.cbor.specs.Head.{Lead, size, Got, bad, got, getHead, stringSize, isContainer}
 use Rattle.cbor.specs.declared.Head.{Head}
 use Rattle.cbor.specs.declared.Head.the-variants.{Bad, Good}
-use Rattle.cbor.specs.Answer.{answer, headAt, Passed}
+use Rattle.cbor.specs.Answer.{answer, headAt}
+use Rattle.cbor.proofs.HeadWays.{Read, read}
 use Rattle.ari.specs.Table.{Slot, Own, rising, rule, fits}
 use Rattle.ari.specs.Reader.{keyBytes, wrongVersion, notGreater, isEmpty, judge, judgeGot}
 use Rattle.ari.specs.Reader as reader
@@ -105,20 +106,8 @@ pub headless : {h : Head} {r p : ℕ} → h ≡ Bad r → Refused r p ≡ noHead
 headless e = rw e
 
 -- the head that stands at p
-record Stands (b : List ℕ) (p k a q : ℕ) : Type 0 where
-  lead : Lead
-  is : getHead (drop p b) ≡ got lead
-  kind-is : lead .kind ≡ k
-  arg-is : lead .arg ≡ a
-  next-is : p + size lead ≡ q
-
-stands-got : (b : List ℕ) (p k a q : ℕ) (x : Got) → getHead (drop p b) ≡ x → answer p x ≡ Good k a q → Stands b p k a q
-stands-got b p k a q (bad r) g e = absurd (let z : _≡_ {A = ℕ} 0 1 = cc in omega arith)
-stands-got b p k a q (got l) g e = record { lead = l; is = g; kind-is = cc; arg-is = cc; next-is = cc }
-
-stands : (b : List ℕ) (p k a q : ℕ) → headAt b p ≡ Good k a q → Stands b p k a q
-unfolding headAt
-stands b p k a q e = stands-got b p k a q (getHead (drop p b)) refl e
+stands : (b : List ℕ) (p k a q : ℕ) → headAt b p ≡ Good k a q → Read b p k a q
+stands b p k a q e = read b p refl e
 
 -- the tests 9 to 12
 module _ (b : List ℕ) (p : ℕ) (s : Slot) (prev : List ℕ) {k a q : ℕ} (e : headAt b p ≡ Good k a q) where
@@ -130,7 +119,7 @@ module _ (b : List ℕ) (p : ℕ) (s : Slot) (prev : List ℕ) {k a q : ℕ} (e 
 
   late-is : stepAnswer p (lateStep s prev l (drop (size l) (drop p b))) ≡ lateAt b p s prev
   unfolding lateAt lateGot
-  late-is = rw (stands b p k a q e .is)
+  late-is = rw (stands b p k a q e .is-got)
 
   -- what is left behind the head
   rest-is : drop (size l) (drop p b) ≡ drop q b
@@ -201,7 +190,7 @@ module _ (b : List ℕ) (p : ℕ) (s : Slot) (prev : List ℕ) {k a q : ℕ} (e 
           let st = stands b p k a q e in
           let i : p + (size l + stringSize l) ≡ x = omega (arith, st .next-is, en .end-is) in
           same-order (rule s .own) prev (part b p x) (keyBytes l str)
-          (λ o. sym (key-bytes b p l bs (st .is) (ordered-kind s (l .kind) (l .arg) o (rw (st .kind-is, st .arg-is) fit)) (en .there) x i))
+          (λ o. sym (key-bytes b p l bs (st .is-got) (ordered-kind s (l .kind) (l .arg) o (rw (st .kind-is, st .arg-is) fit)) (en .there) x i))
 
       pub is-unordered : {u : Bool} → u ≡ notGreater (rule s .own) prev (part b p x) → u ≡ true → Refused 11 p ≡ lateAt b p s prev
       unfolding lateStep
@@ -237,12 +226,12 @@ module _ (b : List ℕ) (p i : ℕ) (prev : List ℕ) (c items d : ℕ) where
       go (got m) z = absurd (let y : _≡_ {A = ℕ} 0 1 = cc in omega arith)
 
   module _ (v : IsSlot i) {h : Head} (e : h ≡ headAt b p) {k a q : ℕ} (g : h ≡ Good k a q) where
-    abbrev st : Stands b p k a q
+    abbrev st : Read b p k a q
     st = stands b p k a q (sym e ∙ g)
 
     here-is : stepAnswer p (judge (items - c) d (slotOf i) prev (st .lead) (drop (size (st .lead)) (drop p b))) ≡ here
     unfolding stepAt judgeGot
-    here-is = rw (st .is)
+    here-is = rw (st .is-got)
 
     pub stop-items : items ≤ c → Refused 5 p ≡ here
     unfolding judge
@@ -288,15 +277,6 @@ module _ (b : List ℕ) (p : ℕ) {h : Head} {k a q : ℕ} (g : h ≡ Good k a q
   pub good-head : h ≡ headAt b p → headAt b p ≡ Good k a q
   good-head e = sym e ∙ g
 
-  pub good-on : Passed b p h → p < q
-  good-on y = (rw g at y) .0
-
-  pub good-in : Passed b p h → q ≤ length b
-  good-in y = (rw g at y) .1
-
-  pub good-kind : Passed b p h → k ≤ 9
-  good-kind y = (rw g at y) .2
-
 pub fit-shown : (i k a : ℕ) {y : Bool} → y ≡ fitsCode i k a → not y ≡ false → fitsCode i k a ≡ true
 fit-shown i k a {y} e u = sym e ∙ not-false y u
 
@@ -312,7 +292,7 @@ pub late-bounded : (b : List ℕ) (p c items d i k a q : ℕ) → p < q → c < 
 late-bounded b p c items d i k a q h n t kk u (Taken k′ a′ q′) f = rw (f .0, f .1) (omega (arith, f .2), f .3, n, t, kk, u)
 late-bounded b p c items d i k a q h n t kk u (Refused r x) f = tt
 
-pub ruleset head-shown = (good-head, good-on, good-in, good-kind, fit-shown, unread)
+pub ruleset head-shown = (good-head, fit-shown, unread)
 
 pub ruleset head-ways = (stop-head, stop-items, stop-deep, stop-fits, stop-version, goes-late)
 

@@ -4,3 +4,4 @@ pub mod Keys
 pub mod Loop
 pub mod Bounds
 pub mod Heads
+pub mod Whole

@@ -25,7 +25,7 @@ set-sets l i a j (v ∷ vs) h =
     let n : j ≢ i = λ e. omega arith in
     rw (set-comm l j i v a n) at (set-sets (set l j v) i a (suc j) vs (omega arith))
 
-map-append : (f : Spot → ℕ) (xs ys : List Spot) → map f (xs ++ ys) ≡ map f xs ++ map f ys
+pub map-append : (f : Spot → ℕ) (xs ys : List Spot) → map f (xs ++ ys) ≡ map f xs ++ map f ys
 map-append f [] ys = refl
 map-append f (x ∷ xs) ys = ap (λ (l : List ℕ). f x ∷ l) (map-append f xs ys)
 

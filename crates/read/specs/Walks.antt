@@ -4,10 +4,10 @@ use mathlib.Core.Path.{_≡_}
 use mathlib.Core.Bool.{Bool, true, false, cond}
 use mathlib.Core.List.{List, [], _∷_, _++_, map}
 use lib.ListN.{length, drop}
-use lib.Seq.{sets}
+use lib.Seq.{sets as stored}
 use lib.Dec.{eqb}
 use Rattle.ari.specs.Table.{Place, alone, message, inside, param, Slot, version, ari, type, value, namespace, objectNamespace, objectType, objectId, params, key, entry, nonce, setTime, target, report, reportTime, reportSource, Level, done, due, members}
-use Rattle.ari.specs.Reader.{Dues, end, push, Answer, refuse, run}
+use Rattle.ari.specs.Reader.{Dues, end, sets, push, Answer, refuse, accept, run}
 use Rattle.ari.specs.Items.{Items, encode, heads, Spot, spots}
 use Rattle.ari.proofs.Due.{Due}
 use Rattle.read.specs.declared.Walk.{Walk}
@@ -76,7 +76,7 @@ pub record Held (b : List ℕ) (v : Level) (prev : List ℕ) (d around p c q c�
   pub bytes : drop p b ≡ encode tree ++ drop q b
   pub place : q ≡ p + length (encode tree)
   pub count : c′ ≡ c + heads tree
-  pub table : t′ ≡ sets t c (entries tree v p around)
+  pub table : t′ ≡ stored t c (entries tree v p around)
 
 abbrev pub OnRead : List ℕ → ℕ → Level → List ℕ → ℕ → ℕ → ℕ → ℕ → Walk → List ℕ → List ℕ → Type 0
 OnRead b items v prev d around p c (Read q c′) t t′ = Held b v prev d around p c q c′ t t′ × (q ≤ length b) × (c′ ≤ items)
@@ -87,3 +87,24 @@ OnRead b items v prev d around p c (Refused r x) t t′ = Unit {0}
 pub record Walked (b : List ℕ) (items : ℕ) (v : Level) (prev : List ℕ) (d around p c : ℕ) (w : Walk) (t t′ : List ℕ) : Type 0 where
   pub runs : (ds : Dues) → run (items - c) (push v prev d ds) p (drop p b) ≡ afterWalk b items w ds
   pub held : OnRead b items v prev d around p c w t t′
+
+-- the reader's answer behind the sets
+abbrev pub afterSets : ℕ → Walk → Answer
+afterSets items (Read q c) = accept (items - c)
+afterSets items (Refused r x) = refuse r x
+
+-- The sets of a message that were read from p to the end.
+pub record SetsHeld (b : List ℕ) (d p c c′ : ℕ) (t t′ : List ℕ) : Type 0 where
+  pub tree : Items
+  pub fit : Due tree (sets d)
+  pub bytes : drop p b ≡ encode tree
+  pub count : c′ ≡ c + heads tree
+  pub table : t′ ≡ stored t c (map entryOf (spots tree true done p 0))
+
+abbrev pub OnSets : List ℕ → ℕ → ℕ → ℕ → ℕ → Walk → List ℕ → List ℕ → Type 0
+OnSets b items d p c (Read q c′) t t′ = SetsHeld b d p c c′ t t′ × (c′ ≤ items)
+OnSets b items d p c (Refused r x) t t′ = Unit {0}
+
+pub record SetsWalked (b : List ℕ) (items d p c : ℕ) (w : Walk) (t t′ : List ℕ) : Type 0 where
+  pub runs : run (items - c) (sets d) p (drop p b) ≡ afterSets items w
+  pub held : OnSets b items d p c w t t′

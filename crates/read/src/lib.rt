@@ -16,7 +16,10 @@ ghost use Rattle.ari.specs.Reader.{wrongVersion, notGreater, isEmpty};
 ghost use Rattle.slots.specs.Code.{slotOf};
 ghost use Rattle.slots.proofs.Right.{IsSlot};
 ghost use Rattle.read.specs.Steps.{part, stringEnd, stepAt, lateAt, LateShown, noHead, stoppedOf, Bounded, keySpan};
-ghost use Rattle.read.specs.Walks.{packed, insideLevel, Walked};
+ghost use Rattle.read.specs.Walks.{packed, insideLevel, Walked, SetsWalked};
+ghost use Rattle.ari.specs.Reader.{read, single, aMessage};
+ghost use Rattle.ari.specs.Limits.{firstLimits};
+ghost use Rattle.read.specs.Answers.{limitsOf, answerOf, refusalOf, Kept};
 
 // The place of a map key.
 pub struct Span {
@@ -371,4 +374,164 @@ fn walk_level(
         place = a;
         left = b;
     }
+}
+
+// An input is accepted with its item count, or refused.
+pub enum Answer {
+    Accepted(usize),
+    Refused { number: u64, place: usize },
+}
+
+// What is no container: a value, a simple value, a float's bits or a string's length. Negative(n) is the number -1 - n.
+pub enum Literal {
+    Unsigned(u64),
+    Negative(u64),
+    Bytes(u64),
+    Text(u64),
+    Simple(u64),
+    Half(u64),
+    Single(u64),
+    Double(u64),
+}
+
+// A container that is no reference, with its length.
+pub enum Container {
+    Array(u64),
+    Map(u64),
+}
+
+// An item's kind with that kind's own data. A reference is an array: its length is 1, 3 or 4.
+pub enum Kind {
+    Literal(Literal),
+    Container(Container),
+    Reference(u64),
+}
+
+// An item: its first byte, the byte after its last, the open containers around it, its kind.
+pub struct Record {
+    pub first: usize,
+    pub after: usize,
+    pub around: usize,
+    pub kind: Kind,
+}
+
+// Item k with the item count; or the input's own refusal; or 17 with the count.
+pub enum Found {
+    Item { record: Record, count: usize },
+    Refused { number: u64, place: usize },
+}
+
+// The limits of document 01.
+const BYTES: usize = 4096;
+
+const ITEMS: usize = 1024;
+
+const CONTAINERS: usize = 12;
+
+// A walk's refusal is the input's.
+fn refusal(w: Walk) -> Answer
+    ensures { λ r. ⌜ r ≡ refusalOf w ⌝ }
+{
+    match w {
+        Walk::Refused { number, place } => Answer::Refused { number, place },
+        Walk::Read { next: _, count: _ } => Answer::Refused {
+            number: 0,
+            place: 0,
+        },
+    }
+}
+
+// A single ARI within these limits.
+fn read_single(s: &[u8], bytes: usize, items: usize, containers: usize, table: &mut [u64]) -> Answer
+    requires { ⌜ (bytes < 65536) × (containers < 256) ⌝ }
+    ensures { λ r. ⌜ r ≡ answerOf (read (limitsOf bytes items containers) single (now (s .entry))) ⌝ }
+    ensures { λ r. ⌜ Kept single (now (s .entry)) r (now (table .entry)) (now (table .exit)) ⌝ }
+{
+    if bytes < s.len() {
+        return Answer::Refused {
+            number: 1,
+            place: 0,
+        };
+    }
+    let w = walk_level(s, 0, 0, items, containers, 0, 1, 0, table);
+    let Walk::Read { next, count } = w else {
+        return refusal(w);
+    };
+    if next < s.len() {
+        return Answer::Refused {
+            number: 13,
+            place: next,
+        };
+    }
+    Answer::Accepted(count)
+}
+
+// The sets of a message, from the place behind its version.
+fn walk_sets(
+    s: &[u8],
+    at: usize,
+    count: usize,
+    items: usize,
+    containers: usize,
+    table: &mut [u64],
+) -> Walk
+    requires { ⌜ (all isByte (now s) ≡ true) × (length (now s) < 65536) × (containers < 256) × (at ≤ length (now s)) × (count ≤ items) ⌝ }
+    ensures { λ r. ⌜ SetsWalked (now (s .entry)) items containers at count r (now (table .entry)) (now (table .exit)) ⌝ }
+{
+    let mut p = at;
+    let mut c = count;
+    while p < s.len() {
+        let w = walk_level(s, p, c, items, containers, 0, 2, 0, table);
+        let Walk::Read { next, count: e } = w else {
+            return w;
+        };
+        p = next;
+        c = e;
+    }
+    Walk::Read { next: p, count: c }
+}
+
+// A message within these limits.
+fn read_message(
+    s: &[u8],
+    bytes: usize,
+    items: usize,
+    containers: usize,
+    table: &mut [u64],
+) -> Answer
+    requires { ⌜ (bytes < 65536) × (containers < 256) ⌝ }
+    ensures { λ r. ⌜ r ≡ answerOf (read (limitsOf bytes items containers) aMessage (now (s .entry))) ⌝ }
+    ensures { λ r. ⌜ Kept aMessage (now (s .entry)) r (now (table .entry)) (now (table .exit)) ⌝ }
+{
+    if bytes < s.len() {
+        return Answer::Refused {
+            number: 1,
+            place: 0,
+        };
+    }
+    let v = walk_level(s, 0, 0, items, containers, 0, 0, 0, table);
+    let Walk::Read { next, count } = v else {
+        return refusal(v);
+    };
+    let w = walk_sets(s, next, count, items, containers, table);
+    let Walk::Read { next: _, count: e } = w else {
+        return refusal(w);
+    };
+    Answer::Accepted(e)
+}
+
+// A single ARI in binary form is checked.
+pub fn check_single(s: &[u8]) -> Answer
+    ensures { λ r. ⌜ r ≡ answerOf (read firstLimits single (now (s .entry))) ⌝ }
+{
+    let mut none = [0u64; 1];
+    read_single(s, BYTES, ITEMS, CONTAINERS, &mut none[0..0])
+}
+
+// A message is checked.
+pub fn check_message(s: &[u8]) -> Answer
+    ensures { λ r. ⌜ r ≡ answerOf (read firstLimits aMessage (now (s .entry))) ⌝ }
+{
+    let mut none = [0u64; 1];
+    read_message(s, BYTES, ITEMS, CONTAINERS, &mut none[0..0])
 }

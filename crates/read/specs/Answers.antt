@@ -1,0 +1,83 @@
+-- What the reading answers: document 01's numbers and values for each case of the enums.
+use Prim.Native.Nat.{ℕ}
+use mathlib.Core.Path.{_≡_}
+use mathlib.Core.Bool.{Bool, true, false, cond}
+use mathlib.Core.List.{List, [], _∷_, map}
+use lib.ListN.{getD}
+use lib.Seq.{sets}
+use lib.Dec.{ltb, eqb}
+use Rattle.cbor.specs.Head.{Lead}
+use Rattle.ari.specs.Table.{version, isReference}
+use Rattle.ari.specs.Reader.{Limits, Input, refuse, accept, read}
+use Rattle.ari.specs.Reader as reader
+use Rattle.ari.specs.Items.{none, Spot, spotsOf}
+use Rattle.ari.specs.Decode.{decode}
+use Rattle.read.specs.declared.Answer.{Answer}
+use Rattle.read.specs.declared.Answer.the-variants.{Accepted, Refused}
+use Rattle.read.specs.declared.Literal.{Literal}
+use Rattle.read.specs.declared.Literal.the-variants.{Unsigned, Negative, Bytes, Text, Simple, Half, Single, Double}
+use Rattle.read.specs.declared.Container.{Container}
+use Rattle.read.specs.declared.Container.the-variants.{Array, Map}
+use Rattle.read.specs.declared.Kind.{Kind}
+use Rattle.read.specs.declared.Kind.the-variants as kinds
+use Rattle.read.specs.declared.Record.{Record}
+use Rattle.read.specs.declared.Found.{Found}
+use Rattle.read.specs.declared.Found.the-variants as found
+use Rattle.read.specs.declared.Walk.{Walk}
+use Rattle.read.specs.declared.Walk.the-variants as walks
+use Rattle.read.specs.Walks.{entryOf}
+
+-- limits as three numbers: no text is read here
+abbrev pub limitsOf : ℕ → ℕ → ℕ → Limits
+limitsOf bytes items containers = record { bytes = bytes; items = items; containers = containers; text = 0 }
+
+-- an acceptance with the item count, a refusal with its number and place
+abbrev pub answerOf : reader.Answer → Answer
+answerOf (refuse r p) = Refused r p
+answerOf (accept n) = Accepted n
+
+-- a walk's refusal as the input's
+abbrev pub refusalOf : Walk → Answer
+refusalOf (walks.Refused r x) = Refused r x
+refusalOf (walks.Read q c) = Refused 0 0
+
+-- the table of an accepted input: an entry for each item, as many as there is room for
+abbrev pub KeptBy : Input → List ℕ → Answer → List ℕ → List ℕ → Type 0
+KeptBy i b (Accepted n) t t′ = t′ ≡ sets t 0 (map entryOf (spotsOf i (decode b)))
+KeptBy i b (Refused r p) t t′ = Unit {0}
+
+pub record Kept (i : Input) (b : List ℕ) (r : Answer) (t t′ : List ℕ) : Type 0 where
+  pub kept : KeptBy i b r t t′
+
+-- "its kind, with that kind's own data (a value, a float's bits, a string's length, or a container's length and whether it is a reference)"
+abbrev pub literalOf : ℕ → ℕ → Literal
+literalOf k a =
+    getD (Unsigned a ∷ Negative a ∷ Bytes a ∷ Text a ∷ Simple a ∷ Simple a ∷ Simple a ∷ Half a ∷ Single a ∷ Double a ∷ []) k (Simple a)
+
+unfoldable pub kindOf : Bool → ℕ → ℕ → Kind
+kindOf true k a = kinds.Reference a
+kindOf false k a = cond (eqb k 4) (kinds.Container (Array a)) (cond (eqb k 5) (kinds.Container (Map a)) (kinds.Literal (literalOf k a)))
+
+-- "first byte, byte after its last, open containers around it, and its kind"
+abbrev pub recordOf : Spot → Record
+recordOf x = record {
+  first = x .first;
+  after = x .after;
+  around = x .around;
+  kind = kindOf (isReference (x .slot) (x .lead)) (x .lead .kind) (x .lead .arg);
+}
+
+-- the items of an input, and item k
+abbrev noSpot : Spot
+noSpot = record { slot = version; first = 0; after = 0; around = 0; lead = record { info = 0; kind = 0; arg = 0 }; str = []; inside = none }
+
+abbrev pub spotNumber : Input → List ℕ → ℕ → Spot
+spotNumber i b k = getD (spotsOf i (decode b)) k noSpot
+
+-- "A refused input gives its own refusal before 17": "item number not below the item count; the number is the count"
+abbrev pub foundOf : Input → List ℕ → ℕ → reader.Answer → Found
+foundOf i b k (refuse r p) = found.Refused r p
+foundOf i b k (accept n) = cond (ltb k n) (found.Item (recordOf (spotNumber i b k)) n) (found.Refused 17 n)
+
+unfoldable pub itemOf : Limits → Input → List ℕ → ℕ → Found
+itemOf m i b k = foundOf i b k (read m i b)
