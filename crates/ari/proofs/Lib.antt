@@ -11,3 +11,4 @@ pub mod Spots
 pub mod Prefix
 pub mod Range
 pub mod Example
+pub mod Numbers

@@ -1,0 +1,14 @@
+//! Links the libcbor shim if bench/run has built it (LIBCBOR_SHIM names its
+//! folder). The archive is linked by the crate `reading`.
+
+fn main() {
+    println!("cargo::rustc-check-cfg=cfg(libcbor)");
+    println!("cargo::rerun-if-changed=build.rs");
+    println!("cargo::rerun-if-env-changed=LIBCBOR_SHIM");
+    let Ok(folder) = std::env::var("LIBCBOR_SHIM") else { return };
+    println!("cargo::rerun-if-changed={folder}/liblibcbor_load.a");
+    println!("cargo::rustc-link-search=native={folder}");
+    println!("cargo::rustc-link-lib=static=libcbor_load");
+    println!("cargo::rustc-link-lib=dylib=cbor");
+    println!("cargo::rustc-cfg=libcbor");
+}

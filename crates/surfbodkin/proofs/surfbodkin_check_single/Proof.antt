@@ -1,0 +1,15 @@
+-- `surfbodkin::surfbodkin_check_single` meets its contract: the answer as a number.
+use borrow.Author.Needs.{needs}
+use Rattle.surfbodkin.proofs.Codes.{bounded, coded}
+use Rattle.ari.specs.Reader.{single, aMessage, read}
+use Rattle.ari.specs.Limits.{firstLimits}
+use Rattle.surfbodkin.proofs.surfbodkin_check_single.Statement.{statement}
+use Rattle.surfbodkin.proofs.surfbodkin_check_single.Tie as tie
+
+pub surfbodkin-check-single-spec : {M : Type 1} → statement M
+surfbodkin-check-single-spec =
+    tie.close
+    (tie.spec
+    (λ c κs. search needs)
+    (λ c κs. bounded _ _ (c .check-single .ensures))
+    (λ c. coded (read firstLimits single (c .before .before .before .args .input .now)) (c .before .check-single .ensures) (c .check-code .ensures)))

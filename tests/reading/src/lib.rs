@@ -1,0 +1,165 @@
+//! A plain reading of document 01, written from the paper alone.
+//!
+//! `check_single` and `check_message` answer with the item count or with the
+//! first refusal (tests 1 to 13); `items_single` and `items_message` give every
+//! item record as well. One recursive-descent walk serves all of them: what it
+//! meets is told to a [`Visitor`], and a check's visitor does nothing.
+//!
+//! Not part of the reading: [`archive`] calls the gate, [`generate`] makes
+//! inputs for comparisons and times, [`vectors`] holds the fixed inputs,
+//! [`appendix`] RFC 8949's examples.
+
+mod head;
+mod spelling;
+mod walk;
+
+pub mod appendix;
+pub mod archive;
+pub mod generate;
+pub mod vectors;
+
+pub use head::Kind;
+pub use spelling::{is_identifier, is_namespace_name, is_utf8};
+pub use walk::{walk_message, walk_single, Visitor};
+
+/// "at most 4,096 bytes, at most 1,024 items (one item is one head), at most
+/// 12 containers (arrays and maps, empty ones counted) open at once".
+#[derive(Clone, Copy, Debug, PartialEq, Eq)]
+pub struct Limits {
+    pub bytes: usize,
+    pub items: usize,
+    pub containers: usize,
+}
+
+pub const LIMITS: Limits = Limits { bytes: 4_096, items: 1_024, containers: 12 };
+
+/// The tests of 'Order of the tests' that a binary input can fail, by number.
+#[derive(Clone, Copy, Debug, PartialEq, Eq)]
+#[repr(u8)]
+pub enum Test {
+    /// "input too long"
+    TooLong = 1,
+    /// "the input ends where a head is due, or inside its argument"
+    EndOfInput = 2,
+    /// "head not in use: info 28 to 31, a tag, another simple value (f8 too)"
+    NotInUse = 3,
+    /// "head or float not shortest, or another NaN"
+    NotShortest = 4,
+    /// "this would be item 1,025"
+    TooManyItems = 5,
+    /// "this would be open container 13"
+    TooManyContainers = 6,
+    /// "kind, range or array length [...] not allowed here"
+    NotAllowed = 7,
+    /// "a message's first item is unsigned and not 1"
+    Version = 8,
+    /// "fewer bytes left than the string has"
+    ShortString = 9,
+    /// "not UTF-8, or a name or identifier wrongly spelled or of another length"
+    Spelling = 10,
+    /// "map key not greater than the one before"
+    KeyOrder = 11,
+    /// "empty parameters"
+    EmptyParameters = 12,
+    /// "bytes after a single ARI"
+    BytesAfter = 13,
+}
+
+/// "A refusal is a number with one further number, the place".
+#[derive(Clone, Copy, Debug, PartialEq, Eq)]
+pub struct Refusal {
+    pub test: Test,
+    pub place: usize,
+}
+
+#[derive(Clone, Copy, Debug, PartialEq, Eq)]
+pub enum Answer {
+    /// "The item count is a number in every acceptance".
+    Accepted(usize),
+    Refused {
+        number: u8,
+        place: usize,
+    },
+}
+
+impl From<Result<usize, Refusal>> for Answer {
+    #[inline]
+    fn from(result: Result<usize, Refusal>) -> Answer {
+        match result {
+            Ok(items) => Answer::Accepted(items),
+            Err(Refusal { test, place }) => Answer::Refused { number: test as u8, place },
+        }
+    }
+}
+
+impl std::fmt::Display for Answer {
+    fn fmt(&self, f: &mut std::fmt::Formatter<'_>) -> std::fmt::Result {
+        match self {
+            Answer::Accepted(items) => write!(f, "accepted {items}"),
+            Answer::Refused { number, place } => write!(f, "refused {number} {place}"),
+        }
+    }
+}
+
+/// "Asked for item k, the gate gives a record".
+#[derive(Clone, Copy, Debug, PartialEq, Eq)]
+pub struct Record {
+    /// First byte.
+    pub first: usize,
+    /// Byte after its last. "A container ends where its last member ends, an
+    /// empty one after its head."
+    pub after: usize,
+    /// "open containers around it"
+    pub around: usize,
+    /// "its kind, with that kind's own data"
+    pub kind: Kind,
+    /// "whether it is a reference": an array of length 1, 3 or 4 where the
+    /// rules ask for an ARI or an object reference.
+    pub reference: bool,
+}
+
+impl std::fmt::Display for Record {
+    fn fmt(&self, f: &mut std::fmt::Formatter<'_>) -> std::fmt::Result {
+        write!(f, "{} {} {} ", self.first, self.after, self.around)?;
+        match self.kind {
+            Kind::Array(length) if self.reference => write!(f, "reference {length}"),
+            kind => write!(f, "{kind}"),
+        }
+    }
+}
+
+/// Collects the records of all items, in the order of their heads.
+impl Visitor for Vec<Record> {
+    type Mark = usize;
+
+    fn leaf(&mut self, first: usize, after: usize, around: usize, kind: Kind) {
+        self.push(Record { first, after, around, kind, reference: false });
+    }
+
+    fn open(&mut self, first: usize, around: usize, kind: Kind, reference: bool) -> usize {
+        self.push(Record { first, after: first, around, kind, reference });
+        self.len() - 1
+    }
+
+    fn close(&mut self, opened: usize, after: usize) {
+        self[opened].after = after;
+    }
+}
+
+pub fn check_single(input: &[u8]) -> Answer {
+    walk_single(input, &LIMITS, &mut ()).into()
+}
+
+pub fn check_message(input: &[u8]) -> Answer {
+    walk_message(input, &LIMITS, &mut ()).into()
+}
+
+pub fn items_single(input: &[u8]) -> Result<Vec<Record>, Refusal> {
+    let mut records = Vec::new();
+    walk_single(input, &LIMITS, &mut records).map(|_| records)
+}
+
+pub fn items_message(input: &[u8]) -> Result<Vec<Record>, Refusal> {
+    let mut records = Vec::new();
+    walk_message(input, &LIMITS, &mut records).map(|_| records)
+}
