@@ -1,17 +1,21 @@
 -- What the reading answers: document 01's numbers and values for each case of the enums.
-use Prim.Native.Nat.{ℕ}
+use Prim.Native.Nat.{ℕ, _/_, _%_, _≤_}
 use mathlib.Core.Path.{_≡_}
-use mathlib.Core.Bool.{Bool, true, false, cond}
+use mathlib.Core.Bool.{Bool, true, false, not, _&&_, cond}
 use mathlib.Core.List.{List, [], _∷_, map}
-use lib.ListN.{getD}
+use lib.ListN.{length, getD}
 use lib.Seq.{sets}
 use lib.Dec.{ltb, eqb}
 use Rattle.cbor.specs.Head.{Lead}
+use Rattle.cbor.specs.declared.Head.{Head}
+use Rattle.cbor.specs.declared.Head.the-variants.{Bad, Good}
+use Rattle.cbor.specs.Answer.{headAt}
 use Rattle.ari.specs.Table.{version, isReference}
 use Rattle.ari.specs.Reader.{Limits, Input, refuse, accept, read}
 use Rattle.ari.specs.Reader as reader
 use Rattle.ari.specs.Items.{none, Spot, spotsOf}
 use Rattle.ari.specs.Decode.{decode}
+use Rattle.slots.specs.Code.{asksOf}
 use Rattle.read.specs.declared.Answer.{Answer}
 use Rattle.read.specs.declared.Answer.the-variants.{Accepted, Refused}
 use Rattle.read.specs.declared.Literal.{Literal}
@@ -67,6 +71,22 @@ recordOf x = record {
   kind = kindOf (isReference (x .slot) (x .lead)) (x .lead .kind) (x .lead .arg);
 }
 
+-- the same from an item's entry: the bytes still have its head
+abbrev pub referenceBy : ℕ → ℕ → ℕ → Bool
+referenceBy i k a = asksOf i && (eqb k 4 && not (eqb a 2))
+
+abbrev pub kindAt : ℕ → Head → Kind
+kindAt i (Good k a q) = kindOf (referenceBy i k a) k a
+kindAt i (Bad r) = kinds.Literal (Simple 0)
+
+unfoldable pub recordFrom : List ℕ → ℕ → Record
+recordFrom b e = record {
+  first = e % 65536;
+  after = e / 65536 % 65536;
+  around = e / 4294967296 % 256;
+  kind = kindAt (e / 1099511627776 % 256) (headAt b (e % 65536));
+}
+
 -- the items of an input, and item k
 abbrev noSpot : Spot
 noSpot = record { slot = version; first = 0; after = 0; around = 0; lead = record { info = 0; kind = 0; arg = 0 }; str = []; inside = none }
@@ -81,3 +101,13 @@ foundOf i b k (accept n) = cond (ltb k n) (found.Item (recordOf (spotNumber i b 
 
 unfoldable pub itemOf : Limits → Input → List ℕ → ℕ → Found
 itemOf m i b k = foundOf i b k (read m i b)
+
+-- the same from the input's answer and table
+abbrev pub foundFrom : List ℕ → ℕ → List ℕ → Answer → Found
+foundFrom b k t (Refused r p) = found.Refused r p
+foundFrom b k t (Accepted n) = cond (ltb k n) (found.Item (recordFrom b (getD t k 0)) n) (found.Refused 17 n)
+
+-- a table with room for each item
+abbrev pub Roomy : Answer → List ℕ → Type 0
+Roomy (Refused r p) t = Unit {0}
+Roomy (Accepted n) t = n ≤ length t

@@ -1,0 +1,15 @@
+-- `read::kind_of` meets its contract: a reference, a container or a literal.
+use borrow.Author.Needs.{needs}
+use Rattle.read.proofs.Entries.{kind-ways}
+use Rattle.read.proofs.kind_of.Statement.{statement}
+use Rattle.read.proofs.kind_of.Tie as tie
+
+pub kind-of-spec : {M : Type 1} → statement M
+kind-of-spec =
+    tie.close
+    (tie.spec
+    (λ c. search (kind-ways, needs))
+    (λ c. search (kind-ways, needs))
+    (λ c. search (kind-ways, needs))
+    (λ c κs. search needs)
+    (λ c. search (kind-ways, needs)))
