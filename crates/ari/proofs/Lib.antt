@@ -11,3 +11,6 @@ pub mod Spots
 pub mod Prefix
 pub mod Range
 pub mod Example
+pub mod Referring
+pub mod Listed
+pub mod ListingExample

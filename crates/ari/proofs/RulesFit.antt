@@ -173,10 +173,10 @@ here-target : (prev : List ℕ) {l : Lead} {str : List ℕ} {ms : Items} → Ref
 unfolding rule isContainer
 here-target prev r = here-held target prev refl (r .holds) no-test (array-fits 3 4 (r .count) (r .low) (r .high)) (r .inner-fit)
 
-less-one : (n : ℕ) → suc n - 1 ≡ n
+pub less-one : (n : ℕ) → suc n - 1 ≡ n
 less-one n = omega arith
 
-less-two : (n : ℕ) → suc (suc n) - 2 ≡ n
+pub less-two : (n : ℕ) → suc (suc n) - 2 ≡ n
 less-two n = omega arith
 
 mutual
