@@ -14,3 +14,4 @@ pub mod Example
 pub mod Referring
 pub mod Listed
 pub mod ListingExample
+pub mod Named

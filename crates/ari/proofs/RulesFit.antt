@@ -119,7 +119,7 @@ module _ {k n : ℕ} {l : Lead} {str : List ℕ} (h : Holds k n l str) where
   any-fits : within 0 max64 n || false ≡ true
   any-fits = rw (within-is 0 max64 n (omega arith) held-64)
 
-fits-more : (k a : ℕ) (rs qs : List Row) → fits k a rs ≡ true → fits k a (rs ++ qs) ≡ true
+pub fits-more : (k a : ℕ) (rs qs : List Row) → fits k a rs ≡ true → fits k a (rs ++ qs) ≡ true
 fits-more k a [] qs e = cc
 fits-more k a (row k′ lo hi ∷ rs) qs e = go (eqb k k′ && within lo hi a) e (fits-more k a rs qs)
   where
