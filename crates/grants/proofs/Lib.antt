@@ -1,0 +1,3 @@
+pub mod Granted
+pub mod Checked
+pub mod Clause

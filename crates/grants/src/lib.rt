@@ -1,0 +1,1 @@
+// The grant table's check, and what it grants.
