@@ -13,7 +13,7 @@ use borrow.Author.Tests.{eqb-false, eq-eqb, ne-eqb}
 use Rattle.cbor.proofs.ByteLaws.{and-true, not-true}
 use Rattle.ari.specs.Listing.{number}
 use Rattle.grants.specs.Grants.{Grant, some, same, below0, clash, Check, passes, checkFrom, check}
-use Rattle.grants.proofs.Granted.{some-row, row-some, same-is}
+use Rattle.grants.proofs.Judged.{some-row, row-some, same-is}
 
 -- "two rows with different subscribers carry the same negative namespace": -1 - number
 pub record Clash (g h : Grant) : Type 0 where
@@ -27,14 +27,14 @@ clash-sym c = record { different = λ e. c .different (sym e); number = c .numbe
 
 clash-is : (g h : Grant) → clash g h ≡ true → Clash g h
 clash-is g h e =
-    let (p, r) = and-true (not (eqb (g .subscriber) (h .subscriber))) (same (g .namespace) (h .namespace) && below0 (g .namespace)) e in
-    let (q, n) = and-true (same (g .namespace) (h .namespace)) (below0 (g .namespace)) r in
+    let (p, r) = and-true (not (eqb (h .subscriber) (g .subscriber))) (same (h .namespace) (g .namespace) && below0 (g .namespace)) e in
+    let (q, n) = and-true (same (h .namespace) (g .namespace)) (below0 (g .namespace)) r in
     let (a, z) = negative (g .namespace) n in
     record {
-      different = eqb-false (g .subscriber) (h .subscriber) (not-true _ p);
+      different = λ k. eqb-false (h .subscriber) (g .subscriber) (not-true _ p) (sym k);
       number = a;
       one = z;
-      other = sym (same-is (g .namespace) (h .namespace) q) ∙ z;
+      other = same-is (h .namespace) (g .namespace) q ∙ z;
     }
   where
     negative : (z : ℤ) → below0 z ≡ true → (a : ℕ) × (z ≡ negsuc a)
@@ -42,7 +42,7 @@ clash-is g h e =
     negative (negsuc a) n = (a, refl)
 
 is-clash : (g h : Grant) → Clash g h → clash g h ≡ true
-is-clash g h c = rw (ne-eqb (g .subscriber) (h .subscriber) (c .different), c .one, c .other, eq-eqb (c .number) (c .number) refl)
+is-clash g h c = rw (ne-eqb (h .subscriber) (g .subscriber) (λ e. c .different (sym e)), c .one, c .other, eq-eqb (c .number) (c .number) refl)
 
 abbrev pub NoClash : List Grant → Type 0
 NoClash t = (g h : Grant) → List·Memᴰ g t → List·Memᴰ h t → Clash g h → ⊥

@@ -1,4 +1,4 @@
--- Demand 3, release: for all messages, tables and subscribers. What a table grants is in Granted, its check in Checked.
+-- Demand 3, release: for all messages, tables and subscribers. What a table grants is in Judged, its check in Checked.
 use Prim.Native.Nat.{ℕ, suc}
 use mathlib.Core.Logic.{_↔_}
 use mathlib.Core.Path.{_≡_, refl, sym, _∙_, ap, fun-ext}
@@ -9,7 +9,7 @@ use lib.IntN.{ℤ, negsuc}
 use Rattle.ari.specs.Reader.{Limits, Answer, refuse, accept, aMessage, read}
 use Rattle.ari.specs.Listing.{Space, number, name, relative, Entry, listing}
 use Rattle.grants.specs.Grants.{Grant, passes, check, granted, Release, yes, no, judgeFrom, judge, release}
-use Rattle.grants.proofs.Granted.{Row, Granted, granted-exactly-if, FirstHeld, judged-yes, judged-no}
+use Rattle.grants.proofs.Judged.{Row, Granted, granted-exactly-if, FirstHeld, judged-yes, judged-no}
 use Rattle.grants.proofs.Checked.{passes-exactly-if}
 
 -- a message that is accepted

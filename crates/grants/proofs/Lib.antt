@@ -1,3 +1,5 @@
-pub mod Granted
+pub mod Judged
 pub mod Checked
 pub mod Clause
+pub mod Signed
+pub mod Ways

@@ -20,8 +20,11 @@ unfoldable pub signed : ℕ → ℤ
 signed n = cond (leb n max63) (pos n) (negsuc (max64 - n))
 
 -- "16 a row, big-endian: subscriber (unsigned, 8), namespace (two's complement, 8)"
+abbrev pub rowBy : ℕ → ℕ → Grant
+rowBy s n = record { subscriber = s; namespace = signed n }
+
 abbrev pub rowOf : List ℕ → Grant
-rowOf b = record { subscriber = value (take 8 b); namespace = signed (value (take 8 (drop 8 b))) }
+rowOf b = rowBy (value (take 8 b)) (value (take 8 (drop 8 b)))
 
 abbrev pub rowsOf : ℕ → List ℕ → List Grant
 rowsOf zero b = []

@@ -28,7 +28,7 @@ below0 (negsuc a) = true
 
 -- "two rows with different subscribers carry the same negative namespace"
 abbrev pub clash : Grant → Grant → Bool
-clash g h = not (eqb (g .subscriber) (h .subscriber)) && (same (g .namespace) (h .namespace) && below0 (g .namespace))
+clash g h = not (eqb (h .subscriber) (g .subscriber)) && (same (h .namespace) (g .namespace) && below0 (g .namespace))
 
 pub data Check : Type 0 where
   passes : Check

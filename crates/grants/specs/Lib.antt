@@ -1,2 +1,3 @@
 pub mod Grants
 pub mod Bytes
+pub mod Verdict
