@@ -4,14 +4,30 @@ use mathlib.Core.Path.{_≡_, refl, sym, _∙_}
 use mathlib.Core.Bool.{Bool, true, false, not, and-false, and-true}
 use mathlib.Core.List.{List, [], _∷_, _++_}
 use native.Mathlib.Omega.{arith}
-use lib.ListN.{length, take, drop, length-append, length-drop, take-append-drop}
+use lib.ListN.{length, take, drop, getD, length-append, length-drop, take-append-drop}
 use lib.Seq.{drop-drop, length-take-le, take-append-le, drop-append-le, take-add}
 use lib.Dec.{eqb}
 use borrow.Author.Tests.{eq-eqb, ne-eqb}
 use Rattle.cbor.specs.Byte.{value}
+use Rattle.cbor.proofs.NumberWays.{value-join, two-bytes}
 use Rattle.grants.specs.Grants.{Grant, some, same, below0, clash, passes, refused, checkFrom, check, holds}
 use Rattle.grants.specs.Bytes.{signed, rowBy, rowOf, rows, checkBytes}
 use Rattle.grants.proofs.Signed.{same-words, not-negative, negative}
+
+-- big-endian numbers, two bytes at a time
+module _ (s : List ℕ) (at : ℕ) where
+  pub push-two : (x : ℕ) {a b : ℕ} → at + 2 ≤ length s → a ≡ getD s at 0 → b ≡ getD s (at + 1) 0
+      → (x * 256 + a) * 256 + b ≡ x * 65536 + value (take 2 (drop at s))
+  push-two x h p q = omega (arith, two-bytes s at h p q)
+
+  two-more : (n : ℕ) → at + n + 2 ≤ length s → value (take (n + 2) (drop at s)) ≡ value (take n (drop at s)) * 65536 + value (take 2 (drop (at + n) s))
+  two-more n h =
+      let l : length (take 2 (drop (at + n) s)) ≡ 2 = length-take-le 2 (drop (at + n) s) (rw length-drop (omega arith)) in
+      rw (take-add n 2 (drop at s), drop-drop n at s, value-join, l)
+
+  pub all-eight : {a b c d : ℕ} → at + 8 ≤ length s → a ≡ 0 * 65536 + value (take 2 (drop at s)) → b ≡ a * 65536 + value (take 2 (drop (at + 2) s))
+      → c ≡ b * 65536 + value (take 2 (drop (at + 4) s)) → d ≡ c * 65536 + value (take 2 (drop (at + 6) s)) → d ≡ value (take 8 (drop at s))
+  all-eight h p q r t = omega (arith, two-more 2 (omega arith), two-more 4 (omega arith), two-more 6 (omega arith))
 
 -- the rows of bytes
 rows-more : (b : List ℕ) → 16 ≤ length b → rows b ≡ rowOf b ∷ rows (drop 16 b)
@@ -134,4 +150,4 @@ module _ (b : List ℕ) (at : ℕ) (w : length b % 16 ≡ 0) (k : at % 16 ≡ 0)
         let l : length (take at b) ≡ 16 * (at / 16) = length-take-le at b (omega arith) ∙ omega arith in
         rw (e, this-row, ← f, g, q, take-add at 16 b, rows-join (at / 16) (take at b) (take 16 c) l, rows-one c n)
 
-pub ruleset ways = (other-subscriber, its-namespace, other-namespace, its-subscriber, some-start, some-end, some-here, some-behind, positive, private-row, length-before, ragged-table, check-start, check-end, check-here, check-behind)
+pub ruleset ways = (push-two, all-eight, other-subscriber, its-namespace, other-namespace, its-subscriber, some-start, some-end, some-here, some-behind, positive, private-row, length-before, ragged-table, check-start, check-end, check-here, check-behind)

@@ -1,6 +1,6 @@
 // The grant table as bytes, 16 a row: its check, and what it grants.
 ghost use mathlib.Core.Path.{_≡_};
-ghost use Prim.Native.Nat.{_+_, _^_, _<_, _≤_};
+ghost use Prim.Native.Nat.{_+_, _*_, _^_, _<_, _≤_};
 ghost use lib.ListN.{length, take, drop};
 ghost use Rattle.cbor.specs.Byte.{value};
 ghost use Rattle.ari.specs.Listing.{number};
@@ -20,26 +20,23 @@ fn wide(x: u8) -> u64
     x as u64
 }
 
-// Big-endian numbers, by halves.
-fn be2(s: &[u8], at: usize) -> u64
-    requires { ⌜ at + 2 ≤ length (now s) ⌝ }
-    ensures { λ r. ⌜ (r ≡ value (take 2 (drop at (now (s .entry))))) × (r < 2 ^ 16) ⌝ }
+// The number x with two bytes more.
+fn push2(x: u64, s: &[u8], at: usize) -> u64
+    requires { ⌜ (at + 2 ≤ length (now s)) × (x < 2 ^ 48) ⌝ }
+    ensures { λ r. ⌜ (r ≡ x * 65536 + value (take 2 (drop at (now (s .entry))))) × (r < 65536 * x + 65536) ⌝ }
 {
-    wide(s[at]) * 256 + wide(s[at + 1])
+    (x * 256 + wide(s[at])) * 256 + wide(s[at + 1])
 }
 
-fn be4(s: &[u8], at: usize) -> u64
-    requires { ⌜ at + 4 ≤ length (now s) ⌝ }
-    ensures { λ r. ⌜ (r ≡ value (take 4 (drop at (now (s .entry))))) × (r < 2 ^ 32) ⌝ }
-{
-    be2(s, at) * 65536 + be2(s, at + 2)
-}
-
+// A big-endian number. LLVM makes one load of this form, and not of one by halves.
 fn be8(s: &[u8], at: usize) -> u64
     requires { ⌜ at + 8 ≤ length (now s) ⌝ }
     ensures { λ r. ⌜ r ≡ value (take 8 (drop at (now (s .entry)))) ⌝ }
 {
-    be4(s, at) * 4294967296 + be4(s, at + 4)
+    let a = push2(0, s, at);
+    let b = push2(a, s, at + 2);
+    let c = push2(b, s, at + 4);
+    push2(c, s, at + 6)
 }
 
 // The row at a place holds both numbers.
