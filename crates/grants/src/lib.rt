@@ -79,12 +79,12 @@ fn has_partner(t: &[u8], subscriber: u64, namespace: u64) -> bool
     requires { ⌜ 2 ^ 63 ≤ namespace ⌝ }
     ensures { λ r. ⌜ r ≡ some (clash (rowBy subscriber namespace)) (rows (now (t .entry))) ⌝ }
 {
-    let mut at = 0;
-    while 16 <= t.len() - at {
-        if clashes_at(t, at, subscriber, namespace) {
+    let mut other = 0;
+    while 16 <= t.len() - other {
+        if clashes_at(t, other, subscriber, namespace) {
             return true;
         }
-        at += 16;
+        other += 16;
     }
     false
 }
