@@ -1,7 +1,7 @@
 -- The listing's filter of the spots finds what the rules make references.
 use Prim.Native.Nat.{ℕ, suc}
 use mathlib.Core.Path.{_≡_, refl, _∙_, ap}
-use mathlib.Core.Bool.{Bool, true, false, not, _&&_, cond, true≢false}
+use mathlib.Core.Bool.{Bool, true, false, not, cond, and-false, true≢false}
 use mathlib.Core.List.{List, [], _∷_, _++_, append-nil, append-assoc, map}
 use lib.Dec.{eqb}
 use borrow.Author.Tests.{ne-eqb}
@@ -46,10 +46,6 @@ module _ (s : Slot) where
   pub not-array : (l : Lead) → isContainer (l .kind) ≡ false → isReference s l ≡ false
   unfolding isReference isContainer
   not-array l c = rw (ne-eqb (l .kind) array (λ e. true≢false (rw e at c))) (and-false (rule s .asks))
-    where
-      and-false : (t : Bool) → t && false ≡ false
-      and-false true = refl
-      and-false false = refl
 
   an-array : {n : ℕ} {l : Lead} {str : List ℕ} → rule s .asks ≡ true → Holds array n l str → isReference s l ≡ not (eqb n 2)
   unfolding isReference

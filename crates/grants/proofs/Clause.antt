@@ -1,14 +1,17 @@
 -- Demand 3, release: for all messages, tables and subscribers. What a table grants is in Judged, its check in Checked.
-use Prim.Native.Nat.{ℕ, suc}
+use Prim.Native.Nat.{ℕ, suc, _/_}
 use mathlib.Core.Logic.{_↔_}
 use mathlib.Core.Path.{_≡_, refl, sym, _∙_, ap, fun-ext}
 use mathlib.Core.Bool.{Bool, true, false, cond}
 use mathlib.Core.List.{List, [], _∷_, List·Memᴰ}
 use native.Mathlib.Omega.{arith}
+use lib.ListN.{length}
 use lib.IntN.{ℤ, negsuc}
+use Rattle.cbor.proofs.ByteLaws.{past}
 use Rattle.ari.specs.Reader.{Limits, Answer, refuse, accept, aMessage, read}
 use Rattle.ari.specs.Listing.{Space, number, name, relative, Entry, listing}
-use Rattle.grants.specs.Grants.{Grant, passes, check, granted, Release, yes, no, judgeFrom, judge, release}
+use Rattle.grants.specs.Grants.{Grant, Check, passes, check, granted, Release, yes, no, judgeFrom, judge, release}
+use Rattle.grants.specs.Bytes.{rows, ragged, checkBytes, whole, releaseBytes}
 use Rattle.grants.proofs.Judged.{Row, Granted, granted-exactly-if, FirstHeld, judged-yes, judged-no}
 use Rattle.grants.proofs.Checked.{passes-exactly-if}
 
@@ -99,3 +102,31 @@ module _ (m : Limits) (t : List Grant) where
   -- So no message that names a private number is released for two different subscribers.
   pub private-for-one-only : {b : List ℕ} {s s′ : ℕ} {a : ℕ} → check t ≡ passes → Names b (negsuc a) → release m b t s ≡ yes → release m b t s′ ≡ yes → (s ≡ s′ → ⊥) → ⊥
   private-for-one-only c x f g n = private-number-once c n f g x x
+
+-- The same of a table as bytes. "such bytes are no grant table, and nothing is released"
+module _ (m : Limits) (t : List ℕ) where
+  pub ragged-releases-nothing : (b : List ℕ) (s : ℕ) → ragged t ≡ true → releaseBytes m b t s ≡ yes → ⊥
+  unfolding releaseBytes
+  ragged-releases-nothing b s r e = go (read m aMessage b) e
+    where
+      go : (a : Answer) → whole a t (release m b (rows t) s) ≡ yes → ⊥
+      go (refuse n p) q = let z : _≡_ {A = ℕ} 0 1 = cc in omega arith
+      go (accept n) q = let h : Release.refused 18 (length t / 16) ≡ yes = rw r at q in let z : _≡_ {A = ℕ} 0 1 = cc in omega arith
+
+  pub whole-rows : (b : List ℕ) (s : ℕ) → ragged t ≡ false → releaseBytes m b t s ≡ release m b (rows t) s
+  unfolding releaseBytes release
+  whole-rows b s r = go (read m aMessage b)
+    where
+      go : (a : Answer) → whole a t (judge a (granted (rows t) s) (listing b)) ≡ judge a (granted (rows t) s) (listing b)
+      go (refuse n p) = refl
+      go (accept n) = rw r
+
+  pub passing-bytes : checkBytes t ≡ passes → (ragged t ≡ false) × (check (rows t) ≡ passes)
+  unfolding checkBytes
+  passing-bytes e = past (ragged t) (Check.refused 18 (length t / 16)) (check (rows t)) (λ q. let z : _≡_ {A = ℕ} 0 1 = cc in omega arith) e
+
+  pub bytes-private-for-one-only : {b : List ℕ} {s s′ : ℕ} {a : ℕ} → checkBytes t ≡ passes → Names b (negsuc a) → releaseBytes m b t s ≡ yes → releaseBytes m b t s′ ≡ yes
+      → (s ≡ s′ → ⊥) → ⊥
+  bytes-private-for-one-only {b} {s} {s′} c x f g n =
+      let (w, p) = passing-bytes c in
+      private-for-one-only m (rows t) p x (rw (whole-rows b s w) at f) (rw (whole-rows b s′ w) at g) n
