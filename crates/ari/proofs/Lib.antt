@@ -12,3 +12,7 @@ pub mod Prefix
 pub mod Range
 pub mod Example
 pub mod Numbers
+pub mod Referring
+pub mod Listed
+pub mod ListingExample
+pub mod Named

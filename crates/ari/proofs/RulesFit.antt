@@ -119,7 +119,7 @@ module _ {k n : ℕ} {l : Lead} {str : List ℕ} (h : Holds k n l str) where
   any-fits : within 0 max64 n || false ≡ true
   any-fits = rw (within-is 0 max64 n (omega arith) held-64)
 
-fits-more : (k a : ℕ) (rs qs : List Row) → fits k a rs ≡ true → fits k a (rs ++ qs) ≡ true
+pub fits-more : (k a : ℕ) (rs qs : List Row) → fits k a rs ≡ true → fits k a (rs ++ qs) ≡ true
 fits-more k a [] qs e = cc
 fits-more k a (row k′ lo hi ∷ rs) qs e = go (eqb k k′ && within lo hi a) e (fits-more k a rs qs)
   where
@@ -173,10 +173,10 @@ here-target : (prev : List ℕ) {l : Lead} {str : List ℕ} {ms : Items} → Ref
 unfolding rule isContainer
 here-target prev r = here-held target prev refl (r .holds) no-test (array-fits 3 4 (r .count) (r .low) (r .high)) (r .inner-fit)
 
-less-one : (n : ℕ) → suc n - 1 ≡ n
+pub less-one : (n : ℕ) → suc n - 1 ≡ n
 less-one n = omega arith
 
-less-two : (n : ℕ) → suc (suc n) - 2 ≡ n
+pub less-two : (n : ℕ) → suc (suc n) - 2 ≡ n
 less-two n = omega arith
 
 mutual

@@ -59,7 +59,7 @@ forest (item l str ms rs) more (due s n) prev p d f =
     forest-item s p d l str ms rs (one-each ms false (members s l) [] q (suc d) (f .1)) (forest ms false (members s l) [] q (suc d) (f .1))
     (forest rs more (rule s .next (l .arg) n) (prevAfter s prev l str) (q + length (encode ms)) d (f .2))
 
--- So their first bytes rise, and of two spots the second lies within the first or behind it.
+-- So their first bytes rise, and of two spots the second lies within the first or behind it: behind it, if the first has no members.
 pub data All (P : Spot → Type 0) : List Spot → Type 0 where
   no-spot : All P []
   spot-too : {x : Spot} {xs : List Spot} → P x → All P xs → All P (x ∷ xs)
@@ -76,7 +76,7 @@ abbrev pub Between : ℕ → ℕ → Spot → Type 0
 Between lo hi x = (lo ≤ x .first) × (x .first < x .after) × (x .after ≤ hi)
 
 abbrev pub Later : Spot → Spot → Type 0
-Later x y = (x .first < y .first) × ((y .after ≤ x .after) ⊎ (x .after ≤ y .first))
+Later x y = (x .first < y .first) × ((y .after ≤ x .after) ⊎ (x .after ≤ y .first)) × (x .inside ≡ none → x .after ≤ y .first)
 
 abbrev pub Rising : List Spot → Type 0
 Rising [] = Unit {0}
@@ -95,12 +95,16 @@ between (tree {x = x} e a c f g) =
 
 rising-append : {lo mid hi : ℕ} {ys : List Spot} (xs : List Spot) → All (Between lo mid) xs → All (Between mid hi) ys → Rising xs → Rising ys → Rising (xs ++ ys)
 rising-append [] b c p q = q
-rising-append (x ∷ xs) (spot-too h b) c p q = (all-append (p .0) (all-map (λ y k. (omega arith, inr (omega arith))) c), rising-append xs b c (p .1) q)
+rising-append (x ∷ xs) (spot-too h b) c p q = (all-append (p .0) (all-map (λ y k. (omega arith, inr (omega arith), λ e. omega arith)) c), rising-append xs b c (p .1) q)
+
+inner-later : (x : Spot) (lo : ℕ) (xs : List Spot) → x .first < lo → length xs ≡ heads (x .inside) → All (Between lo (x .after)) xs → All (Later x) xs
+inner-later x lo [] l c b = no-spot
+inner-later x lo (y ∷ ys) l c b = all-map (λ z k. (omega arith, inl (k .2), λ e. absurd (omega (arith, ap heads e)))) b
 
 pub rising : {lo hi d : ℕ} {xs : List Spot} → Forest lo hi d xs → Rising xs
 rising nothing = tt
-rising (tree {xs = xs} e a c f g) = (
-  all-append (all-map (λ y b. (omega arith, inl (b .2))) (between f)) (all-map (λ y b. (omega (arith, forest-le f), inr (b .0))) (between g)),
+rising (tree {lo = lo} {x = x} {xs = xs} e a c f g) = (
+  all-append (inner-later x (insideAt lo (x .lead) (x .str)) xs (omega arith) c (between f)) (all-map (λ y b. (omega (arith, forest-le f), inr (b .0), λ q. b .0)) (between g)),
   rising-append xs (between f) (between g) (rising f) (rising g),
 )
 

@@ -5,3 +5,5 @@ pub mod Items
 pub mod Decode
 pub mod Rules
 pub mod Limits
+pub mod Listing
+pub mod References

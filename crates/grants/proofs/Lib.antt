@@ -1,0 +1,5 @@
+pub mod Judged
+pub mod Checked
+pub mod Clause
+pub mod Signed
+pub mod Ways

@@ -1,0 +1,72 @@
+-- The grant table, its check, and release: document 01, 'Grants'.
+use Prim.Native.Nat.{ℕ, suc}
+use mathlib.Core.Bool.{Bool, true, false, not, _&&_, _||_, cond}
+use mathlib.Core.List.{List, [], _∷_, _++_}
+use lib.IntN.{ℤ, pos, negsuc}
+use lib.Dec.{eqb}
+use Rattle.ari.specs.Reader.{Limits, Answer, refuse, accept, aMessage, read}
+use Rattle.ari.specs.Listing.{Space, number, name, relative, Entry, listing}
+
+-- "a lent list of grant records, each a subscriber and a namespace number, of any length, in any order"
+pub record Grant : Type 0 where
+  pub subscriber : ℕ
+  pub namespace : ℤ
+
+abbrev pub some : (Grant → Bool) → List Grant → Bool
+some p [] = false
+some p (g ∷ gs) = p g || some p gs
+
+abbrev pub same : ℤ → ℤ → Bool
+same (pos a) (pos b) = eqb a b
+same (pos a) (negsuc b) = false
+same (negsuc a) (pos b) = false
+same (negsuc a) (negsuc b) = eqb a b
+
+abbrev pub below0 : ℤ → Bool
+below0 (pos a) = false
+below0 (negsuc a) = true
+
+-- "two rows with different subscribers carry the same negative namespace"
+abbrev pub clash : Grant → Grant → Bool
+clash g h = not (eqb (h .subscriber) (g .subscriber)) && (same (h .namespace) (g .namespace) && below0 (g .namespace))
+
+pub data Check : Type 0 where
+  passes : Check
+  refused : ℕ → ℕ → Check  -- number, row
+
+-- "Its check answers 18 exactly if two rows" clash; "the number is the first row, counted from 0, that has such a partner among the rows
+-- before it. Equal rows are allowed."
+abbrev pub checkFrom : List Grant → ℕ → List Grant → Check
+checkFrom before i [] = passes
+checkFrom before i (g ∷ gs) = let r = checkFrom (before ++ (g ∷ [])) (suc i) gs in cond (some (clash g) before) (refused 18 i) r
+
+unfoldable pub check : List Grant → Check
+check = checkFrom [] 0
+
+-- "some row holds both"
+abbrev pub holds : ℕ → ℤ → Grant → Bool
+holds s z g = eqb (g .subscriber) s && same (g .namespace) z
+
+-- "A number is granted to a subscriber exactly if some row holds both." "Names and relative references are never granted here."
+abbrev pub granted : List Grant → ℕ → Space → Bool
+granted t s (number z) = some (holds s z) t
+granted t s (name p n) = false
+granted t s relative = false
+
+-- "the message's refusal, or yes, or no with the number of the first listed entry that isn't granted, entries from 0"
+pub data Release : Type 0 where
+  refused : ℕ → ℕ → Release  -- number, place
+  yes : Release
+  no : ℕ → Release
+
+abbrev pub judgeFrom : (Space → Bool) → ℕ → List Entry → Release
+judgeFrom ok i [] = yes
+judgeFrom ok i (e ∷ es) = let r = judgeFrom ok (suc i) es in cond (ok (e .space)) r (no i)
+
+abbrev pub judge : Answer → (Space → Bool) → List Entry → Release
+judge (refuse r p) ok es = refused r p
+judge (accept n) ok es = judgeFrom ok 0 es
+
+-- "Release takes a message, the table and a subscriber". It doesn't run the table's check.
+unfoldable pub release : Limits → List ℕ → List Grant → ℕ → Release
+release m b t s = judge (read m aMessage b) (granted t s) (listing b)

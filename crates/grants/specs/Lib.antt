@@ -1,0 +1,3 @@
+pub mod Grants
+pub mod Bytes
+pub mod Verdict

@@ -1,0 +1,9 @@
+-- What the functions answer, in the paper's numbers.
+use Rattle.grants.specs.declared.Verdict.{Verdict}
+use Rattle.grants.specs.declared.Verdict.the-variants.{Passes, Refused}
+use Rattle.grants.specs.Grants.{Check, passes, refused}
+
+-- the table passes, or 18 with a row
+abbrev pub said : Verdict → Check
+said Passes = passes
+said (Refused i) = refused 18 i
