@@ -7,7 +7,6 @@ use lib.ListN.{length, take, drop}
 use lib.Dec.{leb, eqb}
 use Rattle.cbor.specs.Byte.{within}
 use Rattle.cbor.specs.Head.{unsigned, negative, bytes, text, array, map, simple, Lead, shortest}
-use Rattle.ari.specs.Name.{startsName}
 use Rattle.ari.specs.Table.{max64, Slot, version, ari, type, value, namespace, objectNamespace, objectType, objectId, params, key, entry, nonce, setTime, target, report, reportTime, reportSource, Level, done, due, rule, members}
 use Rattle.ari.specs.Reader.{Limits}
 use Rattle.ari.specs.Items.{Items, none, item}
@@ -18,6 +17,9 @@ use Rattle.text.specs.Text.{Name, name, names, spell, outermost}
 -- Words end at ( ) , / =
 unfoldable pub ends : ℕ → Bool
 ends x = eqb x (code "(") || (eqb x (code ")") || (eqb x (code ",") || (eqb x (code "/") || eqb x (code "="))))
+
+unfoldable pub inWord : ℕ → Bool
+inWord x = not (ends x)
 
 -- the bytes before the first that ends a word; from there on
 unfoldable pub front : List ℕ → List ℕ
@@ -92,8 +94,11 @@ literalOf u =
     (cond (starts (code "n") u) (headOf simple 22 [])
     (cond (starts (code "u") u) (headOf simple 23 []) (integerOf u))))))
 
+unfoldable pub startsNumber : ℕ → Bool
+startsNumber x = within 48 57 x || eqb x (code "-")
+
 unfoldable pub nameOf : List ℕ → Headed
-nameOf u = cond (startsBy startsName u || starts (code "!") u) (stringOf text u) (integerOf u)
+nameOf u = cond (startsBy startsNumber u) (integerOf u) (stringOf text u)
 
 abbrev pub same : List ℕ → List ℕ → Bool
 same [] [] = true
@@ -136,7 +141,7 @@ takeGroup k t = record { head = headOf k (count (drop 1 t)) []; rest = drop 1 t 
 
 -- the parts of a reference, from behind its namespace
 unfoldable pub parts : List ℕ → ℕ
-parts t = cond (startsBy (λ x. not (ends x)) t) (cond (starts (code "(") (past (drop 1 (past t)))) 4 3) 1
+parts t = cond (startsBy inWord t) (cond (starts (code "(") (past (drop 1 (past t)))) 4 3) 1
 
 -- a reference, whose namespace ends where r begins
 abbrev pub takeReference : List ℕ → List ℕ → Taken
