@@ -36,7 +36,7 @@ word-at (x ∷ u) r e h =
     (rw (n, i .0), rw (n, i .1))
 
 -- a test that fails at c
-differs : (p : ℕ → Bool) (c : ℕ) → p c ≡ false → (x : ℕ) → p x ≡ true → eqb x c ≡ false
+pub differs : (p : ℕ → Bool) (c : ℕ) → p c ≡ false → (x : ℕ) → p x ≡ true → eqb x c ≡ false
 differs p c e x h = ne-eqb x c (λ q. true≢false (sym h ∙ ap p q ∙ e))
 
 -- what starts so starts with no c, starts so with more behind it, and starts so by a weaker test
@@ -55,11 +55,11 @@ unfolding startsBy
 starts-weaken p q f [] e = e
 starts-weaken p q f (x ∷ u) e = f x e
 
-avoid : (p : ℕ → Bool) → p 40 ≡ false → p 41 ≡ false → p 44 ≡ false → p 47 ≡ false → p 61 ≡ false → (x : ℕ) → p x ≡ true → inWord x ≡ true
+pub avoid : (p : ℕ → Bool) → p 40 ≡ false → p 41 ≡ false → p 44 ≡ false → p 47 ≡ false → p 61 ≡ false → (x : ℕ) → p x ≡ true → inWord x ≡ true
 unfolding inWord ends
 avoid p a b c d e x h = rw (differs p 40 a x h, differs p 41 b x h, differs p 44 c x h, differs p 47 d x h, differs p 61 e x h)
 
-all-weaken : (p q : ℕ → Bool) → ((x : ℕ) → p x ≡ true → q x ≡ true) → (u : List ℕ) → all p u ≡ true → all q u ≡ true
+pub all-weaken : (p q : ℕ → Bool) → ((x : ℕ) → p x ≡ true → q x ≡ true) → (u : List ℕ) → all p u ≡ true → all q u ≡ true
 all-weaken p q f [] e = refl
 all-weaken p q f (x ∷ u) e = let (a, b) = and-true (p x) (all p u) e in rw (f x a, all-weaken p q f u b)
 

@@ -12,7 +12,7 @@ use Rattle.ari.specs.Reader.{Limits}
 use Rattle.ari.specs.Items.{Items, none, item}
 use Rattle.ari.specs.Decode.{Headed}
 use Rattle.text.specs.Chars.{ascii}
-use Rattle.text.specs.Text.{Name, name, names, spell, outermost}
+use Rattle.text.specs.Text.{Name, name, names, spell, anAriDue}
 
 -- Words end at ( ) , / =
 unfoldable pub ends : ℕ → Bool
@@ -110,9 +110,12 @@ abbrev pub numberIn : List Name → List ℕ → ℕ
 numberIn [] u = 0
 numberIn (name n s ∷ es) u = cond (same u (ascii s)) n (numberIn es u)
 
-unfoldable pub typeOf : List ℕ → Headed
+unfoldable pub typeNumber : List ℕ → ℕ
 unfolding names
-typeOf u = headOf unsigned (numberIn names u) []
+typeNumber = numberIn names
+
+unfoldable pub typeOf : List ℕ → Headed
+typeOf u = headOf unsigned (typeNumber u) []
 
 -- Members counted ahead. The parentheses open after a byte, up to where those that were open are closed
 unfoldable pub opened : ℕ → ℕ → ℕ
@@ -202,4 +205,4 @@ parse k zero v t = nothing t
 parse k (suc d) v t = level (parse k d) k v t
 
 unfoldable pub candidate : Limits → List ℕ → Items
-candidate l t = parse (l .items) (suc (l .containers)) outermost (cond (starts (code ".") t) t (drop 4 t)) .items
+candidate l t = parse (l .items) (suc (l .containers)) anAriDue (cond (starts (code ".") t) t (drop 4 t)) .items

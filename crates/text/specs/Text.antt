@@ -6,7 +6,7 @@ use mathlib.Core.Bool.{Bool, false, _&&_, _||_, cond}
 use mathlib.Core.List.{List, [], _∷_, _++_}
 use lib.Dec.{leb, eqb}
 use Rattle.cbor.specs.Head.{array, simple, half, Lead, isContainer}
-use Rattle.ari.specs.Table.{alone, Slot, version, ari, type, value, namespace, objectNamespace, objectType, objectId, params, key, entry, nonce, setTime, target, report, reportTime, reportSource, Level, done, due, rule, members}
+use Rattle.ari.specs.Table.{alone, inside, Slot, version, ari, type, value, namespace, objectNamespace, objectType, objectId, params, key, entry, nonce, setTime, target, report, reportTime, reportSource, Level, done, due, rule, members}
 use Rattle.ari.specs.Items.{Items, none, item, Spot, spots}
 use Rattle.text.specs.Chars.{ascii, literalText, nameText}
 
@@ -106,13 +106,13 @@ isRelative none = false
 isRelative (item l s none rs) = false
 isRelative (item l s (item l₁ s₁ m₁ r₁) rs) = eqb (l .kind) array && eqb (l₁ .kind) simple
 
--- what is due first
-abbrev pub outermost : Level
-outermost = due (ari alone) 0
+-- An ARI's text is the same wherever it stands.
+abbrev pub anAriDue : Level
+anAriDue = due (ari inside) 0
 
 -- "Outermost `ari:`, except before a relative reference."
 unfoldable pub textOf : Items → List ℕ
-textOf g = cond (isRelative g) [] (ascii "ari:") ++ texts g outermost
+textOf g = cond (isRelative g) [] (ascii "ari:") ++ texts g anAriDue
 
 -- Whether there is a text form; the place where there is none
 pub data Form : Type 0 where
@@ -135,4 +135,4 @@ isSet (item l s (item l₁ s₁ m₁ r₁) rs) = eqb (l .kind) array && (eqb (l 
 
 -- test 14
 unfoldable pub form : Items → Form
-form g = cond (isSet g) (none-at 0) (floatIn (spots g false outermost 0 0))
+form g = cond (isSet g) (none-at 0) (floatIn (spots g false (due (ari alone) 0) 0 0))
