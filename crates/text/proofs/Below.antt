@@ -87,7 +87,7 @@ ari-deep w a h = go (eqb a 2)
     go true = h
     go false = reference-deep a
 
-value-deep : (t : ℕ) (w : Place) (a : ℕ) → deep (value t w) ≡ true → (valueLevel t w a ≡ many (ari w) a) × (not (outermost w) ≡ true)
+pub value-deep : (t : ℕ) (w : Place) (a : ℕ) → deep (value t w) ≡ true → (valueLevel t w a ≡ many (ari w) a) × (not (outermost w) ≡ true)
 value-deep t w a h =
     let (p, q) = and-true (not (isSetType t)) (not (outermost w)) h in
     let (x, y) = or-false (eqb t 20) (eqb t 21) (not-true (isSetType t) p) in

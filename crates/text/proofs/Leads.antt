@@ -21,7 +21,7 @@ use Rattle.ari.specs.Rules.{Plain, Namespace, NamespaceOrNull, ObjectType, Obje
 use Rattle.ari.proofs.Rows.{every, FitsBy, fits-by, leafRow, no-container, one-kind, everyEntry}
 use Rattle.text.specs.Text.{names, typeName, isFloat}
 use Rattle.text.specs.Chars.{literalText, nameText}
-use Rattle.text.specs.Parse.{ends, inWord, startsBy, leadOf, headOf, literalOf, startsNumber, nameOf, typeNumber, typeOf}
+use Rattle.text.specs.Parse.{ends, inWord, startsBy, leadOf, headOf, literalOf, startsNumber, nameOf, valueOf, typeNumber, typeOf}
 use Rattle.text.proofs.Words.{avoid, starts-weaken, Integer, plus, minus, Literal, whole, octets, chars, no-value, yes-value, null-value, undefined-value, literal-word, startsLiteral, literal-starts, literal-back, Named, numbered, lettered, named-word, named-starts, named-back}
 
 -- a head in its shortest form is the one that is read back
@@ -256,9 +256,6 @@ text-name l s z = rw z
 
 abbrev pub valueText : ℕ → Lead → List ℕ → List ℕ
 valueText t l s = cond (eqb t 14) s (literalText l s)
-
-abbrev pub valueOf : ℕ → List ℕ → Headed
-valueOf t u = cond (eqb t 14) (nameOf u) (literalOf u)
 
 pub value-spelled : (t : ℕ) {l : Lead} {s : List ℕ} {ms : Items} → Plain (valueRows t types) (valueSpelling t) l s ms
     → isContainer (l .kind) ≡ false → isFloat l ≡ false → all isByte s ≡ true → Word (valueOf t) (valueText t l s) l s

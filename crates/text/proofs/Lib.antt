@@ -4,4 +4,6 @@ pub mod Leads
 pub mod Below
 pub mod Slots
 pub mod Tally
+pub mod Ahead
+pub mod Back
 pub mod Example

@@ -8,6 +8,7 @@ use Rattle.cbor.specs.Byte.{all, isByte}
 use Rattle.cbor.specs.Head.{unsigned, array, Lead, Sound, isContainer}
 use Rattle.ari.specs.Table.{Place, Slot, ari, type, value, namespace, objectNamespace, objectType, objectId, key, entry, literals, types, valueRows, valueSpelling, done, rule, members}
 use Rattle.ari.specs.Items.{Items, none, item}
+use Rattle.ari.specs.Rules
 use Rattle.ari.specs.Rules.{Plain, Holds, Ari, literal, namespace-ref, typed, object-ref, Object, plain, with-params}
 use Rattle.ari.proofs.Due.{Good, Fit, members-leaf}
 use Rattle.ari.proofs.Rows.{no-container, type-leaf}
@@ -15,9 +16,9 @@ use Rattle.ari.proofs.RulesFit.{Here, here-as, alike-sym, entry-alike}
 use Rattle.ari.proofs.FitRules.{here, of-plain, of-ari, of-array}
 use Rattle.text.specs.Chars.{literalText, nameText}
 use Rattle.text.specs.Text.{typeName, isFloat}
-use Rattle.text.specs.Parse.{headOf, literalOf, nameOf, typeOf}
+use Rattle.text.specs.Parse.{headOf, literalOf, nameOf, valueOf, typeOf}
 use Rattle.text.proofs.Words.{Literal}
-use Rattle.text.proofs.Leads.{head-is, literal-case, namespace-named, type-named, id-named, Space, space-case, Word, literal-spelled, name-spelled, type-word, valueText, valueOf, value-spelled, no-string, sized-as}
+use Rattle.text.proofs.Leads.{head-is, literal-case, namespace-named, type-named, id-named, Space, space-case, Word, literal-spelled, name-spelled, type-word, valueText, value-spelled, no-string, sized-as}
 
 nothing : (g : Items) → Fit g false done [] → g ≡ none
 nothing none f = refl
@@ -27,14 +28,17 @@ nothing (item l s ms rs) f = absurd f
 pub leaf-none : {t : Slot} {prev : List ℕ} {l : Lead} {s : List ℕ} {ms : Items} → Here t prev l s ms → isContainer (l .kind) ≡ false → ms ≡ none
 leaf-none {t} {l = l} {ms = ms} h c = nothing ms (rw (members-leaf t l c) at (h .holds))
 
+pub literal-leaf : {l : Lead} {s : List ℕ} {ms : Items} → Rules.Literal l s ms → isContainer (l .kind) ≡ false
+unfolding isContainer
+literal-leaf {l} p = no-container (l .kind) (l .arg) literals refl (p .fitting)
+
 -- an ARI that is no array is a literal
 not-held : {n : ℕ} {l : Lead} {s : List ℕ} → Holds array n l s → eqb (l .kind) array ≡ false → ⊥
 not-held h n = true≢false (rw (h .kind-is) at n)
 
 pub literal-here : {w : Place} {l : Lead} {s : List ℕ} {ms : Items} → Ari w l s ms → eqb (l .kind) array ≡ false → isFloat l ≡ false → all isByte s ≡ true
     → Literal (l .kind) (l .arg) s × (Sound l) × (ms ≡ none)
-unfolding isContainer
-literal-here {l = l} (literal r p) n f b = (literal-case p refl (no-container (l .kind) (l .arg) literals refl (p .fitting)) f, p .head, p .bare)
+literal-here (literal r p) n f b = (literal-case p refl (literal-leaf p) f, p .head, p .bare)
 literal-here (namespace-ref r h p) n f b = absurd (not-held h n)
 literal-here (typed h t v) n f b = absurd (not-held h n)
 literal-here (object-ref r (plain h x y z)) n f b = absurd (not-held h n)

@@ -100,6 +100,10 @@ startsNumber x = within 48 57 x || eqb x (code "-")
 unfoldable pub nameOf : List ℕ → Headed
 nameOf u = cond (startsBy startsNumber u) (integerOf u) (stringOf text u)
 
+-- the value of a type: a LABEL is bare
+abbrev pub valueOf : ℕ → List ℕ → Headed
+valueOf t u = cond (eqb t 14) (nameOf u) (literalOf u)
+
 abbrev pub same : List ℕ → List ℕ → Bool
 same [] [] = true
 same [] (y ∷ v) = false
@@ -163,8 +167,7 @@ unfoldable pub takeAt : Slot → List ℕ → Taken
 takeAt version t = takeNothing t
 takeAt (ari w) t = takeAri t
 takeAt (type w) t = takeWord typeOf t
-takeAt (value y w) t =
-    cond (starts (code "(") t) (takeGroup (cond (eqb y 17) array map) t) (cond (eqb y 14) (takeWord nameOf t) (takeWord literalOf t))
+takeAt (value y w) t = cond (starts (code "(") t) (takeGroup (cond (eqb y 17) array map) t) (takeWord (valueOf y) t)
 takeAt namespace t = takeWord nameOf (drop 2 t)
 takeAt (objectNamespace p) t = cond (starts (code ".") t) (takeWord (λ u. headOf simple 22 []) t) (takeWord nameOf (drop 2 t))
 takeAt (objectType p) t = takeWord nameOf t

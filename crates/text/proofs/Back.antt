@@ -1,0 +1,243 @@
+-- The text of items below the outermost is read back as these items.
+use Prim.Native.Nat.{ℕ, zero, suc, pred, _+_, _≤_, max}
+use Prim.Native.Char.{code}
+use mathlib.Core.Path.{_≡_, refl, sym, _∙_, ap}
+use mathlib.Core.Bool.{Bool, true, false, not, _&&_, _||_, cond, true≢false}
+use mathlib.Core.List.{List, [], _∷_, _++_, append-assoc, append-nil}
+use native.Mathlib.Omega.{arith}
+use lib.ListN.{length, drop}
+use lib.Seq.{drop-at}
+use lib.Dec.{eqb}
+use borrow.Author.Tests.{eqb-true, eqb-false, ne-eqb, eq-eqb}
+use Rattle.cbor.specs.Byte.{all, isByte}
+use Rattle.cbor.specs.Head.{array, map, simple, Lead, Sound, isContainer}
+use Rattle.cbor.proofs.ByteLaws.{and-true, or-false, not-true, within-true}
+use Rattle.ari.specs.Table.{Place, param, outermost, Row, row, Slot, version, ari, type, value, namespace, objectNamespace, objectType, objectId, params, key, entry, nonce, setTime, target, report, reportTime, reportSource, Level, done, due, many, types, rule, members, valueLevel}
+use Rattle.ari.specs.Items.{Items, none, item, heads, depth}
+use Rattle.ari.specs.Decode.{Headed}
+use Rattle.ari.proofs.Due.{Good, Fit, prevAfter, members-leaf, container-string}
+use Rattle.ari.proofs.Rows.{fits-by, ArrayType, collection, orders, answers, array-type, map-type}
+use Rattle.ari.proofs.RulesFit.{Here, here-as, alike-sym, entry-alike}
+use Rattle.ari.proofs.FitRules.{here}
+use Rattle.text.specs.Chars.{literalText, nameText}
+use Rattle.text.specs.Text.{comma, anAri, spell, texts, typeName, isFloat}
+use Rattle.text.specs.Parse.{ends, inWord, past, startsBy, starts, headOf, commas, count, Taken, takeWord, takeGroup, takeAri, takeAt, Run, level, parse}
+use Rattle.text.proofs.Words.{halts, word-at, begins, starts-more, named-word, named-back}
+use Rattle.text.proofs.Leads.{isSetType, head-is, no-string, Space, relative, absolute as from, Word, name-spelled, valueText}
+use Rattle.text.proofs.Below.{Spells, deep, deepLevel, next-deep, members-deep, value-deep}
+use Rattle.text.proofs.Slots.{ari-here, entry-here, space-here, type-here, namespace-here, objectType-here, objectId-here, key-here, value-here}
+use Rattle.text.proofs.Tally.{commas-end, commasDue, atFirst, layout, tallied}
+use Rattle.text.proofs.Ahead.{stops, stop-halt, take-word, Seen, ari-seen}
+
+-- behind an ARI stands what may
+comma-stops : (s : Slot) (n : ℕ) (g : Items) (prev r : List ℕ) → Fit g false (many s n) prev → stops r ≡ true → stops (comma (many s n) ++ (texts g (many s n) ++ r)) ≡ true
+unfolding stops
+comma-stops s zero none prev r f h = h
+comma-stops s zero (item l str ms rs) prev r f h = absurd f
+comma-stops s (suc n) g prev r f h = refl
+
+-- how the members of a group begin
+module _ (w : Place) (m : ℕ) (prev : List ℕ) (r : List ℕ) (h : stops r ≡ true) where
+  ari-first : (g : Items) → Fit g false (due (ari w) m) prev → Spells g
+      → (starts 41 (texts g (due (ari w) m) ++ r) ≡ false) × (starts 61 (past (texts g (due (ari w) m) ++ r)) ≡ false)
+  unfolding spell rule
+  ari-first none f q = absurd f
+  ari-first (item l s ms rs) f q =
+      let z : stops (comma (many (ari w) m) ++ (texts rs (many (ari w) m) ++ r)) ≡ true = comma-stops (ari w) m rs (prevAfter (ari w) prev l s) r (f .2) h in
+      let x = ari-seen (ari-here (here {prev = prev} {ms = ms} (f .0) (f .1))) (q .0) (q .1) (comma (many (ari w) m) ++ (texts rs (many (ari w) m) ++ r)) z in
+      rw (layout l s ms rs (ari w) m r) (x .end-not, x .key-not)
+
+  key-first : (g : Items) → Fit g false (due (key w) m) prev → Spells g
+      → (starts 41 (texts g (due (key w) m) ++ r) ≡ false) × (starts 61 (past (texts g (due (key w) m) ++ r)) ≡ true)
+  unfolding spell rule
+  key-first none f q = absurd f
+  key-first (item l s ms rs) f q =
+      let (x, b) = key-here (q .0) (q .1) (here {prev = prev} {ms = ms} (f .0) (f .1)) in
+      let t : List ℕ = 61 ∷ (texts rs (due (entry w) m) ++ r) in
+      rw (layout l s ms rs (key w) m r, b) (
+        begins inWord 41 (literalText l s ++ t) (starts-more inWord (literalText l s) t (x .begins)) (unfold inWord ends in refl),
+        rw (word-at (literalText l s) t (x .letters) (unfold halts ends in refl) .1) (unfold startsBy in refl),
+      )
+
+-- a group's members, counted
+counted : (s : Slot) → ((m : ℕ) → commasDue (due s m) ≡ m) → deep s ≡ true → (n : ℕ) (g : Items) (r : List ℕ) → Fit g false (many s n) [] → Spells g
+    → ((m : ℕ) → Fit g false (due s m) [] → starts 41 (texts g (due s m) ++ (41 ∷ r)) ≡ false) → count (texts g (many s n) ++ (41 ∷ r)) ≡ n
+unfolding count startsBy
+counted s c d zero none r f q o = refl
+counted s c d zero (item l str ms rs) r f q o = absurd f
+counted s c d (suc n) g r f q o =
+    rw (o n f, tallied g (due s n) [] f q d 0 (41 ∷ r), commas-end r) (omega (arith, c n))
+
+-- a word without members; a group
+word-back : {f : List ℕ → Headed} {u : List ℕ} {l : Lead} {s : List ℕ} (ms : Items) (v : Level) (r : List ℕ) → Word f u l s × (ms ≡ none) → halts r ≡ true
+    → takeWord f (u ++ (texts ms v ++ r)) ≡ record { head = record { lead = l; str = s }; rest = texts ms v ++ r }
+word-back ms v r (w, b) h = rw b (take-word w r h)
+
+group-back : {l : Lead} {s : List ℕ} (k : ℕ) (t : List ℕ) → Sound l → isFloat l ≡ false → s ≡ [] → l .kind ≡ k → count t ≡ l .arg
+    → takeGroup k (40 ∷ t) ≡ record { head = record { lead = l; str = s }; rest = t }
+group-back {l} {s} k t h f e z c =
+    ap (λ (x : Headed). record { head = x; rest = t })
+    (ap (λ (n : ℕ). headOf k n []) c ∙ ap (λ (n : ℕ). headOf n (l .arg) []) (sym z) ∙ ap (headOf (l .kind) (l .arg)) (sym e) ∙ head-is s h f)
+
+members-array : (t : Slot) (l : Lead) → l .kind ≡ array → members t l ≡ rule t .inArray (l .arg)
+unfolding members
+members-array t l z = rw z
+
+members-map : (t : Slot) (l : Lead) → l .kind ≡ map → members t l ≡ rule t .inMap (l .arg)
+unfolding members
+members-map t l z = rw z
+
+count-aris : (w : Place) → not (outermost w) ≡ true → (n : ℕ) (g : Items) (r : List ℕ) → Fit g false (many (ari w) n) [] → Spells g
+    → count (texts g (many (ari w) n) ++ (41 ∷ r)) ≡ n
+count-aris w d n g r f q = counted (ari w) (λ m. refl) d n g r f q (λ m e. ari-first w m [] (41 ∷ r) (unfold stops in refl) g e q .0)
+
+count-keys : (w : Place) → not (outermost w) ≡ true → (n : ℕ) (g : Items) (r : List ℕ) → Fit g false (many (key w) n) [] → Spells g
+    → count (texts g (many (key w) n) ++ (41 ∷ r)) ≡ n
+count-keys w d n g r f q = counted (key w) (λ m. refl) d n g r f q (λ m e. key-first w m [] (41 ∷ r) (unfold stops in refl) g e q .0)
+
+-- arrays and maps
+container-kind : (k : ℕ) → isContainer k ≡ true → eqb k array ≡ false → k ≡ map
+unfolding isContainer
+container-kind k c e = let (p, q) = within-true 4 5 k c in let n : k ≡ 4 → ⊥ = eqb-false k 4 e in omega arith
+
+container-bare : {t : Slot} {prev : List ℕ} {l : Lead} {s : List ℕ} → Good t prev l s → isContainer (l .kind) ≡ true → s ≡ []
+container-bare {l = l} {s = s} g c = no-string s (g .sized ∙ container-string l c)
+
+-- what a group holds, at a place
+data Held (w : Place) (t : Slot) (l : Lead) : Type 0 where
+  a-list : l .kind ≡ array → members t l ≡ many (ari w) (l .arg) → Held w t l
+  a-table : l .kind ≡ map → members t l ≡ many (key w) (l .arg) → Held w t l
+
+held-count : {w : Place} {t : Slot} {l : Lead} (ms : Items) → Held w t l → not (outermost w) ≡ true → Fit ms false (members t l) [] → Spells ms → (r : List ℕ)
+    → count (texts ms (members t l) ++ (41 ∷ r)) ≡ l .arg
+held-count {w} {l = l} ms (a-list z y) d f q r = rw y (count-aris w d (l .arg) ms r (rw y at f) q)
+held-count {w} {l = l} ms (a-table z y) d f q r = rw y (count-keys w d (l .arg) ms r (rw y at f) q)
+
+-- the group of AC or AM
+value-held : (t : ℕ) (w : Place) {prev : List ℕ} {l : Lead} {s : List ℕ} → Good (value t w) prev l s → deep (value t w) ≡ true → isContainer (l .kind) ≡ true
+    → Held w (value t w) l × (l .kind ≡ cond (eqb t 17) array map)
+unfolding rule
+value-held t w {prev} {l} {s} g d c = go (eqb (l .kind) array) refl
+  where
+    seventeen : ArrayType t (l .arg) → t ≡ 17
+    seventeen (collection e) = e
+    seventeen (orders e n) = absurd (true≢false (sym (rw e at d)))
+    seventeen (answers e n) = absurd (true≢false (sym (rw e at d)))
+
+    go : (b : Bool) → eqb (l .kind) array ≡ b → Held w (value t w) l × (l .kind ≡ cond (eqb t 17) array map)
+    go true e =
+        let z : l .kind ≡ array = eqb-true (l .kind) array e in
+        (a-list z (members-array (value t w) l z ∙ value-deep t w (l .arg) d .0), z ∙ rw (seventeen (array-type t (l .arg) (rw z at (g .fitting)))))
+    go false e =
+        let z : l .kind ≡ map = container-kind (l .kind) c e in
+        (a-table z (members-map (value t w) l z), z ∙ rw (map-type t (l .arg) (rw z at (g .fitting))))
+
+-- the group of parameters, which are not empty
+groupRow : Row → Bool
+groupRow (row k lo hi) = isContainer k
+
+params-held : {prev : List ℕ} {l : Lead} {s : List ℕ} (ms : Items) → Good params prev l s → Fit ms false (members params l) [] → Spells ms → (r : List ℕ)
+    → Held param params l × (isContainer (l .kind) ≡ true) × (l .kind ≡ cond (starts 61 (past (texts ms (members params l) ++ (41 ∷ r)))) map array)
+unfolding rule groupRow isContainer
+params-held {l = l} ms g f q r = go (eqb (l .kind) array) refl
+  where
+    c : isContainer (l .kind) ≡ true
+    c = fits-by groupRow (l .kind) (l .arg) (rule params .rows) refl (g .fitting) .holds
+
+    some : (n : ℕ) → l .arg ≡ n → l .arg ≡ suc (pred n)
+    some zero e = absurd (eqb-false (l .arg) 0 (g .filled) e)
+    some (suc n) e = e
+
+    m : l .arg ≡ suc (pred (l .arg))
+    m = some (l .arg) refl
+
+    go : (b : Bool) → eqb (l .kind) array ≡ b
+        → Held param params l × (isContainer (l .kind) ≡ true) × (l .kind ≡ cond (starts 61 (past (texts ms (members params l) ++ (41 ∷ r)))) map array)
+    go true e =
+        let z : l .kind ≡ array = eqb-true (l .kind) array e in
+        let y : members params l ≡ many (ari param) (l .arg) = members-array params l z in
+        let x : members params l ≡ due (ari param) (pred (l .arg)) = y ∙ ap (many (ari param)) m in
+        (a-list z y, c, z ∙ rw x (rw (ari-first param (pred (l .arg)) [] (41 ∷ r) (unfold stops in refl) ms (rw x at f) q .1)))
+    go false e =
+        let z : l .kind ≡ map = container-kind (l .kind) c e in
+        let y : members params l ≡ many (key param) (l .arg) = members-map params l z in
+        let x : members params l ≡ due (key param) (pred (l .arg)) = y ∙ ap (many (key param)) m in
+        (a-table z y, c, z ∙ rw x (rw (key-first param (pred (l .arg)) [] (41 ∷ r) (unfold stops in refl) ms (rw x at f) q .1)))
+
+-- behind a level's last item
+done-halts : (rs : Items) (prev r : List ℕ) → Fit rs false done prev → stops r ≡ true → halts (texts rs done ++ r) ≡ true
+done-halts none prev r f h = stop-halt r h
+done-halts (item l s ms rs) prev r f h = absurd f
+
+id-halts : (p : Bool) (rs : Items) (prev r : List ℕ) → Fit rs false (cond p (due params 0) done) prev → stops r ≡ true
+    → halts (texts rs (cond p (due params 0) done) ++ r) ≡ true
+unfolding halts ends spell
+id-halts true none prev r f h = absurd f
+id-halts true (item l s ms rs) prev r f h = refl
+id-halts false rs prev r f h = done-halts rs prev r f h
+
+null-spelled : {l : Lead} {s : List ℕ} → Sound l → isFloat l ≡ false → l .kind ≡ simple → l .arg ≡ 22 → s ≡ [] → Word (λ u. headOf simple 22 []) (46 ∷ []) l s
+unfolding inWord ends startsBy
+null-spelled {l} {s} h f k a e = record {
+  letters = refl;
+  begins = refl;
+  back = ap (λ (n : ℕ). headOf n 22 []) (sym k) ∙ ap (λ (n : ℕ). headOf (l .kind) n []) (sym a) ∙ ap (headOf (l .kind) (l .arg)) (sym e) ∙ head-is s h f;
+}
+
+-- what stands behind what a head writes before its members
+abbrev pub behind : Slot → ℕ → Lead → Items → Items → List ℕ → List ℕ
+behind t n l ms rs r = texts ms (members t l) ++ (spell t .after l (rule t .next (l .arg) n) ++ (texts rs (rule t .next (l .arg) n) ++ r))
+
+-- A head is read back.
+module _ (n : ℕ) (prev : List ℕ) (l : Lead) (s : List ℕ) (ms rs : Items) (q : Spells (item l s ms rs)) (r : List ℕ) (h : stops r ≡ true) where
+  pub head-back : (t : Slot) → Fit (item l s ms rs) false (due t n) prev → deep t ≡ true
+      → takeAt t (spell t .before l s ++ behind t n l ms rs r) ≡ record { head = record { lead = l; str = s }; rest = behind t n l ms rs r }
+  unfolding takeAt spell rule members startsBy
+  head-back version f d = absurd (true≢false (sym d))
+  head-back (ari w) f d =
+      ari-seen (ari-here (here {prev = prev} {ms = ms} (f .0) (f .1))) (q .0) (q .1) _ (comma-stops (ari w) n rs (prevAfter (ari w) prev l s) r (f .2) h) .taken
+  head-back (type w) f d = word-back ms (members (type w) l) _ (type-here (q .0) (here {prev = prev} {ms = ms} (f .0) (f .1))) (unfold halts ends in refl)
+  head-back (value t w) f d = go (isContainer (l .kind)) refl
+    where
+      x : List ℕ
+      x = texts ms (members (value t w) l)
+
+      y : List ℕ
+      y = texts rs done ++ r
+
+      go : (c : Bool) → isContainer (l .kind) ≡ c
+          → takeAt (value t w) (cond c (40 ∷ []) (valueText t l s) ++ (x ++ (cond c (41 ∷ []) [] ++ y))) ≡ record { head = record { lead = l; str = s }; rest = x ++ (cond c (41 ∷ []) [] ++ y) }
+      go true c =
+          let (g, k) = value-held t w (f .0) d c in
+          group-back (cond (eqb t 17) array map) (x ++ (41 ∷ y)) (f .0 .head) (q .0) (container-bare (f .0) c) k (held-count ms g (value-deep t w 0 d .1) (f .1) (q .2) y)
+      go false c =
+          let (u, b) = value-here (q .0) c (q .1) (here {prev = prev} {ms = ms} (f .0) (f .1)) in
+          rw (begins inWord 40 (valueText t l s ++ (x ++ y)) (starts-more inWord (valueText t l s) (x ++ y) (u .begins)) (unfold inWord ends in refl))
+          (word-back ms (members (value t w) l) y (u, b) (done-halts rs (prevAfter (value t w) prev l s) r (f .2) h))
+  head-back namespace f d = word-back ms (members namespace l) _ (namespace-here (q .0) (here {prev = prev} {ms = ms} (f .0) (f .1))) (unfold halts ends in refl)
+  head-back (objectNamespace p) f d = go (space-here (here {prev = prev} {ms = ms} (f .0) (f .1)) .0)
+    where
+      b : ms ≡ none
+      b = space-here (here {prev = prev} {ms = ms} (f .0) (f .1)) .1
+
+      go : Space l s → takeAt (objectNamespace p) (spell (objectNamespace p) .before l s ++ behind (objectNamespace p) n l ms rs r) ≡ record { head = record { lead = l; str = s }; rest = behind (objectNamespace p) n l ms rs r }
+      go (relative k a e) =
+          let y : eqb (l .kind) simple ≡ true = eq-eqb (l .kind) simple k in
+          rw y (word-back ms (members (objectNamespace p) l) _ (null-spelled (f .0 .head) (q .0) k a e, b) (unfold halts ends in refl))
+      go (from k m) = rw k (word-back ms (members (objectNamespace p) l) _ (name-spelled m (f .0 .head) (q .0), b) (unfold halts ends in refl))
+  head-back (objectType p) f d = word-back ms (members (objectType p) l) _ (objectType-here (q .0) (here {prev = prev} {ms = ms} (f .0) (f .1))) (unfold halts ends in refl)
+  head-back (objectId p) f d =
+      word-back ms (members (objectId p) l) _ (objectId-here (q .0) (here {prev = prev} {ms = ms} (f .0) (f .1))) (id-halts p rs (prevAfter (objectId p) prev l s) r (f .2) h)
+  head-back params f d =
+      let y : List ℕ = texts rs done ++ r in
+      let (g, c, k) = params-held ms (f .0) (f .1) (q .2) y in
+      group-back _ (texts ms (members params l) ++ (41 ∷ y)) (f .0 .head) (q .0) (container-bare (f .0) c) k (held-count ms g refl (f .1) (q .2) y)
+  head-back (key w) f d = word-back ms (members (key w) l) _ (key-here (q .0) (q .1) (here {prev = prev} {ms = ms} (f .0) (f .1))) (unfold halts ends in refl)
+  head-back (entry w) f d =
+      ari-seen (entry-here (here {prev = prev} {ms = ms} (f .0) (f .1))) (q .0) (q .1) _ (comma-stops (key w) n rs (prevAfter (entry w) prev l s) r (f .2) h) .taken
+  head-back (nonce t) f d = absurd (true≢false (sym d))
+  head-back setTime f d = absurd (true≢false (sym d))
+  head-back target f d = absurd (true≢false (sym d))
+  head-back report f d = absurd (true≢false (sym d))
+  head-back reportTime f d = absurd (true≢false (sym d))
+  head-back reportSource f d = absurd (true≢false (sym d))
