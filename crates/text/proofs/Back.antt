@@ -16,7 +16,7 @@ use Rattle.ari.specs.Table.{Place, param, outermost, Row, row, Slot, version, a
 use Rattle.ari.specs.Items.{Items, none, item, heads, depth}
 use Rattle.ari.specs.Decode.{Headed}
 use Rattle.ari.proofs.Due.{Good, Fit, prevAfter, members-leaf, container-string}
-use Rattle.ari.proofs.Rows.{fits-by, ArrayType, collection, orders, answers, array-type, map-type}
+use Rattle.ari.proofs.Rows.{fits-by, no-container, type-leaf, ArrayType, collection, orders, answers, array-type, map-type}
 use Rattle.ari.proofs.RulesFit.{Here, here-as, alike-sym, entry-alike}
 use Rattle.ari.proofs.FitRules.{here}
 use Rattle.text.specs.Chars.{literalText, nameText}
@@ -25,7 +25,7 @@ use Rattle.text.specs.Parse.{ends, inWord, past, startsBy, starts, headO
 use Rattle.text.proofs.Words.{halts, word-at, begins, starts-more, named-word, named-back}
 use Rattle.text.proofs.Leads.{isSetType, head-is, no-string, Space, relative, absolute as from, Word, name-spelled, valueText}
 use Rattle.text.proofs.Below.{Spells, deep, deepLevel, next-deep, members-deep, value-deep}
-use Rattle.text.proofs.Slots.{ari-here, entry-here, space-here, type-here, namespace-here, objectType-here, objectId-here, key-here, value-here}
+use Rattle.text.proofs.Slots.{leaf-none, ari-here, entry-here, space-here, type-here, namespace-here, objectType-here, objectId-here, key-here, value-here}
 use Rattle.text.proofs.Tally.{commas-end, commasDue, atFirst, layout, tallied}
 use Rattle.text.proofs.Ahead.{stops, stop-halt, take-word, Seen, ari-seen}
 
@@ -241,3 +241,72 @@ module _ (n : ℕ) (prev : List ℕ) (l : Lead) (s : List ℕ) (ms rs : Items) (
   head-back report f d = absurd (true≢false (sym d))
   head-back reportTime f d = absurd (true≢false (sym d))
   head-back reportSource f d = absurd (true≢false (sym d))
+
+  -- behind a container's members stands what may stand behind an ARI
+  after-stops : (t : Slot) → Fit (item l s ms rs) false (due t n) prev → deep t ≡ true → isContainer (l .kind) ≡ true
+      → stops (spell t .after l (rule t .next (l .arg) n) ++ (texts rs (rule t .next (l .arg) n) ++ r)) ≡ true
+  unfolding spell rule isContainer stops
+  after-stops version f d c = absurd (true≢false (sym d))
+  after-stops (ari w) f d c = comma-stops (ari w) n rs (prevAfter (ari w) prev l s) r (f .2) h
+  after-stops (type w) f d c = absurd (true≢false (sym c ∙ no-container (l .kind) (l .arg) (rule (type w) .rows) (type-leaf w) (f .0 .fitting)))
+  after-stops (value t w) f d c = rw c
+  after-stops namespace f d c = absurd (true≢false (sym c ∙ no-container (l .kind) (l .arg) (rule namespace .rows) refl (f .0 .fitting)))
+  after-stops (objectNamespace p) f d c = absurd (true≢false (sym c ∙ no-container (l .kind) (l .arg) (rule (objectNamespace p) .rows) refl (f .0 .fitting)))
+  after-stops (objectType p) f d c = absurd (true≢false (sym c ∙ no-container (l .kind) (l .arg) (rule (objectType p) .rows) refl (f .0 .fitting)))
+  after-stops (objectId p) f d c = absurd (true≢false (sym c ∙ no-container (l .kind) (l .arg) (rule (objectId p) .rows) refl (f .0 .fitting)))
+  after-stops params f d c = refl
+  after-stops (key w) f d c = absurd (true≢false (sym c ∙ no-container (l .kind) (l .arg) (rule (key w) .rows) refl (f .0 .fitting)))
+  after-stops (entry w) f d c = comma-stops (key w) n rs (prevAfter (entry w) prev l s) r (f .2) h
+  after-stops (nonce t) f d c = absurd (true≢false (sym d))
+  after-stops setTime f d c = absurd (true≢false (sym d))
+  after-stops target f d c = absurd (true≢false (sym d))
+  after-stops report f d c = absurd (true≢false (sym d))
+  after-stops reportTime f d c = absurd (true≢false (sym d))
+  after-stops reportSource f d c = absurd (true≢false (sym d))
+
+-- One step of the reading; a level with nothing on it.
+abbrev ran : Items → List ℕ → Run
+ran g r = record { items = g; rest = r }
+
+level-step : (go : Level → List ℕ → Run) (k : ℕ) (t : Slot) (n : ℕ) (l : Lead) (s : List ℕ) (ms rs : Items) (x u w r : List ℕ)
+    → takeAt t x ≡ record { head = record { lead = l; str = s }; rest = u }
+    → go (members t l) u ≡ ran ms (spell t .after l (rule t .next (l .arg) n) ++ w) → level go k (rule t .next (l .arg) n) w ≡ ran rs r
+    → level go (suc k) (due t n) x ≡ ran (item l s ms rs) r
+unfolding level
+level-step go k t n l s ms rs x u w r a b c =
+    rw (a, b, drop-at (spell t .after l (rule t .next (l .arg) n)) w (length (spell t .after l (rule t .next (l .arg) n))) refl, c)
+
+level-done : (go : Level → List ℕ → Run) (k : ℕ) (r : List ℕ) → level go k done r ≡ ran none r
+unfolding level
+level-done go zero r = refl
+level-done go (suc k) r = refl
+
+parse-done : (k d : ℕ) (r : List ℕ) → parse k d done r ≡ ran none r
+unfolding parse
+parse-done k zero r = refl
+parse-done k (suc d) r = level-done (parse k d) k r
+
+pub reads : (b : ℕ) (g : Items) (v : Level) (prev : List ℕ) → Fit g false v prev → Spells g → deepLevel v ≡ true → (d k : ℕ) → depth g ≤ d → heads g ≤ k → heads g ≤ b
+    → (r : List ℕ) → stops r ≡ true → level (parse b d) k v (texts g v ++ r) ≡ ran g r
+reads b none done prev f q o d k x y z r h = level-done (parse b d) k r
+reads b none (due t n) prev f q o d k x y z r h = absurd f
+reads b (item l s ms rs) done prev f q o d k x y z r h = absurd f
+reads b (item l s ms rs) (due t n) prev f q o d zero x y z r h = absurd (omega arith)
+reads b (item l s ms rs) (due t n) prev f q o d (suc k) x y z r h =
+    level-step (parse b d) k t n l s ms rs (texts (item l s ms rs) (due t n) ++ r) (behind t n l ms rs r) (texts rs (rule t .next (l .arg) n) ++ r) r
+    (ap (takeAt t) (layout l s ms rs t n r) ∙ head-back n prev l s ms rs q r h t f o)
+    (inside d (isContainer (l .kind)) refl (omega arith)
+    (λ c e a. reads b ms (members t l) [] (f .1) (q .2) (members-deep t l o) c b e (omega arith) (omega arith) tail (after-stops n prev l s ms rs q r h t f o a)))
+    (reads b rs (rule t .next (l .arg) n) (prevAfter t prev l s) (f .2) (q .3) (next-deep t (l .kind) (l .arg) n (f .0 .fitting) o) d k (omega arith) (omega arith) (omega arith) r h)
+  where
+    tail : List ℕ
+    tail = spell t .after l (rule t .next (l .arg) n) ++ (texts rs (rule t .next (l .arg) n) ++ r)
+
+    inside : (d : ℕ) (c : Bool) → isContainer (l .kind) ≡ c → cond c (suc (depth ms)) 0 ≤ d
+        → ((e : ℕ) → depth ms ≤ e → isContainer (l .kind) ≡ true → level (parse b e) b (members t l) (texts ms (members t l) ++ tail) ≡ ran ms tail)
+        → parse b d (members t l) (texts ms (members t l) ++ tail) ≡ ran ms tail
+    inside zero true c m ih = absurd (omega arith)
+    inside (suc d) true c m ih = unfold parse in ih d (omega arith) c
+    inside d false c m ih =
+        let e = leaf-none (here {prev = prev} {ms = ms} (f .0) (f .1)) c in
+        rw (members-leaf t l c, e) (parse-done b d tail)
