@@ -6,4 +6,5 @@ pub mod Slots
 pub mod Tally
 pub mod Ahead
 pub mod Back
+pub mod Bound
 pub mod Example
