@@ -128,7 +128,7 @@ held-head {n} {l} {s} h =
     ap (λ (k : ℕ). headOf k n []) (sym (h .kind-is)) ∙ ap (λ (a : ℕ). headOf (l .kind) a []) (sym (h .arg-is)) ∙ ap (headOf (l .kind) (l .arg)) (sym (h .bare))
     ∙ head-is s (h .head) (rw (h .kind-is))
 
-held-text : (w : Place) {n : ℕ} {l : Lead} {s : List ℕ} → Holds array n l s → (anAri .before l s ≡ cond (eqb n 2) (47 ∷ []) []) × (members (ari w) l ≡ ariLevel w n)
+pub held-text : (w : Place) {n : ℕ} {l : Lead} {s : List ℕ} → Holds array n l s → (anAri .before l s ≡ cond (eqb n 2) (47 ∷ []) []) × (members (ari w) l ≡ ariLevel w n)
 unfolding members rule
 held-text w h = (rw (h .kind-is, h .arg-is), rw (h .kind-is, h .arg-is))
 

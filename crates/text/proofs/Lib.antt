@@ -7,4 +7,6 @@ pub mod Tally
 pub mod Ahead
 pub mod Back
 pub mod Bound
+pub mod Outer
+pub mod Round
 pub mod Example

@@ -1,5 +1,6 @@
 -- Writing an ARI's text and reading one: what the gate answers. Document 01, 'Text' and the tests 1, 14, 15 and 16.
 use Prim.Native.Nat.{ℕ}
+use mathlib.Core.Path.{_≡_}
 use mathlib.Core.Bool.{cond}
 use mathlib.Core.List.{List}
 use lib.ListN.{length}
@@ -7,6 +8,7 @@ use lib.Dec.{ltb}
 use Rattle.ari.specs.Reader.{Limits, Answer, refuse, accept, single, read}
 use Rattle.ari.specs.Items.{Items, encode}
 use Rattle.ari.specs.Decode.{decode}
+use Rattle.ari.specs.Rules.{Is}
 use Rattle.text.specs.Text.{textOf, Form, spelled, none-at, form}
 use Rattle.text.specs.Parse.{same, candidate}
 
@@ -41,3 +43,9 @@ readText l t = let b = encode (candidate l t) in cond (ltb (l .text) (length t))
 abbrev pub lent : ℕ → Output → Output
 lent room (refused r p) = refused r p
 lent room (output u n) = cond (ltb room (length u)) (refused 16 (length u)) (output u n)
+
+-- The bytes b are an accepted ARI of n items that has a text form, and its text is t.
+pub record Spelled (m : Limits) (t b : List ℕ) (n : ℕ) : Type 0 where
+  pub is : Is m single b (decode b) n
+  pub has-text : form (decode b) ≡ spelled
+  pub the-text : textOf (decode b) ≡ t
