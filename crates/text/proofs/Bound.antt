@@ -97,7 +97,7 @@ module _ (l : Lead) (s : List ℕ) (v : Level) (h : Sound l) where
         arith,
         comma-most v,
         cond-most (eqb (l .kind) array) {n = worth l s + 11} (cond (eqb (l .arg) 2) (47 ∷ []) []) (literalText l s)
-        (cond-most (eqb (l .arg) 2) (47 ∷ []) [] (omega arith) (omega arith)) (literal-most l s h),
+            (cond-most (eqb (l .arg) 2) (47 ∷ []) [] (omega arith) (omega arith)) (literal-most l s h),
       )
 
   head-most : (t : Slot) → length (spell t .before l s) + length (spell t .after l v) ≤ worth l s + 16

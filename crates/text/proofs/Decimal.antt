@@ -21,6 +21,13 @@ pub all-append : (p : ℕ → Bool) (u v : List ℕ) → all p u ≡ true → al
 all-append p [] v e f = f
 all-append p (x ∷ u) v e f = let (g, h) = and-true (p x) (all p u) e in rw (g, all-append p u v h f)
 
+pub all-split : (p : ℕ → Bool) (u v : List ℕ) → all p (u ++ v) ≡ true → (all p u ≡ true) × (all p v ≡ true)
+all-split p [] v e = (refl, e)
+all-split p (x ∷ u) v e =
+    let (a, b) = and-true (p x) (all p (u ++ v)) e in
+    let (c, d) = all-split p u v b in
+    (rw (a, c), d)
+
 digit-is : (n : ℕ) → n < 10 → isDigit (48 + n) ≡ true
 digit-is n h = within-is 48 57 (48 + n) (omega arith) (omega arith)
 

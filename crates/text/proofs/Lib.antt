@@ -8,5 +8,6 @@ pub mod Ahead
 pub mod Back
 pub mod Bound
 pub mod Outer
+pub mod Octets
 pub mod Round
 pub mod Example

@@ -21,6 +21,7 @@ use Rattle.ari.proofs.RulesFit.{Here, here-ari}
 use Rattle.ari.proofs.Demand.{stands-fit}
 use Rattle.text.specs.Text.{anAri, spell, texts, anAriDue, isRelative, textOf, Form, spelled, none-at, isFloat, floatIn, isSet, form}
 use Rattle.text.specs.Parse.{startsBy, starts, Run, level, parse, candidate}
+use Rattle.text.proofs.Decimal.{all-split}
 use Rattle.text.proofs.Words.{Integer, plus, minus, Named, numbered, lettered}
 use Rattle.text.proofs.Leads.{isSetType, namespace-named, Space, relative, absolute, space-case, type-word}
 use Rattle.text.proofs.Below.{Spells}
@@ -41,13 +42,6 @@ float-split (x ∷ xs) ys e = go (isFloat (x .lead)) e (float-split xs ys)
 no-float : (t : Bool) (p : ℕ) (r : Form) → cond t (none-at p) r ≡ spelled → (t ≡ false) × (r ≡ spelled)
 no-float true p r e = (cc, cc)
 no-float false p r e = (refl, e)
-
-all-split : (p : ℕ → Bool) (u v : List ℕ) → all p (u ++ v) ≡ true → (all p u ≡ true) × (all p v ≡ true)
-all-split p [] v e = (refl, e)
-all-split p (x ∷ u) v e =
-    let (a, b) = and-true (p x) (all p (u ++ v)) e in
-    let (c, d) = all-split p u v b in
-    (rw (a, c), d)
 
 spells : (g : Items) (v : Level) (prev : List ℕ) (p d : ℕ) → Fit g false v prev → floatIn (spots g false v p d) ≡ spelled → all isByte (encode g) ≡ true → Spells g
 spells none v prev p d f e b = tt
