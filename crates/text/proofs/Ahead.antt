@@ -1,22 +1,20 @@
 -- An ARI's head is found by looking ahead in its text.
-use Prim.Native.Nat.{ℕ, zero, suc, _≤_}
-use Prim.Native.Char.{code}
+use Prim.Native.Nat.{ℕ}
 use mathlib.Core.Path.{_≡_, refl, sym, _∙_, ap}
-use mathlib.Core.Bool.{Bool, true, false, not, _&&_, _||_, cond, true≢false}
-use mathlib.Core.List.{List, [], _∷_, _++_, append-assoc, append-nil}
-use lib.ListN.{drop}
+use mathlib.Core.Bool.{Bool, true, false, _||_, cond, true≢false}
+use mathlib.Core.List.{List, [], _∷_, _++_, append-assoc}
 use lib.Dec.{eqb}
 use borrow.Author.Tests.{eqb-true, ne-eqb}
 use Rattle.cbor.specs.Byte.{all, isByte}
-use Rattle.cbor.specs.Head.{array, map, simple, Lead, Sound, isContainer}
-use Rattle.ari.specs.Table.{Place, inner, Slot, ari, type, value, namespace, objectNamespace, params, Level, done, due, ariLevel, rule, members}
+use Rattle.cbor.specs.Head.{array, simple, Lead, Sound, isContainer}
+use Rattle.ari.specs.Table.{Place, inner, ari, type, value, namespace, objectNamespace, params, done, due, ariLevel, rule, members}
 use Rattle.ari.specs.Items.{Items, none, item}
 use Rattle.ari.specs.Decode.{Headed}
-use Rattle.ari.specs.Rules.{Plain, Holds, Ari, literal, namespace-ref, typed, object-ref, Object, plain, with-params}
+use Rattle.ari.specs.Rules.{Holds, Ari, literal, namespace-ref, typed, object-ref, plain, with-params}
 use Rattle.text.specs.Chars.{literalText, nameText}
 use Rattle.text.specs.Text.{anAri, absolute, spell, texts, typeName, isFloat}
-use Rattle.text.specs.Parse.{ends, inWord, front, past, startsBy, starts, headOf, literalOf, startsNumber, parts, Taken, takeWord, takeReference, takeAri}
-use Rattle.text.proofs.Words.{Literal, halts, word-at, begins, starts-more, starts-weaken, startsLiteral, literal-starts, Named, named-word, named-starts}
+use Rattle.text.specs.Parse.{ends, inWord, past, startsBy, starts, headOf, startsNumber, parts, takeWord, takeAri}
+use Rattle.text.proofs.Words.{Literal, halts, word-at, begins, starts-more, startsLiteral, literal-starts, Named, named-word, named-starts}
 use Rattle.text.proofs.Leads.{head-is, literal-case, namespace-named, type-named, id-named, Space, relative, absolute as from, space-case, Word, literal-spelled, TypeWord, type-word}
 use Rattle.text.proofs.Slots.{literal-leaf}
 

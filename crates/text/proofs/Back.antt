@@ -1,33 +1,32 @@
 -- The text of items below the outermost is read back as these items.
-use Prim.Native.Nat.{ℕ, zero, suc, pred, _+_, _≤_, max}
-use Prim.Native.Char.{code}
+use Prim.Native.Nat.{ℕ, zero, suc, pred, _≤_}
 use mathlib.Core.Path.{_≡_, refl, sym, _∙_, ap}
-use mathlib.Core.Bool.{Bool, true, false, not, _&&_, _||_, cond, true≢false}
-use mathlib.Core.List.{List, [], _∷_, _++_, append-assoc, append-nil}
+use mathlib.Core.Bool.{Bool, true, false, cond, true≢false}
+use mathlib.Core.Logic.{_⊎_, inl, inr}
+use mathlib.Core.List.{List, [], _∷_, _++_}
 use native.Mathlib.Omega.{arith}
-use lib.ListN.{length, drop}
+use lib.ListN.{length}
 use lib.Seq.{drop-at}
 use lib.Dec.{eqb}
-use borrow.Author.Tests.{eqb-true, eqb-false, ne-eqb, eq-eqb}
-use Rattle.cbor.specs.Byte.{all, isByte}
+use borrow.Author.Tests.{eqb-true, eqb-false, eq-eqb}
 use Rattle.cbor.specs.Head.{array, map, simple, Lead, Sound, isContainer}
-use Rattle.cbor.proofs.ByteLaws.{and-true, or-false, not-true, within-true}
-use Rattle.ari.specs.Table.{Place, param, outermost, Row, row, Slot, version, ari, type, value, namespace, objectNamespace, objectType, objectId, params, key, entry, nonce, setTime, target, report, reportTime, reportSource, Level, done, due, many, types, rule, members, valueLevel}
+use Rattle.cbor.proofs.ByteLaws.{within-true}
+use Rattle.ari.specs.Table.{Place, param, outermost, Row, row, Slot, ari, type, value, namespace, objectNamespace, objectType, objectId, params, key, entry, Level, done, due, many, rule, members}
 use Rattle.ari.specs.Items.{Items, none, item, heads, depth}
 use Rattle.ari.specs.Decode.{Headed}
 use Rattle.ari.proofs.Due.{Good, Fit, prevAfter, members-leaf, container-string}
-use Rattle.ari.proofs.Rows.{fits-by, no-container, type-leaf, ArrayType, collection, orders, answers, array-type, map-type}
-use Rattle.ari.proofs.RulesFit.{Here, here-as, alike-sym, entry-alike}
+use Rattle.ari.proofs.Rows.{fits-by, ArrayType, collection, orders, answers, array-type, map-type}
+use Rattle.ari.proofs.RulesFit.{Here}
 use Rattle.ari.proofs.FitRules.{here}
-use Rattle.text.specs.Chars.{literalText, nameText}
-use Rattle.text.specs.Text.{comma, anAri, spell, texts, typeName, isFloat}
-use Rattle.text.specs.Parse.{ends, inWord, past, startsBy, starts, headOf, commas, count, Taken, takeWord, takeGroup, takeAri, takeAt, Run, level, parse}
-use Rattle.text.proofs.Words.{halts, word-at, begins, starts-more, named-word, named-back}
+use Rattle.text.specs.Chars.{literalText}
+use Rattle.text.specs.Text.{comma, spell, texts, isFloat}
+use Rattle.text.specs.Parse.{ends, inWord, past, startsBy, starts, headOf, count, takeWord, takeGroup, takeAt, Run, level, parse}
+use Rattle.text.proofs.Words.{halts, word-at, begins, starts-more}
 use Rattle.text.proofs.Leads.{isSetType, head-is, no-string, Space, relative, absolute as from, Word, name-spelled, valueText}
-use Rattle.text.proofs.Below.{Spells, deep, deepLevel, next-deep, members-deep, value-deep}
-use Rattle.text.proofs.Slots.{leaf-none, ari-here, entry-here, space-here, type-here, namespace-here, objectType-here, objectId-here, key-here, value-here}
-use Rattle.text.proofs.Tally.{commas-end, commasDue, atFirst, layout, tallied}
-use Rattle.text.proofs.Ahead.{stops, stop-halt, take-word, Seen, ari-seen}
+use Rattle.text.proofs.Below.{Spells, Below, an-ari, a-type, a-value, a-namespace, an-object-namespace, an-object-type, an-object-id, some-params, a-key, an-entry, BelowLevel, next-below, members-below, value-level}
+use Rattle.text.proofs.Slots.{ari-here, entry-here, space-here, type-here, namespace-here, objectType-here, objectId-here, key-here, value-here}
+use Rattle.text.proofs.Tally.{commas-end, commasDue, layout, tallied}
+use Rattle.text.proofs.Ahead.{stops, stop-halt, take-word, ari-seen}
 
 -- behind an ARI stands what may
 comma-stops : (s : Slot) (n : ℕ) (g : Items) (prev r : List ℕ) → Fit g false (many s n) prev → stops r ≡ true → stops (comma (many s n) ++ (texts g (many s n) ++ r)) ≡ true
@@ -60,13 +59,12 @@ module _ (w : Place) (m : ℕ) (prev : List ℕ) (r : List ℕ) (h : stops r ≡
       )
 
 -- a group's members, counted
-counted : (s : Slot) → ((m : ℕ) → commasDue (due s m) ≡ m) → deep s ≡ true → (n : ℕ) (g : Items) (r : List ℕ) → Fit g false (many s n) [] → Spells g
+counted : (s : Slot) → ((m : ℕ) → commasDue (due s m) ≡ m) → Below s → (n : ℕ) (g : Items) (r : List ℕ) → Fit g false (many s n) [] → Spells g
     → ((m : ℕ) → Fit g false (due s m) [] → starts 41 (texts g (due s m) ++ (41 ∷ r)) ≡ false) → count (texts g (many s n) ++ (41 ∷ r)) ≡ n
 unfolding count startsBy
 counted s c d zero none r f q o = refl
 counted s c d zero (item l str ms rs) r f q o = absurd f
-counted s c d (suc n) g r f q o =
-    rw (o n f, tallied g (due s n) [] f q d 0 (41 ∷ r), commas-end r) (omega (arith, c n))
+counted s c d (suc n) g r f q o = rw (o n f, tallied g (due s n) [] f q d 0 (41 ∷ r), commas-end r) (omega (arith, c n))
 
 -- a word without members; a group
 word-back : {f : List ℕ → Headed} {u : List ℕ} {l : Lead} {s : List ℕ} (ms : Items) (v : Level) (r : List ℕ) → Word f u l s × (ms ≡ none) → halts r ≡ true
@@ -87,13 +85,16 @@ members-map : (t : Slot) (l : Lead) → l .kind ≡ map → members t l ≡ rule
 unfolding members
 members-map t l z = rw z
 
-count-aris : (w : Place) → not (outermost w) ≡ true → (n : ℕ) (g : Items) (r : List ℕ) → Fit g false (many (ari w) n) [] → Spells g
-    → count (texts g (many (ari w) n) ++ (41 ∷ r)) ≡ n
-count-aris w d n g r f q = counted (ari w) (λ m. refl) d n g r f q (λ m e. ari-first w m [] (41 ∷ r) (unfold stops in refl) g e q .0)
+module _ (w : Place) (o : outermost w ≡ false) (n : ℕ) (g : Items) (r : List ℕ) where
+  unfolded-commas : (m : ℕ) → (commasDue (due (ari w) m) ≡ m) × (commasDue (due (key w) m) ≡ m)
+  unfolding rule
+  unfolded-commas m = (refl, refl)
 
-count-keys : (w : Place) → not (outermost w) ≡ true → (n : ℕ) (g : Items) (r : List ℕ) → Fit g false (many (key w) n) [] → Spells g
-    → count (texts g (many (key w) n) ++ (41 ∷ r)) ≡ n
-count-keys w d n g r f q = counted (key w) (λ m. refl) d n g r f q (λ m e. key-first w m [] (41 ∷ r) (unfold stops in refl) g e q .0)
+  count-aris : Fit g false (many (ari w) n) [] → Spells g → count (texts g (many (ari w) n) ++ (41 ∷ r)) ≡ n
+  count-aris f q = counted (ari w) (λ m. unfolded-commas m .0) (an-ari o) n g r f q (λ m e. ari-first w m [] (41 ∷ r) (unfold stops in refl) g e q .0)
+
+  count-keys : Fit g false (many (key w) n) [] → Spells g → count (texts g (many (key w) n) ++ (41 ∷ r)) ≡ n
+  count-keys f q = counted (key w) (λ m. unfolded-commas m .1) (a-key o) n g r f q (λ m e. key-first w m [] (41 ∷ r) (unfold stops in refl) g e q .0)
 
 -- arrays and maps
 container-kind : (k : ℕ) → isContainer k ≡ true → eqb k array ≡ false → k ≡ map
@@ -108,26 +109,26 @@ data Held (w : Place) (t : Slot) (l : Lead) : Type 0 where
   a-list : l .kind ≡ array → members t l ≡ many (ari w) (l .arg) → Held w t l
   a-table : l .kind ≡ map → members t l ≡ many (key w) (l .arg) → Held w t l
 
-held-count : {w : Place} {t : Slot} {l : Lead} (ms : Items) → Held w t l → not (outermost w) ≡ true → Fit ms false (members t l) [] → Spells ms → (r : List ℕ)
+held-count : {w : Place} {t : Slot} {l : Lead} (ms : Items) → Held w t l → outermost w ≡ false → Fit ms false (members t l) [] → Spells ms → (r : List ℕ)
     → count (texts ms (members t l) ++ (41 ∷ r)) ≡ l .arg
 held-count {w} {l = l} ms (a-list z y) d f q r = rw y (count-aris w d (l .arg) ms r (rw y at f) q)
 held-count {w} {l = l} ms (a-table z y) d f q r = rw y (count-keys w d (l .arg) ms r (rw y at f) q)
 
 -- the group of AC or AM
-value-held : (t : ℕ) (w : Place) {prev : List ℕ} {l : Lead} {s : List ℕ} → Good (value t w) prev l s → deep (value t w) ≡ true → isContainer (l .kind) ≡ true
+value-held : (t : ℕ) (w : Place) {prev : List ℕ} {l : Lead} {s : List ℕ} → Good (value t w) prev l s → isSetType t ≡ false → isContainer (l .kind) ≡ true
     → Held w (value t w) l × (l .kind ≡ cond (eqb t 17) array map)
 unfolding rule
 value-held t w {prev} {l} {s} g d c = go (eqb (l .kind) array) refl
   where
     seventeen : ArrayType t (l .arg) → t ≡ 17
     seventeen (collection e) = e
-    seventeen (orders e n) = absurd (true≢false (sym (rw e at d)))
-    seventeen (answers e n) = absurd (true≢false (sym (rw e at d)))
+    seventeen (orders e n) = absurd (true≢false (rw e at d))
+    seventeen (answers e n) = absurd (true≢false (rw e at d))
 
     go : (b : Bool) → eqb (l .kind) array ≡ b → Held w (value t w) l × (l .kind ≡ cond (eqb t 17) array map)
     go true e =
         let z : l .kind ≡ array = eqb-true (l .kind) array e in
-        (a-list z (members-array (value t w) l z ∙ value-deep t w (l .arg) d .0), z ∙ rw (seventeen (array-type t (l .arg) (rw z at (g .fitting)))))
+        (a-list z (members-array (value t w) l z ∙ value-level t w (l .arg) d), z ∙ rw (seventeen (array-type t (l .arg) (rw z at (g .fitting)))))
     go false e =
         let z : l .kind ≡ map = container-kind (l .kind) c e in
         (a-table z (members-map (value t w) l z), z ∙ rw (map-type t (l .arg) (rw z at (g .fitting))))
@@ -184,85 +185,65 @@ null-spelled {l} {s} h f k a e = record {
   back = ap (λ (n : ℕ). headOf n 22 []) (sym k) ∙ ap (λ (n : ℕ). headOf (l .kind) n []) (sym a) ∙ ap (headOf (l .kind) (l .arg)) (sym e) ∙ head-is s h f;
 }
 
--- what stands behind what a head writes before its members
-abbrev pub behind : Slot → ℕ → Lead → Items → Items → List ℕ → List ℕ
-behind t n l ms rs r = texts ms (members t l) ++ (spell t .after l (rule t .next (l .arg) n) ++ (texts rs (rule t .next (l .arg) n) ++ r))
+-- A head is read back with what stands behind what it writes before its members; behind them, if there are any, stands what may stand behind an ARI.
+abbrev tail : Slot → ℕ → Lead → Items → List ℕ → List ℕ
+tail t n l rs r = spell t .after l (rule t .next (l .arg) n) ++ (texts rs (rule t .next (l .arg) n) ++ r)
 
--- A head is read back.
-module _ (n : ℕ) (prev : List ℕ) (l : Lead) (s : List ℕ) (ms rs : Items) (q : Spells (item l s ms rs)) (r : List ℕ) (h : stops r ≡ true) where
-  pub head-back : (t : Slot) → Fit (item l s ms rs) false (due t n) prev → deep t ≡ true
-      → takeAt t (spell t .before l s ++ behind t n l ms rs r) ≡ record { head = record { lead = l; str = s }; rest = behind t n l ms rs r }
-  unfolding takeAt spell rule members startsBy
-  head-back version f d = absurd (true≢false (sym d))
-  head-back (ari w) f d =
-      ari-seen (ari-here (here {prev = prev} {ms = ms} (f .0) (f .1))) (q .0) (q .1) _ (comma-stops (ari w) n rs (prevAfter (ari w) prev l s) r (f .2) h) .taken
-  head-back (type w) f d = word-back ms (members (type w) l) _ (type-here (q .0) (here {prev = prev} {ms = ms} (f .0) (f .1))) (unfold halts ends in refl)
-  head-back (value t w) f d = go (isContainer (l .kind)) refl
+record Back (t : Slot) (n : ℕ) (l : Lead) (s : List ℕ) (ms rs : Items) (r : List ℕ) : Type 0 where
+  taken : takeAt t (spell t .before l s ++ (texts ms (members t l) ++ tail t n l rs r))
+      ≡ record { head = record { lead = l; str = s }; rest = texts ms (members t l) ++ tail t n l rs r }
+  stopped : (ms ≡ none) ⊎ (stops (tail t n l rs r) ≡ true)
+
+module _ (n : ℕ) (prev : List ℕ) (l : Lead) (s : List ℕ) (ms rs : Items) (q : Spells (item l s ms rs)) (r : List ℕ) (z : stops r ≡ true) where
+  stood : (t : Slot) → Fit (item l s ms rs) false (due t n) prev → Here t prev l s ms
+  stood t f = here {prev = prev} {ms = ms} (f .0) (f .1)
+
+  head-back : (t : Slot) → Fit (item l s ms rs) false (due t n) prev → Below t → Back t n l s ms rs r
+  unfolding takeAt spell rule members startsBy halts ends
+  head-back _ f (an-ari {w = w} o) =
+      let c = comma-stops (ari w) n rs (prevAfter (ari w) prev l s) r (f .2) z in
+      record { taken = ari-seen (ari-here (stood (ari w) f)) (q .0) (q .1) _ c .taken; stopped = inr c }
+  head-back _ f (a-type {w = w} o) = let x = type-here (q .0) (stood (type w) f) in record { taken = word-back ms _ _ x refl; stopped = inl (x .1) }
+  head-back _ f (a-value {t = t} {w = w} u o) = go (isContainer (l .kind)) refl
     where
-      x : List ℕ
-      x = texts ms (members (value t w) l)
-
-      y : List ℕ
-      y = texts rs done ++ r
-
-      go : (c : Bool) → isContainer (l .kind) ≡ c
-          → takeAt (value t w) (cond c (40 ∷ []) (valueText t l s) ++ (x ++ (cond c (41 ∷ []) [] ++ y))) ≡ record { head = record { lead = l; str = s }; rest = x ++ (cond c (41 ∷ []) [] ++ y) }
+      go : (c : Bool) → isContainer (l .kind) ≡ c → Back (value t w) n l s ms rs r
       go true c =
-          let (g, k) = value-held t w (f .0) d c in
-          group-back (cond (eqb t 17) array map) (x ++ (41 ∷ y)) (f .0 .head) (q .0) (container-bare (f .0) c) k (held-count ms g (value-deep t w 0 d .1) (f .1) (q .2) y)
+          let (g, k) = value-held t w (f .0) u c in
+          let y : List ℕ = texts rs done ++ r in
+          record {
+            taken = rw c
+                (group-back (cond (eqb t 17) array map) (texts ms (members (value t w) l) ++ (41 ∷ y)) (f .0 .head) (q .0) (container-bare (f .0) c) k (held-count ms g o (f .1) (q .2) y));
+            stopped = inr (rw c (unfold stops in refl));
+          }
       go false c =
-          let (u, b) = value-here (q .0) c (q .1) (here {prev = prev} {ms = ms} (f .0) (f .1)) in
-          rw (begins inWord 40 (valueText t l s ++ (x ++ y)) (starts-more inWord (valueText t l s) (x ++ y) (u .begins)) (unfold inWord ends in refl))
-          (word-back ms (members (value t w) l) y (u, b) (done-halts rs (prevAfter (value t w) prev l s) r (f .2) h))
-  head-back namespace f d = word-back ms (members namespace l) _ (namespace-here (q .0) (here {prev = prev} {ms = ms} (f .0) (f .1))) (unfold halts ends in refl)
-  head-back (objectNamespace p) f d = go (space-here (here {prev = prev} {ms = ms} (f .0) (f .1)) .0)
+          let x = value-here (q .0) c (q .1) (stood (value t w) f) in
+          let y : List ℕ = texts ms (members (value t w) l) ++ (texts rs done ++ r) in
+          record {
+            taken = rw (c, begins inWord 40 (valueText t l s ++ y) (starts-more inWord (valueText t l s) y (x .0 .begins)) (unfold inWord in refl))
+                (word-back ms _ _ x (done-halts rs (prevAfter (value t w) prev l s) r (f .2) z));
+            stopped = inl (x .1);
+          }
+  head-back _ f a-namespace = let x = namespace-here (q .0) (stood namespace f) in record { taken = word-back ms _ _ x refl; stopped = inl (x .1) }
+  head-back _ f (an-object-namespace {p = p}) = let (x, b) = space-here (stood (objectNamespace p) f) in go x b
     where
-      b : ms ≡ none
-      b = space-here (here {prev = prev} {ms = ms} (f .0) (f .1)) .1
-
-      go : Space l s → takeAt (objectNamespace p) (spell (objectNamespace p) .before l s ++ behind (objectNamespace p) n l ms rs r) ≡ record { head = record { lead = l; str = s }; rest = behind (objectNamespace p) n l ms rs r }
-      go (relative k a e) =
-          let y : eqb (l .kind) simple ≡ true = eq-eqb (l .kind) simple k in
-          rw y (word-back ms (members (objectNamespace p) l) _ (null-spelled (f .0 .head) (q .0) k a e, b) (unfold halts ends in refl))
-      go (from k m) = rw k (word-back ms (members (objectNamespace p) l) _ (name-spelled m (f .0 .head) (q .0), b) (unfold halts ends in refl))
-  head-back (objectType p) f d = word-back ms (members (objectType p) l) _ (objectType-here (q .0) (here {prev = prev} {ms = ms} (f .0) (f .1))) (unfold halts ends in refl)
-  head-back (objectId p) f d =
-      word-back ms (members (objectId p) l) _ (objectId-here (q .0) (here {prev = prev} {ms = ms} (f .0) (f .1))) (id-halts p rs (prevAfter (objectId p) prev l s) r (f .2) h)
-  head-back params f d =
+      go : Space l s → ms ≡ none → Back (objectNamespace p) n l s ms rs r
+      go (relative k a e) b = record { taken = rw (eq-eqb (l .kind) simple k) (word-back ms _ _ (null-spelled (f .0 .head) (q .0) k a e, b) refl); stopped = inl b }
+      go (from k m) b = record { taken = rw k (word-back ms _ _ (name-spelled m (f .0 .head) (q .0), b) refl); stopped = inl b }
+  head-back _ f (an-object-type {p = p}) = let x = objectType-here (q .0) (stood (objectType p) f) in record { taken = word-back ms _ _ x refl; stopped = inl (x .1) }
+  head-back _ f (an-object-id {p = p}) =
+      let x = objectId-here (q .0) (stood (objectId p) f) in
+      record { taken = word-back ms _ _ x (id-halts p rs (prevAfter (objectId p) prev l s) r (f .2) z); stopped = inl (x .1) }
+  head-back _ f some-params =
       let y : List ℕ = texts rs done ++ r in
       let (g, c, k) = params-held ms (f .0) (f .1) (q .2) y in
-      group-back _ (texts ms (members params l) ++ (41 ∷ y)) (f .0 .head) (q .0) (container-bare (f .0) c) k (held-count ms g refl (f .1) (q .2) y)
-  head-back (key w) f d = word-back ms (members (key w) l) _ (key-here (q .0) (q .1) (here {prev = prev} {ms = ms} (f .0) (f .1))) (unfold halts ends in refl)
-  head-back (entry w) f d =
-      ari-seen (entry-here (here {prev = prev} {ms = ms} (f .0) (f .1))) (q .0) (q .1) _ (comma-stops (key w) n rs (prevAfter (entry w) prev l s) r (f .2) h) .taken
-  head-back (nonce t) f d = absurd (true≢false (sym d))
-  head-back setTime f d = absurd (true≢false (sym d))
-  head-back target f d = absurd (true≢false (sym d))
-  head-back report f d = absurd (true≢false (sym d))
-  head-back reportTime f d = absurd (true≢false (sym d))
-  head-back reportSource f d = absurd (true≢false (sym d))
-
-  -- behind a container's members stands what may stand behind an ARI
-  after-stops : (t : Slot) → Fit (item l s ms rs) false (due t n) prev → deep t ≡ true → isContainer (l .kind) ≡ true
-      → stops (spell t .after l (rule t .next (l .arg) n) ++ (texts rs (rule t .next (l .arg) n) ++ r)) ≡ true
-  unfolding spell rule isContainer stops
-  after-stops version f d c = absurd (true≢false (sym d))
-  after-stops (ari w) f d c = comma-stops (ari w) n rs (prevAfter (ari w) prev l s) r (f .2) h
-  after-stops (type w) f d c = absurd (true≢false (sym c ∙ no-container (l .kind) (l .arg) (rule (type w) .rows) (type-leaf w) (f .0 .fitting)))
-  after-stops (value t w) f d c = rw c
-  after-stops namespace f d c = absurd (true≢false (sym c ∙ no-container (l .kind) (l .arg) (rule namespace .rows) refl (f .0 .fitting)))
-  after-stops (objectNamespace p) f d c = absurd (true≢false (sym c ∙ no-container (l .kind) (l .arg) (rule (objectNamespace p) .rows) refl (f .0 .fitting)))
-  after-stops (objectType p) f d c = absurd (true≢false (sym c ∙ no-container (l .kind) (l .arg) (rule (objectType p) .rows) refl (f .0 .fitting)))
-  after-stops (objectId p) f d c = absurd (true≢false (sym c ∙ no-container (l .kind) (l .arg) (rule (objectId p) .rows) refl (f .0 .fitting)))
-  after-stops params f d c = refl
-  after-stops (key w) f d c = absurd (true≢false (sym c ∙ no-container (l .kind) (l .arg) (rule (key w) .rows) refl (f .0 .fitting)))
-  after-stops (entry w) f d c = comma-stops (key w) n rs (prevAfter (entry w) prev l s) r (f .2) h
-  after-stops (nonce t) f d c = absurd (true≢false (sym d))
-  after-stops setTime f d c = absurd (true≢false (sym d))
-  after-stops target f d c = absurd (true≢false (sym d))
-  after-stops report f d c = absurd (true≢false (sym d))
-  after-stops reportTime f d c = absurd (true≢false (sym d))
-  after-stops reportSource f d c = absurd (true≢false (sym d))
+      record {
+        taken = group-back _ (texts ms (members params l) ++ (41 ∷ y)) (f .0 .head) (q .0) (container-bare (f .0) c) k (held-count ms g refl (f .1) (q .2) y);
+        stopped = inr (unfold stops in refl);
+      }
+  head-back _ f (a-key {w = w} o) = let x = key-here (q .0) (q .1) (stood (key w) f) in record { taken = word-back ms _ _ x refl; stopped = inl (x .1) }
+  head-back _ f (an-entry {w = w} o) =
+      let c = comma-stops (key w) n rs (prevAfter (entry w) prev l s) r (f .2) z in
+      record { taken = ari-seen (entry-here (stood (entry w) f)) (q .0) (q .1) _ c .taken; stopped = inr c }
 
 -- One step of the reading; a level with nothing on it.
 abbrev ran : Items → List ℕ → Run
@@ -286,27 +267,41 @@ unfolding parse
 parse-done k zero r = refl
 parse-done k (suc d) r = level-done (parse k d) k r
 
-pub reads : (b : ℕ) (g : Items) (v : Level) (prev : List ℕ) → Fit g false v prev → Spells g → deepLevel v ≡ true → (d k : ℕ) → depth g ≤ d → heads g ≤ k → heads g ≤ b
+-- the members of a head
+module _ (b : ℕ) (t : Slot) (l : Lead) (r : List ℕ) where
+  none-inside : (d : ℕ) → Fit none false (members t l) [] → parse b d (members t l) r ≡ ran none r
+  none-inside d f = go (members t l) f
+    where
+      go : (v : Level) → Fit none false v [] → parse b d v r ≡ ran none r
+      go done f = parse-done b d r
+      go (due s n) f = absurd f
+
+  inside : (ms : Items) (d : ℕ) (c : Bool) → isContainer (l .kind) ≡ c → cond c (suc (depth ms)) 0 ≤ d → Fit ms false (members t l) []
+      → ((e : ℕ) → depth ms ≤ e → level (parse b e) b (members t l) (texts ms (members t l) ++ r) ≡ ran ms r)
+      → parse b d (members t l) (texts ms (members t l) ++ r) ≡ ran ms r
+  unfolding parse
+  inside ms zero true c m f ih = absurd (omega arith)
+  inside ms (suc d) true c m f ih = ih d (omega arith)
+  inside none d false c m f ih = none-inside d f
+  inside (item k s ms rs) d false c m f ih = absurd (rw (members-leaf t l c) at f)
+
+pub reads : (b : ℕ) (g : Items) (v : Level) (prev : List ℕ) → Fit g false v prev → Spells g → BelowLevel v → (d k : ℕ) → depth g ≤ d → heads g ≤ k → heads g ≤ b
     → (r : List ℕ) → stops r ≡ true → level (parse b d) k v (texts g v ++ r) ≡ ran g r
 reads b none done prev f q o d k x y z r h = level-done (parse b d) k r
 reads b none (due t n) prev f q o d k x y z r h = absurd f
 reads b (item l s ms rs) done prev f q o d k x y z r h = absurd f
 reads b (item l s ms rs) (due t n) prev f q o d zero x y z r h = absurd (omega arith)
 reads b (item l s ms rs) (due t n) prev f q o d (suc k) x y z r h =
-    level-step (parse b d) k t n l s ms rs (texts (item l s ms rs) (due t n) ++ r) (behind t n l ms rs r) (texts rs (rule t .next (l .arg) n) ++ r) r
-    (ap (takeAt t) (layout l s ms rs t n r) ∙ head-back n prev l s ms rs q r h t f o)
-    (inside d (isContainer (l .kind)) refl (omega arith)
-    (λ c e a. reads b ms (members t l) [] (f .1) (q .2) (members-deep t l o) c b e (omega arith) (omega arith) tail (after-stops n prev l s ms rs q r h t f o a)))
-    (reads b rs (rule t .next (l .arg) n) (prevAfter t prev l s) (f .2) (q .3) (next-deep t (l .kind) (l .arg) n (f .0 .fitting) o) d k (omega arith) (omega arith) (omega arith) r h)
+    level-step (parse b d) k t n l s ms rs (texts (item l s ms rs) (due t n) ++ r) (texts ms (members t l) ++ tail t n l rs r) (texts rs (rule t .next (l .arg) n) ++ r) r
+    (ap (takeAt t) (layout l s ms rs t n r) ∙ back .taken)
+    (mem (back .stopped) (λ w e c. reads b ms (members t l) [] (f .1) (q .2) (members-below l o) e b c (omega arith) (omega arith) (tail t n l rs r) w))
+    (reads b rs (rule t .next (l .arg) n) (prevAfter t prev l s) (f .2) (q .3) (next-below (l .kind) (l .arg) n (f .0 .fitting) o) d k (omega arith) (omega arith) (omega arith) r h)
   where
-    tail : List ℕ
-    tail = spell t .after l (rule t .next (l .arg) n) ++ (texts rs (rule t .next (l .arg) n) ++ r)
+    back : Back t n l s ms rs r
+    back = head-back n prev l s ms rs q r h t f o
 
-    inside : (d : ℕ) (c : Bool) → isContainer (l .kind) ≡ c → cond c (suc (depth ms)) 0 ≤ d
-        → ((e : ℕ) → depth ms ≤ e → isContainer (l .kind) ≡ true → level (parse b e) b (members t l) (texts ms (members t l) ++ tail) ≡ ran ms tail)
-        → parse b d (members t l) (texts ms (members t l) ++ tail) ≡ ran ms tail
-    inside zero true c m ih = absurd (omega arith)
-    inside (suc d) true c m ih = unfold parse in ih d (omega arith) c
-    inside d false c m ih =
-        let e = leaf-none (here {prev = prev} {ms = ms} (f .0) (f .1)) c in
-        rw (members-leaf t l c, e) (parse-done b d tail)
+    mem : (ms ≡ none) ⊎ (stops (tail t n l rs r) ≡ true)
+        → (stops (tail t n l rs r) ≡ true → (e : ℕ) → depth ms ≤ e → level (parse b e) b (members t l) (texts ms (members t l) ++ tail t n l rs r) ≡ ran ms (tail t n l rs r))
+        → parse b d (members t l) (texts ms (members t l) ++ tail t n l rs r) ≡ ran ms (tail t n l rs r)
+    mem (inl e) ih = rw e (none-inside b t l (tail t n l rs r) d (rw e at (f .1)))
+    mem (inr w) ih = inside b t l (tail t n l rs r) ms d (isContainer (l .kind)) refl (omega arith) (f .1) (ih w)

@@ -1,13 +1,12 @@
 -- Below the outermost ARI: the slots that stand in a text, and what they lead to.
-use Prim.Native.Nat.{ℕ, zero, suc, _≤_}
-use mathlib.Core.Path.{_≡_, refl, sym, _∙_, ap}
-use mathlib.Core.Bool.{Bool, true, false, not, _&&_, _||_, cond, true≢false}
-use mathlib.Core.List.{List, [], _∷_, _++_}
+use Prim.Native.Nat.{ℕ, zero, suc}
+use mathlib.Core.Path.{_≡_, refl}
+use mathlib.Core.Bool.{Bool, true, false, cond}
 use lib.Dec.{eqb}
 use Rattle.cbor.specs.Byte.{all, isByte}
 use Rattle.cbor.specs.Head.{array, map, Lead}
-use Rattle.cbor.proofs.ByteLaws.{and-true, or-false, not-true}
-use Rattle.ari.specs.Table.{Place, alone, message, inside, param, inner, outermost, Slot, version, ari, type, value, namespace, objectNamespace, objectType, objectId, params, key, entry, nonce, setTime, target, report, reportTime, reportSource, Level, done, due, many, types, typeRows, referenceLevel, ariLevel, valueLevel, rule, fits, members}
+use Rattle.cbor.proofs.ByteLaws.{or-false}
+use Rattle.ari.specs.Table.{Place, alone, message, inside, param, inner, outermost, Slot, ari, type, value, namespace, objectNamespace, objectType, objectId, params, key, entry, Level, done, due, many, ariLevel, valueLevel, rule, fits, members}
 use Rattle.ari.specs.Items.{Items, none, item}
 use Rattle.text.specs.Text.{isFloat}
 use Rattle.text.proofs.Leads.{isSetType, type-unset}
@@ -17,110 +16,90 @@ abbrev pub Spells : Items → Type 0
 Spells none = Unit {0}
 Spells (item l s ms rs) = (isFloat l ≡ false) × (all isByte s ≡ true) × Spells ms × Spells rs
 
-abbrev pub deep : Slot → Bool
-deep version = false
-deep (ari w) = not (outermost w)
-deep (type w) = not (outermost w)
-deep (value t w) = not (isSetType t) && not (outermost w)
-deep namespace = true
-deep (objectNamespace p) = true
-deep (objectType p) = true
-deep (objectId p) = true
-deep params = true
-deep (key w) = not (outermost w)
-deep (entry w) = not (outermost w)
-deep (nonce t) = false
-deep setTime = false
-deep target = false
-deep report = false
-deep reportTime = false
-deep reportSource = false
+pub data Below : Slot → Type 0 where
+  an-ari : {w : Place} → outermost w ≡ false → Below (ari w)
+  a-type : {w : Place} → outermost w ≡ false → Below (type w)
+  a-value : {t : ℕ} {w : Place} → isSetType t ≡ false → outermost w ≡ false → Below (value t w)
+  a-namespace : Below namespace
+  an-object-namespace : {p : Bool} → Below (objectNamespace p)
+  an-object-type : {p : Bool} → Below (objectType p)
+  an-object-id : {p : Bool} → Below (objectId p)
+  some-params : Below params
+  a-key : {w : Place} → outermost w ≡ false → Below (key w)
+  an-entry : {w : Place} → outermost w ≡ false → Below (entry w)
 
-abbrev pub deepLevel : Level → Bool
-deepLevel done = true
-deepLevel (due s n) = deep s
+abbrev pub BelowLevel : Level → Type 0
+BelowLevel done = Unit {0}
+BelowLevel (due s n) = Below s
 
-many-deep : (s : Slot) (n : ℕ) → deep s ≡ true → deepLevel (many s n) ≡ true
-many-deep s zero h = refl
-many-deep s (suc n) h = h
+many-below : {s : Slot} (n : ℕ) → Below s → BelowLevel (many s n)
+many-below zero h = tt
+many-below (suc n) h = h
 
-inner-deep : (w : Place) → outermost (inner w) ≡ false
-inner-deep alone = refl
-inner-deep message = refl
-inner-deep inside = refl
-inner-deep param = refl
+inner-below : (w : Place) → outermost (inner w) ≡ false
+inner-below alone = refl
+inner-below message = refl
+inner-below inside = refl
+inner-below param = refl
 
 -- beside it
-pub next-deep : (s : Slot) (k a n : ℕ) → fits k a (rule s .rows) ≡ true → deep s ≡ true → deepLevel (rule s .next a n) ≡ true
+pub next-below : {s : Slot} (k a n : ℕ) → fits k a (rule s .rows) ≡ true → Below s → BelowLevel (rule s .next a n)
 unfolding rule
-next-deep version k a n e h = refl
-next-deep (ari w) k a n e h = many-deep (ari w) n h
-next-deep (type w) k a n e h = rw (type-unset w k a (not-true (outermost w) h) e, inner-deep w)
-next-deep (value t w) k a n e h = refl
-next-deep namespace k a n e h = refl
-next-deep (objectNamespace p) k a n e h = refl
-next-deep (objectType p) k a n e h = refl
-next-deep (objectId true) k a n e h = refl
-next-deep (objectId false) k a n e h = refl
-next-deep params k a n e h = refl
-next-deep (key w) k a n e h = h
-next-deep (entry w) k a n e h = many-deep (key w) n h
-next-deep (nonce t) k a n e h = absurd (true≢false (sym h))
-next-deep setTime k a n e h = absurd (true≢false (sym h))
-next-deep target k a n e h = absurd (true≢false (sym h))
-next-deep report k a n e h = absurd (true≢false (sym h))
-next-deep reportTime k a n e h = absurd (true≢false (sym h))
-next-deep reportSource k a n e h = absurd (true≢false (sym h))
+next-below k a n e (an-ari o) = many-below n (an-ari o)
+next-below k a n e (a-type {w = w} o) = a-value (type-unset w k a o e) (inner-below w)
+next-below k a n e (a-value u o) = tt
+next-below k a n e a-namespace = tt
+next-below k a n e an-object-namespace = an-object-type
+next-below k a n e an-object-type = an-object-id
+next-below k a n e (an-object-id {p = true}) = some-params
+next-below k a n e (an-object-id {p = false}) = tt
+next-below k a n e some-params = tt
+next-below k a n e (a-key o) = an-entry o
+next-below k a n e (an-entry o) = many-below n (a-key o)
 
 -- inside an array, inside a map
-reference-deep : (a : ℕ) → deepLevel (referenceLevel a) ≡ true
-reference-deep a = go (eqb a 1)
+ari-below : (w : Place) (a : ℕ) → outermost w ≡ false → BelowLevel (ariLevel w a)
+ari-below w a o = go (eqb a 2) (eqb a 1)
   where
-    go : (t : Bool) → deepLevel (cond t (due namespace 0) (due (objectNamespace (eqb a 4)) 0)) ≡ true
-    go true = refl
-    go false = refl
+    go : (t u : Bool) → BelowLevel (cond t (due (type w) 0) (cond u (due namespace 0) (due (objectNamespace (eqb a 4)) 0)))
+    go true u = a-type o
+    go false true = a-namespace
+    go false false = an-object-namespace
 
-ari-deep : (w : Place) (a : ℕ) → not (outermost w) ≡ true → deepLevel (ariLevel w a) ≡ true
-ari-deep w a h = go (eqb a 2)
-  where
-    go : (t : Bool) → deepLevel (cond t (due (type w) 0) (referenceLevel a)) ≡ true
-    go true = h
-    go false = reference-deep a
+pub value-level : (t : ℕ) (w : Place) (a : ℕ) → isSetType t ≡ false → valueLevel t w a ≡ many (ari w) a
+value-level t w a u = let (x, y) = or-false (eqb t 20) (eqb t 21) u in rw (x, y)
 
-pub value-deep : (t : ℕ) (w : Place) (a : ℕ) → deep (value t w) ≡ true → (valueLevel t w a ≡ many (ari w) a) × (not (outermost w) ≡ true)
-value-deep t w a h =
-    let (p, q) = and-true (not (isSetType t)) (not (outermost w)) h in
-    let (x, y) = or-false (eqb t 20) (eqb t 21) (not-true (isSetType t) p) in
-    (rw (x, y), q)
-
-inside-deep : (s : Slot) (a : ℕ) → deep s ≡ true → (deepLevel (rule s .inArray a) ≡ true) × (deepLevel (rule s .inMap a) ≡ true)
+array-below : {s : Slot} (a : ℕ) → Below s → BelowLevel (rule s .inArray a)
 unfolding rule
-inside-deep version a h = (refl, refl)
-inside-deep (ari w) a h = (ari-deep w a h, refl)
-inside-deep (type w) a h = (refl, refl)
-inside-deep (value t w) a h = let (p, q) = value-deep t w a h in (rw p (many-deep (ari w) a q), many-deep (key w) a q)
-inside-deep namespace a h = (refl, refl)
-inside-deep (objectNamespace p) a h = (refl, refl)
-inside-deep (objectType p) a h = (refl, refl)
-inside-deep (objectId p) a h = (refl, refl)
-inside-deep params a h = (many-deep (ari param) a refl, many-deep (key param) a refl)
-inside-deep (key w) a h = (refl, refl)
-inside-deep (entry w) a h = (ari-deep w a h, refl)
-inside-deep (nonce t) a h = (refl, refl)
-inside-deep setTime a h = (refl, refl)
-inside-deep target a h = (reference-deep a, refl)
-inside-deep report a h = absurd (true≢false (sym h))
-inside-deep reportTime a h = (refl, refl)
-inside-deep reportSource a h = (reference-deep a, refl)
+array-below a (an-ari {w = w} o) = ari-below w a o
+array-below a (a-type o) = tt
+array-below a (a-value {t = t} {w = w} u o) = rw (value-level t w a u) (many-below a (an-ari o))
+array-below a a-namespace = tt
+array-below a an-object-namespace = tt
+array-below a an-object-type = tt
+array-below a an-object-id = tt
+array-below a some-params = many-below a (an-ari refl)
+array-below a (a-key o) = tt
+array-below a (an-entry {w = w} o) = ari-below w a o
 
-pub members-deep : (s : Slot) (l : Lead) → deep s ≡ true → deepLevel (members s l) ≡ true
+map-below : {s : Slot} (a : ℕ) → Below s → BelowLevel (rule s .inMap a)
+unfolding rule
+map-below a (an-ari o) = tt
+map-below a (a-type o) = tt
+map-below a (a-value u o) = many-below a (a-key o)
+map-below a a-namespace = tt
+map-below a an-object-namespace = tt
+map-below a an-object-type = tt
+map-below a an-object-id = tt
+map-below a some-params = many-below a (a-key refl)
+map-below a (a-key o) = tt
+map-below a (an-entry o) = tt
+
+pub members-below : {s : Slot} (l : Lead) → Below s → BelowLevel (members s l)
 unfolding members
-members-deep s l h =
-    let (p, q) = inside-deep s (l .arg) h in
-    go (eqb (l .kind) array) (eqb (l .kind) map) p q
+members-below {s} l h = go (eqb (l .kind) array) (eqb (l .kind) map)
   where
-    go : (t u : Bool) → deepLevel (rule s .inArray (l .arg)) ≡ true → deepLevel (rule s .inMap (l .arg)) ≡ true
-        → deepLevel (cond t (rule s .inArray (l .arg)) (cond u (rule s .inMap (l .arg)) done)) ≡ true
-    go true u p q = p
-    go false true p q = q
-    go false false p q = refl
+    go : (t u : Bool) → BelowLevel (cond t (rule s .inArray (l .arg)) (cond u (rule s .inMap (l .arg)) done))
+    go true u = array-below (l .arg) h
+    go false true = map-below (l .arg) h
+    go false false = tt

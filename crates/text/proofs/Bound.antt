@@ -1,15 +1,14 @@
 -- "A text has at most 4 bytes, and 3 for each binary byte and 16 for each item."
-use Prim.Native.Nat.{ℕ, zero, suc, _+_, _-_, _*_, _/_, _%_, _^_, _≤_, _<_}
-use Prim.Native.Char.{code}
+use Prim.Native.Nat.{ℕ, suc, _+_, _*_, _≤_}
 use mathlib.Core.Path.{_≡_, refl}
 use mathlib.Core.Bool.{Bool, true, false, _&&_, cond}
-use mathlib.Core.List.{List, [], _∷_, _++_}
+use mathlib.Core.List.{List, [], _∷_}
 use native.Mathlib.Omega.{arith}
 use native.Mathlib.Nat.{pow-le-pow-right}
 use lib.ListN.{length, length-append}
 use lib.Dec.{ltb, leb, eqb}
 use borrow.Author.Tests.{ltb-true, ltb-false, leb-true, leb-false}
-use Rattle.cbor.specs.Head.{negative, bytes, text, array, simple, Lead, Sound, width, size, leadBytes, isContainer}
+use Rattle.cbor.specs.Head.{negative, bytes, text, array, simple, Lead, Sound, width, leadBytes, isContainer}
 use Rattle.cbor.proofs.ByteLaws.{and-true}
 use Rattle.cbor.proofs.HeadLaws.{Carries, itself, after, sound-carries, length-lead}
 use Rattle.ari.specs.Table.{Slot, version, ari, type, value, namespace, objectNamespace, objectType, objectId, params, key, entry, nonce, setTime, target, report, reportTime, reportSource, Level, done, due, rule, members}

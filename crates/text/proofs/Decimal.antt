@@ -6,12 +6,12 @@ use mathlib.Core.List.{List, [], _∷_, _++_}
 use native.Mathlib.Omega.{arith}
 use native.Mathlib.Nat.{zero-add}
 use lib.ListN.{length, length-append}
-use lib.Dec.{ltb, leb}
+use lib.Dec.{ltb}
 use borrow.Author.Tests.{ltb-true, ltb-false, le-leb}
 use Rattle.cbor.specs.Byte.{within, all}
 use Rattle.cbor.proofs.ByteLaws.{and-true, within-is}
 use Rattle.ari.specs.Table.{max64}
-use Rattle.text.specs.Chars.{digits, decimal}
+use Rattle.text.specs.Chars.{digits}
 use Rattle.text.specs.Parse.{push, number}
 
 abbrev pub isDigit : ℕ → Bool

@@ -1,27 +1,26 @@
 -- The heads of an accepted ARI, by the rules that they stand by: literals, names, types.
-use Prim.Native.Nat.{ℕ, zero, suc, _+_, _≤_, _<_}
-use Prim.Native.Char.{code}
+use Prim.Native.Nat.{ℕ, _≤_}
 use mathlib.Core.Path.{_≡_, refl, sym, _∙_, ap}
 use mathlib.Core.Bool.{Bool, true, false, not, _&&_, _||_, cond, true≢false}
-use mathlib.Core.List.{List, [], _∷_, _++_}
+use mathlib.Core.List.{List, [], _∷_}
 use native.Mathlib.Omega.{arith}
 use lib.ListN.{length}
-use lib.Dec.{ltb, leb, eqb}
-use borrow.Author.Tests.{ltb-true, leb-true, leb-false, eqb-true, eqb-false, le-leb, lt-leb, ne-eqb, eq-eqb}
+use lib.Dec.{leb, eqb}
+use borrow.Author.Tests.{leb-true, leb-false, eqb-true, eqb-false, le-leb, lt-leb}
 use Rattle.cbor.specs.Byte.{within, all, isByte}
-use Rattle.cbor.specs.Head.{unsigned, negative, bytes, text, array, map, simple, Lead, shortest, Sound, counted, a-simple, a-float, stringSize, isContainer}
+use Rattle.cbor.specs.Head.{unsigned, negative, bytes, text, map, simple, Lead, shortest, Sound, counted, a-simple, a-float, stringSize, isContainer}
 use mathlib.Core.Logic.{_⊎_, inl, inr}
 use Rattle.cbor.proofs.ByteLaws.{and-true, or-true, not-true, not-false}
 use Rattle.cbor.proofs.HeadLaws.{sound-64}
 use Rattle.ari.specs.Name.{identifier, namespaceName}
-use Rattle.ari.specs.Table.{Place, alone, message, inside, param, max63, max64, outermost, Row, row, uintTo, nintTo, anyText, isNull, Entry, entryOf, types, typeRows, valueRows, valueSpelling, fits}
+use Rattle.ari.specs.Table.{Place, alone, message, inside, param, max63, outermost, Row, row, uintTo, nintTo, anyText, isNull, Entry, entryOf, types, typeRows, valueRows, valueSpelling, fits}
 use Rattle.ari.specs.Items.{Items}
 use Rattle.ari.specs.Decode.{Headed}
-use Rattle.ari.specs.Rules.{Plain, Namespace, NamespaceOrNull, ObjectType, ObjectId, Key}
-use Rattle.ari.proofs.Rows.{every, FitsBy, fits-by, leafRow, no-container, one-kind, everyEntry}
+use Rattle.ari.specs.Rules.{Plain, Namespace, NamespaceOrNull, ObjectType, ObjectId}
+use Rattle.ari.proofs.Rows.{every, FitsBy, fits-by, one-kind, everyEntry}
 use Rattle.text.specs.Text.{names, typeName, isFloat}
 use Rattle.text.specs.Chars.{literalText, nameText}
-use Rattle.text.specs.Parse.{ends, inWord, startsBy, leadOf, headOf, literalOf, startsNumber, nameOf, valueOf, typeNumber, typeOf}
+use Rattle.text.specs.Parse.{ends, inWord, startsBy, leadOf, headOf, literalOf, startsNumber, nameOf, valueOf, typeNumber}
 use Rattle.text.proofs.Words.{avoid, starts-weaken, Integer, plus, minus, Literal, whole, octets, chars, no-value, yes-value, null-value, undefined-value, literal-word, startsLiteral, literal-starts, literal-back, Named, numbered, lettered, named-word, named-starts, named-back}
 
 -- a head in its shortest form is the one that is read back

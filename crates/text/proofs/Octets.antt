@@ -1,21 +1,20 @@
 -- A candidate's bytes are bytes, whatever text it was read from.
 use Prim.Native.Nat.{ℕ, zero, suc, pred, _+_, _-_, _*_, _/_, _%_, _^_, _≤_, _<_}
-use Prim.Native.Char.{code}
 use mathlib.Core.Path.{_≡_, refl, ap}
-use mathlib.Core.Bool.{Bool, true, false, _&&_, _||_, cond}
+use mathlib.Core.Bool.{Bool, true, false, _&&_, cond}
 use mathlib.Core.List.{List, [], _∷_, _++_}
 use native.Mathlib.Omega.{arith}
 use native.Mathlib.Nat.{mod-lt, div-lt-iff-lt-mul, pow-suc, mul-comm}
 use lib.ListN.{length, take, drop, length-append, length-take, length-drop}
-use lib.Dec.{ltb, leb, eqb}
-use borrow.Author.Tests.{ltb-true, leb-true, lt-ltb, le-leb, lt-leb, eqb-true}
+use lib.Dec.{leb, eqb}
+use borrow.Author.Tests.{leb-true, lt-ltb, le-leb}
 use Rattle.cbor.specs.Byte.{be, within, all, isByte}
-use Rattle.cbor.specs.Head.{unsigned, negative, bytes, text, array, map, simple, Lead, width, shortest, majorOf, leadBytes}
+use Rattle.cbor.specs.Head.{unsigned, negative, bytes, text, array, map, simple, Lead, width, majorOf, leadBytes}
 use Rattle.cbor.proofs.ByteLaws.{and-true, within-true, pow-pos, all-take, all-drop}
 use Rattle.cbor.proofs.HeadLaws.{Carries, itself, after, carries-lt, width-small, shortest-carries}
 use Rattle.ari.specs.Table.{max64, Slot, version, ari, type, value, namespace, objectNamespace, objectType, objectId, params, key, entry, nonce, setTime, target, report, reportTime, reportSource, Level, done, due, rule, members}
 use Rattle.ari.specs.Reader.{Limits}
-use Rattle.ari.specs.Items.{Items, none, item, encode}
+use Rattle.ari.specs.Items.{none, encode}
 use Rattle.ari.specs.Decode.{Headed}
 use Rattle.text.specs.Chars.{ascii}
 use Rattle.text.specs.Text.{Name, name, names, spell, anAriDue}

@@ -1,8 +1,7 @@
 -- The outermost ARI: what has a text form may stand anywhere, and its text is read back as its candidate.
 use Prim.Native.Nat.{ℕ, suc, _+_, _≤_}
-use Prim.Native.Char.{code}
 use mathlib.Core.Path.{_≡_, refl, sym, _∙_, ap}
-use mathlib.Core.Bool.{Bool, true, false, not, _&&_, _||_, cond, true≢false}
+use mathlib.Core.Bool.{Bool, true, false, _&&_, _||_, cond, true≢false}
 use mathlib.Core.List.{List, [], _∷_, _++_, append-nil}
 use native.Mathlib.Omega.{arith}
 use lib.ListN.{length, drop}
@@ -10,22 +9,21 @@ use lib.Dec.{eqb}
 use borrow.Author.Tests.{eqb-true}
 use Rattle.cbor.specs.Byte.{all, isByte}
 use Rattle.cbor.specs.Head.{array, simple, Lead, leadBytes}
-use Rattle.cbor.proofs.ByteLaws.{and-true, or-false}
-use Rattle.ari.specs.Table.{Place, alone, inside, Slot, ari, objectNamespace, Row, row, Level, done, due, types, typeRows, rule, fits, members}
+use Rattle.cbor.proofs.ByteLaws.{and-true}
+use Rattle.ari.specs.Table.{Place, alone, inside, ari, Row, row, Level, done, due, types, typeRows, rule, fits, members}
 use Rattle.ari.specs.Reader.{Limits, single}
 use Rattle.ari.specs.Items.{Items, none, item, encode, heads, depth, Spot, insideAt, spots}
-use Rattle.ari.specs.Rules.{Plain, Ari, literal, namespace-ref, typed, object-ref, Object, plain, with-params, Value, simple-value, ac, am, execset, rptset, Stands, an-ari}
+use Rattle.ari.specs.Rules.{Ari, literal, namespace-ref, typed, object-ref, plain, with-params, Stands, an-ari}
 use Rattle.ari.proofs.Due.{Fit, prevAfter}
-use Rattle.ari.proofs.Rows.{every, fits-by}
-use Rattle.ari.proofs.RulesFit.{Here, here-ari}
+use Rattle.ari.proofs.Rows.{fits-by}
+use Rattle.ari.proofs.RulesFit.{here-ari}
 use Rattle.ari.proofs.Demand.{stands-fit}
 use Rattle.text.specs.Text.{anAri, spell, texts, anAriDue, isRelative, textOf, Form, spelled, none-at, isFloat, floatIn, isSet, form}
 use Rattle.text.specs.Parse.{startsBy, starts, Run, level, parse, candidate}
 use Rattle.text.proofs.Decimal.{all-split}
-use Rattle.text.proofs.Words.{Integer, plus, minus, Named, numbered, lettered}
-use Rattle.text.proofs.Leads.{isSetType, namespace-named, Space, relative, absolute, space-case, type-word}
-use Rattle.text.proofs.Below.{Spells}
-use Rattle.text.proofs.Tally.{layout}
+use Rattle.text.proofs.Words.{plus, minus, Named, numbered, lettered}
+use Rattle.text.proofs.Leads.{isSetType, namespace-named, type-word}
+use Rattle.text.proofs.Below.{Spells, an-ari}
 use Rattle.text.proofs.Ahead.{stops, held-text}
 use Rattle.text.proofs.Back.{reads}
 
@@ -135,6 +133,6 @@ candidate-back m (an-ari {l = l} {s = s} {ms = ms} a) e b d k =
     let i = inward a n in
     let q = spells g (due (ari alone) 0) [] 0 0 (stands-fit (an-ari a)) x b in
     let h = here-ari [] i in
-    let z = reads (m .items) g anAriDue [] (h .good, h .holds, tt) q refl (m .containers) (m .items) d k k [] (unfold stops in refl) in
+    let z = reads (m .items) g anAriDue [] (h .good, h .holds, tt) q (an-ari refl) (m .containers) (m .items) d k k [] (unfold stops in refl) in
     ap (λ (t : List ℕ). level (parse (m .items) (m .containers)) (m .items) anAriDue t .items) (unschemed i ∙ sym (append-nil (texts g anAriDue)))
     ∙ ap (λ (r : Run). r .items) z

@@ -7,23 +7,22 @@ use mathlib.Core.List.{List, [], _∷_}
 use native.Mathlib.Omega.{arith}
 use lib.ListN.{length}
 use lib.Dec.{ltb, eqb}
-use borrow.Author.Tests.{ltb-true, ltb-false, lt-ltb, le-ltb, eqb-true, eq-eqb}
+use borrow.Author.Tests.{ltb-true, ltb-false, eqb-true, eq-eqb}
 use Rattle.cbor.specs.Byte.{all, isByte}
 use Rattle.cbor.proofs.ByteLaws.{and-true}
 use Rattle.ari.specs.Table.{max64, alone, ari, due}
 use Rattle.ari.specs.Reader.{Limits, Answer, refuse, accept, single, read}
-use Rattle.ari.specs.Items.{Items, encode, heads}
+use Rattle.ari.specs.Items.{encode, heads}
 use Rattle.ari.specs.Decode.{decode}
-use Rattle.ari.specs.Rules.{Is}
 use Rattle.ari.specs.Limits.{firstLimits}
 use Rattle.ari.proofs.Demand.{stands-fit, demand-two}
 use Rattle.ari.proofs.Weight.{well-fit}
 use Rattle.text.specs.Text.{textOf, Form, spelled, none-at, form}
 use Rattle.text.specs.Parse.{same, candidate}
-use Rattle.text.specs.Answer.{Output, refused, output, spellOut, written, writeText, checked, readText, lent, Spelled}
+use Rattle.text.specs.Answer.{Output, refused, output, written, writeText, checked, readText, Spelled}
 use Rattle.text.proofs.Bound.{text-most}
 use Rattle.text.proofs.Outer.{candidate-back}
-use Rattle.text.proofs.Octets.{Given, candidate-bytes}
+use Rattle.text.proofs.Octets.{candidate-bytes}
 
 same-is : (u v : List ℕ) → same u v ≡ true → u ≡ v
 same-is [] [] e = refl

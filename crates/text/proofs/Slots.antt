@@ -6,14 +6,14 @@ use lib.Dec.{eqb}
 use mathlib.Core.List.{List, []}
 use Rattle.cbor.specs.Byte.{all, isByte}
 use Rattle.cbor.specs.Head.{unsigned, array, Lead, Sound, isContainer}
-use Rattle.ari.specs.Table.{Place, Slot, ari, type, value, namespace, objectNamespace, objectType, objectId, key, entry, literals, types, valueRows, valueSpelling, done, rule, members}
+use Rattle.ari.specs.Table.{Place, Slot, ari, type, value, namespace, objectNamespace, objectType, objectId, key, entry, literals, types, valueRows, valueSpelling, done, rule}
 use Rattle.ari.specs.Items.{Items, none, item}
 use Rattle.ari.specs.Rules
-use Rattle.ari.specs.Rules.{Plain, Holds, Ari, literal, namespace-ref, typed, object-ref, Object, plain, with-params}
-use Rattle.ari.proofs.Due.{Good, Fit, members-leaf}
+use Rattle.ari.specs.Rules.{Plain, Holds, Ari, literal, namespace-ref, typed, object-ref, plain, with-params}
+use Rattle.ari.proofs.Due.{Fit, members-leaf}
 use Rattle.ari.proofs.Rows.{no-container, type-leaf}
 use Rattle.ari.proofs.RulesFit.{Here, here-as, alike-sym, entry-alike}
-use Rattle.ari.proofs.FitRules.{here, of-plain, of-ari, of-array}
+use Rattle.ari.proofs.FitRules.{of-plain, of-ari, of-array}
 use Rattle.text.specs.Chars.{literalText, nameText}
 use Rattle.text.specs.Text.{typeName, isFloat}
 use Rattle.text.specs.Parse.{headOf, literalOf, nameOf, valueOf, typeOf}

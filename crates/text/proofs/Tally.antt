@@ -1,30 +1,27 @@
 -- Members are counted ahead: the commas of a level's text, and of what stands in parentheses none.
-use Prim.Native.Nat.{ℕ, zero, suc, _+_, _≤_}
-use Prim.Native.Char.{code}
-use mathlib.Core.Path.{_≡_, refl, sym, _∙_, ap}
-use mathlib.Core.Bool.{Bool, true, false, not, _&&_, _||_, cond, true≢false}
+use Prim.Native.Nat.{ℕ, zero, suc, _+_}
+use mathlib.Core.Path.{_≡_, refl, _∙_, ap}
+use mathlib.Core.Bool.{Bool, true, false, not, _&&_, _||_, cond}
 use mathlib.Core.List.{List, [], _∷_, _++_, append-assoc}
 use native.Mathlib.Omega.{arith}
 use lib.Dec.{eqb}
-use borrow.Author.Tests.{eqb-true, ne-eqb}
+use borrow.Author.Tests.{ne-eqb}
 use Rattle.cbor.specs.Byte.{all, isByte}
 use Rattle.cbor.specs.Head.{array, map, simple, Lead, isContainer}
 use Rattle.cbor.proofs.ByteLaws.{and-true}
-use Rattle.ari.specs.Table.{Place, alone, message, inside, param, Slot, version, ari, type, value, namespace, objectNamespace, objectType, objectId, params, key, entry, nonce, setTime, target, report, reportTime, reportSource, Level, done, due, many, types, referenceLevel, ariLevel, rule, members}
+use Rattle.ari.specs.Table.{Own, one, rising, filled, Place, Slot, ari, type, value, namespace, objectNamespace, objectType, objectId, key, Level, done, due, many, ariLevel, rule, members}
 use Rattle.ari.specs.Items.{Items, none, item}
-use Rattle.ari.specs.Rules.{Plain, Ari, literal, namespace-ref, typed, object-ref, Object, plain, with-params}
-use Rattle.ari.proofs.Due.{Good, Fit, prevAfter, members-leaf}
-use Rattle.ari.proofs.Rows.{type-leaf}
-use Rattle.ari.proofs.RulesFit.{Here, here-as, alike-sym, entry-alike}
-use Rattle.ari.proofs.FitRules.{here, of-plain, of-ari, of-array}
+use Rattle.ari.specs.Rules.{Ari}
+use Rattle.ari.proofs.Due.{Fit, prevAfter, members-leaf}
+use Rattle.ari.proofs.RulesFit.{Here}
+use Rattle.ari.proofs.FitRules.{here}
 use Rattle.text.specs.Chars.{literalText, nameText}
 use Rattle.text.specs.Text.{comma, anAri, absolute, spell, texts, typeName, isFloat}
-use Rattle.text.specs.Parse.{ends, inWord, starts, opened, commas}
-use Rattle.text.proofs.Decimal.{all-append}
+use Rattle.text.specs.Parse.{ends, inWord, opened, commas}
 use Rattle.text.proofs.Words.{differs, all-weaken, literal-word, named-word}
-use Rattle.text.proofs.Leads.{Space, relative, absolute as from, Word, valueText}
-use Rattle.text.proofs.Slots.{leaf-none, literal-here, ari-here, entry-here, space-here, type-here, namespace-here, objectType-here, objectId-here, key-here, value-here}
-use Rattle.text.proofs.Below.{Spells, deep, deepLevel, next-deep, members-deep}
+use Rattle.text.proofs.Leads.{Space, relative, absolute as from, valueText}
+use Rattle.text.proofs.Slots.{literal-here, ari-here, entry-here, space-here, type-here, namespace-here, objectType-here, objectId-here, key-here, value-here}
+use Rattle.text.proofs.Below.{Spells, Below, an-ari, a-type, a-value, a-namespace, an-object-namespace, an-object-type, an-object-id, some-params, a-key, an-entry, BelowLevel, next-below, members-below}
 
 -- neither a comma nor a parenthesis
 unfoldable pub calm : ℕ → Bool
@@ -55,26 +52,16 @@ pub commas-end : (r : List ℕ) → commas 1 (41 ∷ r) ≡ 0
 unfolding commas opened
 commas-end r = omega (arith, behind r)
 
--- the commas of a level
+-- the commas of a level: between ARIs, and between pairs
+abbrev isRising : Own → Bool
+isRising Own.none = false
+isRising one = false
+isRising rising = true
+isRising filled = false
+
 abbrev pub commasDue : Level → ℕ
 commasDue done = 0
-commasDue (due version n) = 0
-commasDue (due (ari w) n) = n
-commasDue (due (type w) n) = 0
-commasDue (due (value t w) n) = 0
-commasDue (due namespace n) = 0
-commasDue (due (objectNamespace p) n) = 0
-commasDue (due (objectType p) n) = 0
-commasDue (due (objectId p) n) = 0
-commasDue (due params n) = 0
-commasDue (due (key w) n) = n
-commasDue (due (entry w) n) = n
-commasDue (due (nonce t) n) = 0
-commasDue (due setTime n) = 0
-commasDue (due target n) = 0
-commasDue (due report n) = 0
-commasDue (due reportTime n) = 0
-commasDue (due reportSource n) = 0
+commasDue (due s n) = cond (rule s .asks || isRising (rule s .own)) n 0
 
 -- counted where no other parenthesis is open
 abbrev pub atFirst : ℕ → ℕ → ℕ
@@ -113,12 +100,8 @@ comma-counts s f (suc n) (suc e) x = rw (ne-eqb (suc (suc e)) 1 (λ q. omega ari
 calm-finish : (u : List ℕ) → all calm u ≡ true → (n e : ℕ) (x : List ℕ) → commas (suc e) (u ++ x) + atFirst e n ≡ atFirst e n + commas (suc e) x
 calm-finish u h n e x = rw (quiet u h e x) (omega arith)
 
-flat-none : (t u : Bool) → commasDue (cond t done (cond u done done)) ≡ 0
-flat-none true u = refl
-flat-none false true = refl
-flat-none false false = refl
-
 flat-ari : (w : Place) (t u : Bool) (a : ℕ) → commasDue (cond t (ariLevel w a) (cond u done done)) ≡ 0
+unfolding rule
 flat-ari w true u a = go (eqb a 2) (eqb a 1)
   where
     go : (x y : Bool) → commasDue (cond x (due (type w) 0) (cond y (due namespace 0) (due (objectNamespace (eqb a 4)) 0))) ≡ 0
@@ -147,52 +130,42 @@ space-calm : {l : Lead} {s : List ℕ} → Space l s → all calm (cond (eqb (l 
 space-calm (relative k a e) = rw k (unfold calm in refl)
 space-calm {l} {s} (from n m) = rw n (absolute-calm l s (named-word (l .info) m))
 
-module _ (n : ℕ) {prev : List ℕ} {l : Lead} {s : List ℕ} {ms : Items} (f : isFloat l ≡ false) (b : all isByte s ≡ true) where
-  no-members : {t : Slot} → Here t prev l s ms → isContainer (l .kind) ≡ false → commasDue (members t l) ≡ 0
-  no-members {t} h c = rw (members-leaf t l c)
+-- a word: no members, and no comma behind it
+a-word : (t : Slot) (n : ℕ) (l : Lead) (s : List ℕ) → all calm (spell t .before l s) ≡ true → commasDue (members t l) ≡ 0
+    → all calm (spell t .after l (rule t .next (l .arg) n)) ≡ true → commasDue (rule t .next (l .arg) n) ≡ commasDue (due t n) → Sign t n l s
+a-word t n l s x y u e =
+    a-calm (record { start = x; inner = y; finish = λ i z. rw e (calm-finish (spell t .after l (rule t .next (l .arg) n)) u (commasDue (due t n)) i z) })
 
-  sign : (t : Slot) → Here t prev l s ms → deep t ≡ true → Sign t n l s
-  unfolding rule spell members
-  sign version h d = absurd (true≢false (sym d))
-  sign (ari w) h d =
+no-members : (l : Lead) → commasDue (cond (eqb (l .kind) array) done (cond (eqb (l .kind) map) done done)) ≡ 0
+no-members l = go (eqb (l .kind) array) (eqb (l .kind) map)
+  where
+    go : (t u : Bool) → commasDue (cond t done (cond u done done)) ≡ 0
+    go true u = refl
+    go false true = refl
+    go false false = refl
+
+module _ (n : ℕ) {prev : List ℕ} {l : Lead} {s : List ℕ} {ms : Items} (f : isFloat l ≡ false) (b : all isByte s ≡ true) where
+  sign : {t : Slot} → Here t prev l s ms → Below t → Sign t n l s
+  unfolding rule spell members calm
+  sign h (an-ari {w = w} o) =
       a-calm
       (record { start = ari-calm (ari-here h) f b; inner = flat-ari w (eqb (l .kind) array) (eqb (l .kind) map) (l .arg); finish = comma-counts (ari w) (λ m. refl) n })
-  sign (type w) h d =
-      a-calm
-      (record { start = word-calm (typeName (l .arg)) (type-here f h .0 .letters); inner = flat-none (eqb (l .kind) array) (eqb (l .kind) map); finish = calm-finish (47 ∷ []) (unfold calm in refl) 0 })
-  sign (value t w) h d = go (isContainer (l .kind)) refl
+  sign h (a-type {w = w} o) = a-word (type w) n l s (word-calm (typeName (l .arg)) (type-here f h .0 .letters)) (no-members l) refl refl
+  sign h (a-value {t = t} {w = w} u o) = go (isContainer (l .kind)) refl
     where
       go : (c : Bool) → isContainer (l .kind) ≡ c → Sign (value t w) n l s
       go true c = a-group (record { start = rw c; finish = rw c; last = refl; own = refl })
-      go false c = a-calm (record { start = rw c (word-calm (valueText t l s) (value-here f c b h .0 .letters)); inner = no-members h c; finish = rw c (calm-finish [] refl 0) })
-  sign namespace h d =
-      a-calm
-      (record { start = absolute-calm l s (namespace-here f h .0 .letters); inner = flat-none (eqb (l .kind) array) (eqb (l .kind) map); finish = calm-finish (47 ∷ []) (unfold calm in refl) 0 })
-  sign (objectNamespace p) h d =
-      a-calm
-      (record { start = space-calm (space-here h .0); inner = flat-none (eqb (l .kind) array) (eqb (l .kind) map); finish = calm-finish (47 ∷ []) (unfold calm in refl) 0 })
-  sign (objectType p) h d =
-      a-calm
-      (record { start = word-calm (nameText l s) (objectType-here f h .0 .letters); inner = flat-none (eqb (l .kind) array) (eqb (l .kind) map); finish = calm-finish (47 ∷ []) (unfold calm in refl) 0 })
-  sign (objectId true) h d =
-      a-calm
-      (record { start = word-calm (nameText l s) (objectId-here f h .0 .letters); inner = flat-none (eqb (l .kind) array) (eqb (l .kind) map); finish = calm-finish [] refl 0 })
-  sign (objectId false) h d =
-      a-calm
-      (record { start = word-calm (nameText l s) (objectId-here f h .0 .letters); inner = flat-none (eqb (l .kind) array) (eqb (l .kind) map); finish = calm-finish [] refl 0 })
-  sign params h d = a-group (record { start = refl; finish = refl; last = refl; own = refl })
-  sign (key w) h d =
-      a-calm
-      (record { start = word-calm (literalText l s) (key-here f b h .0 .letters); inner = flat-none (eqb (l .kind) array) (eqb (l .kind) map); finish = calm-finish (61 ∷ []) (unfold calm in refl) n })
-  sign (entry w) h d =
+      go false c = a-word (value t w) n l s (rw c (word-calm (valueText t l s) (value-here f c b h .0 .letters))) (rw (members-leaf (value t w) l c)) (rw c) refl
+  sign h a-namespace = a-word namespace n l s (absolute-calm l s (namespace-here f h .0 .letters)) (no-members l) refl refl
+  sign h (an-object-namespace {p = p}) = a-word (objectNamespace p) n l s (space-calm (space-here h .0)) (no-members l) refl refl
+  sign h (an-object-type {p = p}) = a-word (objectType p) n l s (word-calm (nameText l s) (objectType-here f h .0 .letters)) (no-members l) refl refl
+  sign h (an-object-id {p = true}) = a-word (objectId true) n l s (word-calm (nameText l s) (objectId-here f h .0 .letters)) (no-members l) refl refl
+  sign h (an-object-id {p = false}) = a-word (objectId false) n l s (word-calm (nameText l s) (objectId-here f h .0 .letters)) (no-members l) refl refl
+  sign h some-params = a-group (record { start = refl; finish = refl; last = refl; own = refl })
+  sign h (a-key {w = w} o) = a-word (key w) n l s (word-calm (literalText l s) (key-here f b h .0 .letters)) (no-members l) refl refl
+  sign h (an-entry {w = w} o) =
       a-calm
       (record { start = ari-calm (entry-here h) f b; inner = flat-ari w (eqb (l .kind) array) (eqb (l .kind) map) (l .arg); finish = comma-counts (key w) (λ m. refl) n })
-  sign (nonce t) h d = absurd (true≢false (sym d))
-  sign setTime h d = absurd (true≢false (sym d))
-  sign target h d = absurd (true≢false (sym d))
-  sign report h d = absurd (true≢false (sym d))
-  sign reportTime h d = absurd (true≢false (sym d))
-  sign reportSource h d = absurd (true≢false (sym d))
 
 none-first : (e : ℕ) → atFirst e 0 ≡ 0
 none-first e = go (eqb e 0)
@@ -218,15 +191,15 @@ module _ (l : Lead) (s : List ℕ) (ms rs : Items) (t : Slot) (n : ℕ) (r : Lis
       ≡ spell t .before l s ++ (texts ms (members t l) ++ (spell t .after l (rule t .next (l .arg) n) ++ (texts rs (rule t .next (l .arg) n) ++ r)))
   layout = simp append-assoc
 
-pub tallied : (g : Items) (v : Level) (prev : List ℕ) → Fit g false v prev → Spells g → deepLevel v ≡ true → (e : ℕ) (r : List ℕ)
+pub tallied : (g : Items) (v : Level) (prev : List ℕ) → Fit g false v prev → Spells g → BelowLevel v → (e : ℕ) (r : List ℕ)
     → commas (suc e) (texts g v ++ r) ≡ atFirst e (commasDue v) + commas (suc e) r
 tallied none done prev f q h e r = omega (arith, none-first e)
 tallied none (due t n) prev f q h e r = absurd f
 tallied (item l s ms rs) done prev f q h e r = absurd f
 tallied (item l s ms rs) (due t n) prev f q h e r =
     ap (commas (suc e)) (layout l s ms rs t n r)
-    ∙ go (sign n (q .0) (q .1) t (here {ms = ms} (f .0) (f .1)) h) (tallied ms (members t l) [] (f .1) (q .2) (members-deep t l h))
-    (tallied rs v (prevAfter t prev l s) (f .2) (q .3) (next-deep t (l .kind) (l .arg) n (f .0 .fitting) h) e r)
+    ∙ go (sign n (q .0) (q .1) (here {ms = ms} (f .0) (f .1)) h) (tallied ms (members t l) [] (f .1) (q .2) (members-below l h))
+    (tallied rs v (prevAfter t prev l s) (f .2) (q .3) (next-below (l .kind) (l .arg) n (f .0 .fitting) h) e r)
   where
     v : Level
     v = rule t .next (l .arg) n

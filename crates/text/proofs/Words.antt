@@ -1,23 +1,22 @@
 -- A literal's or a name's text is one word, which is read back.
-use Prim.Native.Nat.{ℕ, zero, suc, pred, _+_, _-_, _*_, _/_, _%_, _^_, _≤_, _<_}
+use Prim.Native.Nat.{ℕ, zero, suc, _+_, _-_, _*_, _/_, _%_, _^_, _≤_, _<_}
 use Prim.Native.Char.{code}
 use mathlib.Core.Path.{_≡_, refl, sym, _∙_, ap}
-use mathlib.Core.Bool.{Bool, true, false, not, _&&_, _||_, cond, true≢false}
-use mathlib.Core.List.{List, [], _∷_, _++_, append-assoc, append-nil}
+use mathlib.Core.Bool.{Bool, true, false, _&&_, _||_, cond, true≢false}
+use mathlib.Core.List.{List, [], _∷_, _++_}
 use mathlib.Core.Logic.{_⊎_, inl, inr}
 use native.Mathlib.Omega.{arith}
-use lib.ListN.{length, take, drop, length-append}
+use lib.ListN.{length, length-append}
 use lib.Seq.{take-at, drop-at}
-use lib.Dec.{ltb, leb, eqb}
-use borrow.Author.Tests.{ltb-true, eqb-true, eqb-false, lt-ltb, le-ltb, le-leb, lt-leb, ne-eqb, eq-eqb}
+use lib.Dec.{ltb, eqb}
+use borrow.Author.Tests.{ltb-true, eqb-true, eqb-false, lt-leb, ne-eqb}
 use Rattle.cbor.specs.Byte.{within, all, isByte}
 use Rattle.cbor.specs.Head.{unsigned, negative, bytes, text, simple, Lead}
-use Rattle.cbor.proofs.ByteLaws.{and-true, or-true, or-right, not-true, within-true}
+use Rattle.cbor.proofs.ByteLaws.{and-true, or-true, not-true, within-true}
 use Rattle.ari.specs.Name.{startsName, continuesName, identifier, namespaceName}
 use Rattle.ari.specs.Table.{max64, max63}
-use Rattle.ari.specs.Decode.{Headed}
-use Rattle.text.specs.Chars.{ascii, digits, decimal, integer, hex, hexes, bare, escape, each, textString, byteString, simpleText, literalText, nameText}
-use Rattle.text.specs.Parse.{ends, inWord, front, past, startsBy, starts, number, unhex, Await, any, first, second, unescape, unhexes, inner, headOf, stringOf, integerOf, literalOf, startsNumber, nameOf}
+use Rattle.text.specs.Chars.{digits, decimal, integer, hex, hexes, bare, escape, each, textString, byteString, simpleText, literalText, nameText}
+use Rattle.text.specs.Parse.{ends, inWord, front, past, startsBy, starts, number, unhex, any, unescape, unhexes, inner, headOf, stringOf, integerOf, literalOf, startsNumber, nameOf}
 use Rattle.text.proofs.Decimal.{isDigit, all-append, number-digits, all-digits, digits-some}
 
 -- a word, and what stands behind it

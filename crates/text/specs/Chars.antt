@@ -5,7 +5,7 @@ use Prim.Native.String.{String}
 use mathlib.Core.Bool.{Bool, _||_, cond}
 use mathlib.Core.List.{List, [], _∷_, _++_}
 use lib.Dec.{ltb, eqb}
-use Rattle.cbor.specs.Head.{unsigned, negative, bytes, text, simple, Lead}
+use Rattle.cbor.specs.Head.{negative, bytes, text, simple, Lead}
 use Rattle.ari.specs.Name.{continuesName}
 
 -- a quoted text as its bytes

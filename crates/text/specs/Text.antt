@@ -1,6 +1,5 @@
 -- The text of a single ARI, head by head along the slots, and which accepted ARIs have none: document 01, 'Text' and test 14.
 use Prim.Native.Nat.{ℕ}
-use Prim.Native.Char.{code}
 use Prim.Native.String.{String}
 use mathlib.Core.Bool.{Bool, false, _&&_, _||_, cond}
 use mathlib.Core.List.{List, [], _∷_, _++_}
