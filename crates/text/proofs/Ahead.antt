@@ -123,10 +123,11 @@ object-seen {l₁} {s₁} l₂ l₃ {s₂} {s₃} (from k m) n₂ n₃ z h =
 held-head : {n : ℕ} {l : Lead} {s : List ℕ} → Holds array n l s → headOf array n [] ≡ record { lead = l; str = s }
 unfolding isFloat
 held-head {n} {l} {s} h =
-    ap (λ (k : ℕ). headOf k n []) (sym (h .kind-is)) ∙ ap (λ (a : ℕ). headOf (l .kind) a []) (sym (h .arg-is)) ∙ ap (headOf (l .kind) (l .arg)) (sym (h .bare))
-    ∙ head-is s (h .head) (rw (h .kind-is))
+    ap (λ (k : ℕ). headOf k n []) (sym (h .kind-is)) ∙ ap (λ (a : ℕ). headOf (l .kind) a []) (sym (h .arg-is))
+    ∙ ap (headOf (l .kind) (l .arg)) (sym (h .bare)) ∙ head-is s (h .head) (rw (h .kind-is))
 
-pub held-text : (w : Place) {n : ℕ} {l : Lead} {s : List ℕ} → Holds array n l s → (anAri .before l s ≡ cond (eqb n 2) (47 ∷ []) []) × (members (ari w) l ≡ ariLevel w n)
+pub held-text : (w : Place) {n : ℕ} {l : Lead} {s : List ℕ} → Holds array n l s
+    → (anAri .before l s ≡ cond (eqb n 2) (47 ∷ []) []) × (members (ari w) l ≡ ariLevel w n)
 unfolding members rule
 held-text w h = (rw (h .kind-is, h .arg-is), rw (h .kind-is, h .arg-is))
 
@@ -154,7 +155,8 @@ ari-seen {w} {l} {s} (object-ref e (plain {l₁ = l₁} {l₂ = l₂} {l₃ = l�
     let (x, y) = held-text w h in
     rw (x, y, ← held-head h, object-shape false l₁ l₂ l₃ s₁ s₂ s₃ m₁ m₂ m₃ none r (p₁ .bare) (p₂ .bare) (p₃ .bare))
     (rw (stop-not 40 refl r z) at (object-seen l₂ l₃ (space-case p₁) (type-named p₂) (id-named p₃) r (stop-halt r z)))
-ari-seen {w} {l} {s} (object-ref e (with-params {l₁ = l₁} {l₂ = l₂} {l₃ = l₃} {l₄ = l₄} {s₁ = s₁} {s₂ = s₂} {s₃ = s₃} {s₄ = s₄} {m₁ = m₁} {m₂ = m₂} {m₃ = m₃} {m₄ = m₄} h p₁ p₂ p₃ u)) f b r z =
+ari-seen {w} {l} {s} (object-ref e (with-params {l₁ = l₁} {l₂ = l₂} {l₃ = l₃} {l₄ = l₄} {s₁ = s₁} {s₂ = s₂} {s₃ = s₃} {s₄ = s₄} {m₁ = m₁} {m₂ = m₂}
+    {m₃ = m₃} {m₄ = m₄} h p₁ p₂ p₃ u)) f b r z =
     let (x, y) = held-text w h in
     rw (x, y, ← held-head h, object-shape true l₁ l₂ l₃ s₁ s₂ s₃ m₁ m₂ m₃ (item l₄ s₄ m₄ none) r (p₁ .bare) (p₂ .bare) (p₃ .bare))
     (params-seen l₂ l₃ (space-case p₁) (type-named p₂) (id-named p₃) l₄ s₄ m₄ r)

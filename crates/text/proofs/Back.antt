@@ -29,7 +29,8 @@ use Rattle.text.proofs.Tally.{commas-end, commasDue, layout, tallied}
 use Rattle.text.proofs.Ahead.{stops, stop-halt, take-word, ari-seen}
 
 -- behind an ARI stands what may
-comma-stops : (s : Slot) (n : ℕ) (g : Items) (prev r : List ℕ) → Fit g false (many s n) prev → stops r ≡ true → stops (comma (many s n) ++ (texts g (many s n) ++ r)) ≡ true
+comma-stops : (s : Slot) (n : ℕ) (g : Items) (prev r : List ℕ) → Fit g false (many s n) prev → stops r ≡ true
+    → stops (comma (many s n) ++ (texts g (many s n) ++ r)) ≡ true
 unfolding stops
 comma-stops s zero none prev r f h = h
 comma-stops s zero (item l str ms rs) prev r f h = absurd f
@@ -177,7 +178,8 @@ id-halts true none prev r f h = absurd f
 id-halts true (item l s ms rs) prev r f h = refl
 id-halts false rs prev r f h = done-halts rs prev r f h
 
-null-spelled : {l : Lead} {s : List ℕ} → Sound l → isFloat l ≡ false → l .kind ≡ simple → l .arg ≡ 22 → s ≡ [] → Word (λ u. headOf simple 22 []) (46 ∷ []) l s
+null-spelled : {l : Lead} {s : List ℕ} → Sound l → isFloat l ≡ false → l .kind ≡ simple → l .arg ≡ 22 → s ≡ []
+    → Word (λ u. headOf simple 22 []) (46 ∷ []) l s
 unfolding inWord ends startsBy
 null-spelled {l} {s} h f k a e = record {
   letters = refl;
@@ -212,7 +214,8 @@ module _ (n : ℕ) (prev : List ℕ) (l : Lead) (s : List ℕ) (ms rs : Items) (
           let y : List ℕ = texts rs done ++ r in
           record {
             taken = rw c
-                (group-back (cond (eqb t 17) array map) (texts ms (members (value t w) l) ++ (41 ∷ y)) (f .0 .head) (q .0) (container-bare (f .0) c) k (held-count ms g o (f .1) (q .2) y));
+                (group-back (cond (eqb t 17) array map) (texts ms (members (value t w) l) ++ (41 ∷ y)) (f .0 .head) (q .0) (container-bare (f .0) c) k
+                (held-count ms g o (f .1) (q .2) y));
             stopped = inr (rw c (unfold stops in refl));
           }
       go false c =
@@ -229,7 +232,9 @@ module _ (n : ℕ) (prev : List ℕ) (l : Lead) (s : List ℕ) (ms rs : Items) (
       go : Space l s → ms ≡ none → Back (objectNamespace p) n l s ms rs r
       go (relative k a e) b = record { taken = rw (eq-eqb (l .kind) simple k) (word-back ms _ _ (null-spelled (f .0 .head) (q .0) k a e, b) refl); stopped = inl b }
       go (from k m) b = record { taken = rw k (word-back ms _ _ (name-spelled m (f .0 .head) (q .0), b) refl); stopped = inl b }
-  head-back _ f (an-object-type {p = p}) = let x = objectType-here (q .0) (stood (objectType p) f) in record { taken = word-back ms _ _ x refl; stopped = inl (x .1) }
+  head-back _ f (an-object-type {p = p}) =
+      let x = objectType-here (q .0) (stood (objectType p) f) in
+      record { taken = word-back ms _ _ x refl; stopped = inl (x .1) }
   head-back _ f (an-object-id {p = p}) =
       let x = objectId-here (q .0) (stood (objectId p) f) in
       record { taken = word-back ms _ _ x (id-halts p rs (prevAfter (objectId p) prev l s) r (f .2) z); stopped = inl (x .1) }
@@ -240,7 +245,9 @@ module _ (n : ℕ) (prev : List ℕ) (l : Lead) (s : List ℕ) (ms rs : Items) (
         taken = group-back _ (texts ms (members params l) ++ (41 ∷ y)) (f .0 .head) (q .0) (container-bare (f .0) c) k (held-count ms g refl (f .1) (q .2) y);
         stopped = inr (unfold stops in refl);
       }
-  head-back _ f (a-key {w = w} o) = let x = key-here (q .0) (q .1) (stood (key w) f) in record { taken = word-back ms _ _ x refl; stopped = inl (x .1) }
+  head-back _ f (a-key {w = w} o) =
+      let x = key-here (q .0) (q .1) (stood (key w) f) in
+      record { taken = word-back ms _ _ x refl; stopped = inl (x .1) }
   head-back _ f (an-entry {w = w} o) =
       let c = comma-stops (key w) n rs (prevAfter (entry w) prev l s) r (f .2) z in
       record { taken = ari-seen (entry-here (stood (entry w) f)) (q .0) (q .1) _ c .taken; stopped = inr c }
@@ -285,23 +292,26 @@ module _ (b : ℕ) (t : Slot) (l : Lead) (r : List ℕ) where
   inside none d false c m f ih = none-inside d f
   inside (item k s ms rs) d false c m f ih = absurd (rw (members-leaf t l c) at f)
 
-pub reads : (b : ℕ) (g : Items) (v : Level) (prev : List ℕ) → Fit g false v prev → Spells g → BelowLevel v → (d k : ℕ) → depth g ≤ d → heads g ≤ k → heads g ≤ b
-    → (r : List ℕ) → stops r ≡ true → level (parse b d) k v (texts g v ++ r) ≡ ran g r
+pub reads : (b : ℕ) (g : Items) (v : Level) (prev : List ℕ) → Fit g false v prev → Spells g → BelowLevel v → (d k : ℕ)
+    → depth g ≤ d → heads g ≤ k → heads g ≤ b → (r : List ℕ) → stops r ≡ true → level (parse b d) k v (texts g v ++ r) ≡ ran g r
 reads b none done prev f q o d k x y z r h = level-done (parse b d) k r
 reads b none (due t n) prev f q o d k x y z r h = absurd f
 reads b (item l s ms rs) done prev f q o d k x y z r h = absurd f
 reads b (item l s ms rs) (due t n) prev f q o d zero x y z r h = absurd (omega arith)
 reads b (item l s ms rs) (due t n) prev f q o d (suc k) x y z r h =
-    level-step (parse b d) k t n l s ms rs (texts (item l s ms rs) (due t n) ++ r) (texts ms (members t l) ++ tail t n l rs r) (texts rs (rule t .next (l .arg) n) ++ r) r
+    level-step (parse b d) k t n l s ms rs (texts (item l s ms rs) (due t n) ++ r)
+    (texts ms (members t l) ++ tail t n l rs r) (texts rs (rule t .next (l .arg) n) ++ r) r
     (ap (takeAt t) (layout l s ms rs t n r) ∙ back .taken)
     (mem (back .stopped) (λ w e c. reads b ms (members t l) [] (f .1) (q .2) (members-below l o) e b c (omega arith) (omega arith) (tail t n l rs r) w))
-    (reads b rs (rule t .next (l .arg) n) (prevAfter t prev l s) (f .2) (q .3) (next-below (l .kind) (l .arg) n (f .0 .fitting) o) d k (omega arith) (omega arith) (omega arith) r h)
+    (reads b rs (rule t .next (l .arg) n) (prevAfter t prev l s) (f .2) (q .3) (next-below (l .kind) (l .arg) n (f .0 .fitting) o) d k
+    (omega arith) (omega arith) (omega arith) r h)
   where
     back : Back t n l s ms rs r
     back = head-back n prev l s ms rs q r h t f o
 
     mem : (ms ≡ none) ⊎ (stops (tail t n l rs r) ≡ true)
-        → (stops (tail t n l rs r) ≡ true → (e : ℕ) → depth ms ≤ e → level (parse b e) b (members t l) (texts ms (members t l) ++ tail t n l rs r) ≡ ran ms (tail t n l rs r))
+        → (stops (tail t n l rs r) ≡ true → (e : ℕ) → depth ms ≤ e
+        → level (parse b e) b (members t l) (texts ms (members t l) ++ tail t n l rs r) ≡ ran ms (tail t n l rs r))
         → parse b d (members t l) (texts ms (members t l) ++ tail t n l rs r) ≡ ran ms (tail t n l rs r)
     mem (inl e) ih = rw e (none-inside b t l (tail t n l rs r) d (rw e at (f .1)))
     mem (inr w) ih = inside b t l (tail t n l rs r) ms d (isContainer (l .kind)) refl (omega arith) (f .1) (ih w)

@@ -1,18 +1,18 @@
 -- Numbers in plain decimal, written and read again, once over the width.
 use Prim.Native.Nat.{ℕ, zero, suc, _+_, _-_, _*_, _/_, _%_, _^_, _≤_, _<_}
-use mathlib.Core.Path.{_≡_, refl, _∙_}
-use mathlib.Core.Bool.{Bool, true, false, cond}
+use mathlib.Core.Path.{_≡_, refl, sym, _∙_}
+use mathlib.Core.Bool.{Bool, true, false, _&&_, _||_, cond, true≢false}
 use mathlib.Core.List.{List, [], _∷_, _++_}
 use native.Mathlib.Omega.{arith}
 use native.Mathlib.Nat.{zero-add}
 use lib.ListN.{length, length-append}
-use lib.Dec.{ltb}
+use lib.Dec.{ltb, eqb}
 use borrow.Author.Tests.{ltb-true, ltb-false, le-leb}
 use Rattle.cbor.specs.Byte.{within, all}
-use Rattle.cbor.proofs.ByteLaws.{and-true, within-is}
+use Rattle.cbor.proofs.ByteLaws.{and-true, or-right, within-is}
 use Rattle.ari.specs.Table.{max64}
 use Rattle.text.specs.Chars.{digits}
-use Rattle.text.specs.Parse.{push, number}
+use Rattle.text.specs.Parse.{startsBy, push, number}
 
 abbrev pub isDigit : ℕ → Bool
 isDigit x = within 48 57 x
@@ -72,6 +72,36 @@ pub all-digits : (f n : ℕ) → n < 10 ^ suc f → all isDigit (digits f n) ≡
 all-digits =
     by-digits (λ u n. all isDigit u ≡ true) (λ n h. rw (digit-is n h))
     (λ u n h ih. all-append isDigit u ((48 + n % 10) ∷ []) ih (rw (digit-is (n % 10) (omega arith))))
+
+-- "plain decimal: no leading zero, plus sign or -0": digits, and the first is no zero unless it is the only one
+abbrev pub plain : List ℕ → Bool
+plain u = all isDigit u && (eqb (length u) 1 || startsBy (within 49 57) u)
+
+record Plainly (u : List ℕ) (n : ℕ) : Type 0 where
+  digits-only : all isDigit u ≡ true
+  alone : n < 10 → length u ≡ 1
+  not-zero : 1 ≤ n → startsBy (within 49 57) u ≡ true
+
+pub plain-digits : (f n : ℕ) → n < 10 ^ suc f → plain (digits f n) ≡ true
+plain-digits f n h = plainly (by-digits Plainly one more f n h) (ltb n 10) refl
+  where
+    one : (n : ℕ) → n < 10 → Plainly ((48 + n) ∷ []) n
+    one n h = record { digits-only = rw (digit-is n h); alone = λ l. refl; not-zero = λ l. unfold startsBy in within-is 49 57 (48 + n) (omega arith) (omega arith) }
+
+    more : (u : List ℕ) (n : ℕ) → 10 ≤ n → Plainly u (n / 10) → Plainly (u ++ ((48 + n % 10) ∷ [])) n
+    more u n h i = record {
+      digits-only = all-append isDigit u ((48 + n % 10) ∷ []) (i .digits-only) (rw (digit-is (n % 10) (omega arith)));
+      alone = λ l. absurd (omega arith);
+      not-zero = λ l. first u (i .not-zero (omega arith));
+    }
+      where
+        first : (u : List ℕ) → startsBy (within 49 57) u ≡ true → startsBy (within 49 57) (u ++ ((48 + n % 10) ∷ [])) ≡ true
+        first [] e = unfold startsBy in absurd (true≢false (sym e))
+        first (x ∷ u) e = unfold startsBy in e
+
+    plainly : Plainly (digits f n) n → (t : Bool) → ltb n 10 ≡ t → plain (digits f n) ≡ true
+    plainly i true e = rw (i .digits-only, i .alone (ltb-true n 10 e))
+    plainly i false e = rw (i .digits-only, i .not-zero (omega (arith, ltb-false n 10 e))) (or-right (eqb (length (digits f n)) 1) true refl)
 
 -- no shorter than 1, no longer than the power of ten that the number is below
 pub digits-some : (f n : ℕ) → n < 10 ^ suc f → 1 ≤ length (digits f n)

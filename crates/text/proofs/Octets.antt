@@ -104,7 +104,10 @@ number-most n (x ∷ t) h = number-most (push n x) t (push-most n x)
 
 unhex-most : (c : ℕ) → unhex c < 16
 unfolding unhex
-unhex-most c = cond-lt (within 48 57 c) (λ e. omega (arith, within-true 48 57 c e)) (cond-lt (within 65 70 c) (λ e. omega (arith, within-true 65 70 c e)) (cond-lt (within 97 102 c) (λ e. omega (arith, within-true 97 102 c e)) (omega arith)))
+unhex-most c =
+    cond-lt (within 48 57 c) (λ e. omega (arith, within-true 48 57 c e))
+    (cond-lt (within 65 70 c) (λ e. omega (arith, within-true 65 70 c e))
+    (cond-lt (within 97 102 c) (λ e. omega (arith, within-true 97 102 c e)) (omega arith)))
   where
     cond-lt : (t : Bool) {x y : ℕ} → (t ≡ true → x < 16) → y < 16 → cond t x y < 16
     cond-lt true p q = p refl
@@ -226,7 +229,9 @@ group-took k t h g =
 
 reference-took : (t r : List ℕ) → Given t → Took (takeReference t r)
 unfolding parts
-reference-took t r g = record { taken-octets = head-octets array (parts (drop 1 r)) [] (omega arith) (few (startsBy inWord (drop 1 r)) (starts 40 (past (drop 1 (past (drop 1 r)))))) refl; rest-given = g }
+reference-took t r g =
+    let u : List ℕ = drop 1 r in
+    record { taken-octets = head-octets array (parts u) [] (omega arith) (few (startsBy inWord u) (starts 40 (past (drop 1 (past u))))) refl; rest-given = g }
   where
     few : (a b : Bool) → cond a (cond b 4 3) 1 ≤ max64
     few true true = omega arith

@@ -14,6 +14,7 @@ use Rattle.ari.specs.Table.{max64, alone, ari, due}
 use Rattle.ari.specs.Reader.{Limits, Answer, refuse, accept, single, read}
 use Rattle.ari.specs.Items.{encode, heads}
 use Rattle.ari.specs.Decode.{decode}
+use Rattle.ari.specs.Rules.{Is}
 use Rattle.ari.specs.Limits.{firstLimits}
 use Rattle.ari.proofs.Demand.{stands-fit, demand-two}
 use Rattle.ari.proofs.Weight.{well-fit}
@@ -80,6 +81,16 @@ module _ (m : Limits) where
     text-length c =
         let i = c .is in
         rw (c .the-text, i .bytes, i .count) at (text-most (decode b) (well-fit (decode b) false (due (ari alone) 0) [] (stands-fit (i .stands))))
+
+  -- what the reader refuses is refused so
+  pub write-refused : (b : List ℕ) (r p : ℕ) → read m single b ≡ refuse r p → writeText m b ≡ refused r p
+  unfolding writeText
+  write-refused b r p e = rw e
+
+  -- "accepted, but has no text form" is 14
+  pub write-no-text : (b : List ℕ) (n p : ℕ) → all isByte b ≡ true → Is m single b (decode b) n → form (decode b) ≡ none-at p → writeText m b ≡ refused 14 p
+  unfolding writeText
+  write-no-text b n p o i e = rw (demand-two m single b n o .1 i, e)
 
   -- the candidate of a text, and whether it is written so
   abbrev tried : List ℕ → List ℕ
@@ -194,6 +205,10 @@ module _ (m : Limits) where
             let z = sym (rw y at x) ∙ e in
             rw (q, y, count-of z)
 
--- Under document 01's numbers every written text is short enough to be read.
-pub first-longest : longest firstLimits ≤ firstLimits .text
-first-longest = omega arith
+-- Under document 01's numbers every written text is short enough, and is read again.
+module _ (t b : List ℕ) (n : ℕ) (o : all isByte b ≡ true) (e : writeText firstLimits b ≡ output t n) where
+  pub first-short : length t ≤ 32768
+  first-short = omega (arith, text-short firstLimits t b n o e)
+
+  pub first-write-read : readText firstLimits t ≡ output b n
+  first-write-read = write-read firstLimits t b n o e (omega arith)

@@ -81,9 +81,12 @@ module _ {prev : List ℕ} {l : Lead} {s : List ℕ} {ms : Items} where
 
     pub key-here : {w : Place} → all isByte s ≡ true → Here (key w) prev l s ms → Word literalOf (literalText l s) l s × (ms ≡ none)
     unfolding rule isContainer
-    key-here {w} b h = let q = of-plain h refl in (literal-spelled (literal-case q refl (no-container (l .kind) (l .arg) (rule (key w) .rows) refl (q .fitting)) f) (q .head) f b, q .bare)
+    key-here {w} b h =
+        let q = of-plain h refl in
+        (literal-spelled (literal-case q refl (no-container (l .kind) (l .arg) (rule (key w) .rows) refl (q .fitting)) f) (q .head) f b, q .bare)
 
-    pub value-here : {t : ℕ} {w : Place} → isContainer (l .kind) ≡ false → all isByte s ≡ true → Here (value t w) prev l s ms → Word (valueOf t) (valueText t l s) l s × (ms ≡ none)
+    pub value-here : {t : ℕ} {w : Place} → isContainer (l .kind) ≡ false → all isByte s ≡ true → Here (value t w) prev l s ms
+        → Word (valueOf t) (valueText t l s) l s × (ms ≡ none)
     unfolding rule
     value-here {t} c b h =
         let z = leaf-none h c in

@@ -72,7 +72,8 @@ record Calm (t : Slot) (n : ℕ) (l : Lead) (s : List ℕ) : Type 0 where
   start : all calm (spell t .before l s) ≡ true
   inner : commasDue (members t l) ≡ 0
   finish : (e : ℕ) (x : List ℕ)
-      → commas (suc e) (spell t .after l (rule t .next (l .arg) n) ++ x) + atFirst e (commasDue (rule t .next (l .arg) n)) ≡ atFirst e (commasDue (due t n)) + commas (suc e) x
+      → commas (suc e) (spell t .after l (rule t .next (l .arg) n) ++ x) + atFirst e (commasDue (rule t .next (l .arg) n))
+      ≡ atFirst e (commasDue (due t n)) + commas (suc e) x
 
 -- A group.
 record Group (t : Slot) (n : ℕ) (l : Lead) (s : List ℕ) : Type 0 where

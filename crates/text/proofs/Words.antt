@@ -90,7 +90,9 @@ pub data Ten : ℕ → Type 0 where
 
 hex-good : {ten : ℕ} → Ten ten → (d : ℕ) → d < 16 → (unhex (hex ten d) ≡ d) × (inWord (hex ten d) ≡ true)
 unfolding hexed
-hex-good {ten} t d h = let (p, q) = and-true (eqb (unhex (hex ten d)) d) (inWord (hex ten d)) (one-below (hexed ten) 16 (table t) d h) in (eqb-true (unhex (hex ten d)) d p, q)
+hex-good {ten} t d h =
+    let (p, q) = and-true (eqb (unhex (hex ten d)) d) (inWord (hex ten d)) (one-below (hexed ten) 16 (table t) d h) in
+    (eqb-true (unhex (hex ten d)) d p, q)
   where
     table : {ten : ℕ} → Ten ten → allBelow (hexed ten) 16 ≡ true
     table upper = unfold allBelow unhex hex inWord ends in refl
@@ -282,7 +284,9 @@ unfolding startsNumber
 number-or-name x h = go (startsNumber x) refl
   where
     low : 45 ≤ x → x ≤ 57 → startsWord x ≡ false
-    low a b = unfold startsWord startsName in rw (lt-leb 65 x (omega arith), lt-leb 97 x (omega arith), ne-eqb x 95 (λ e. omega arith), ne-eqb x 33 (λ e. omega arith))
+    low a b =
+        unfold startsWord startsName in
+        rw (lt-leb 65 x (omega arith), lt-leb 97 x (omega arith), ne-eqb x 95 (λ e. omega arith), ne-eqb x 33 (λ e. omega arith))
 
     range : (within 48 57 x ≡ true) ⊎ (eqb x 45 ≡ true) → (45 ≤ x) × (x ≤ 57)
     range (inl e) = let (a, b) = within-true 48 57 x e in (omega arith, b)

@@ -12,6 +12,12 @@ use Rattle.ari.specs.Rules.{Is}
 use Rattle.text.specs.Text.{textOf, Form, spelled, none-at, form}
 use Rattle.text.specs.Parse.{same, candidate}
 
+-- The bytes b are an accepted ARI of n items that has a text form, and its text is t.
+pub record Spelled (m : Limits) (t b : List ℕ) (n : ℕ) : Type 0 where
+  pub is : Is m single b (decode b) n
+  pub has-text : form (decode b) ≡ spelled
+  pub the-text : textOf (decode b) ≡ t
+
 -- A refusal's number and place, or the bytes of the answer and "The item count".
 pub data Output : Type 0 where
   refused : ℕ → ℕ → Output
@@ -43,9 +49,3 @@ readText l t = let b = encode (candidate l t) in cond (ltb (l .text) (length t))
 abbrev pub lent : ℕ → Output → Output
 lent room (refused r p) = refused r p
 lent room (output u n) = cond (ltb room (length u)) (refused 16 (length u)) (output u n)
-
--- The bytes b are an accepted ARI of n items that has a text form, and its text is t.
-pub record Spelled (m : Limits) (t b : List ℕ) (n : ℕ) : Type 0 where
-  pub is : Is m single b (decode b) n
-  pub has-text : form (decode b) ≡ spelled
-  pub the-text : textOf (decode b) ≡ t

@@ -9,7 +9,7 @@ use Rattle.ari.specs.Table.{alone, inside, Slot, version, ari, type, value, nam
 use Rattle.ari.specs.Items.{Items, none, item, Spot, spots}
 use Rattle.text.specs.Chars.{ascii, literalText, nameText}
 
--- The names of the types.
+-- The names of the types. REAL32, REAL64, EXECSET and RPTSET stand in no text: their values have none.
 pub data Name : Type 0 where
   name : ℕ → String → Name
 
@@ -44,7 +44,7 @@ unfoldable pub typeName : ℕ → List ℕ
 unfolding names
 typeName = nameIn names
 
--- What a head writes before its members and after them; what is due beside it decides on a comma.
+-- What a head, with its string, writes before its members and after them; a comma stands where more is due beside it.
 pub record Spell : Type 0 where
   pub before : Lead → List ℕ → List ℕ
   pub after : Lead → Level → List ℕ
@@ -57,7 +57,7 @@ abbrev pub comma : Level → List ℕ
 comma done = []
 comma (due s n) = ascii ","
 
--- "Typed: `/NAME/value`"; a reference's own head writes nothing. "AC `(a,b)`, AM `(k=v,k=v)`"
+-- "Typed: `/NAME/value`"; a reference's own head writes nothing
 abbrev pub anAri : Spell
 anAri = record { before = λ l s. cond (eqb (l .kind) array) (cond (eqb (l .arg) 2) (ascii "/") []) (literalText l s); after = λ l v. comma v }
 
@@ -72,6 +72,7 @@ unfoldable pub spell : Slot → Spell
 spell version = silent
 spell (ari w) = anAri
 spell (type w) = word (λ l s. typeName (l .arg)) (ascii "/")
+-- "AC `(a,b)`, AM `(k=v,k=v)`"; "LABEL and names bare"
 spell (value t w) = record {
   before = λ l s. cond (isContainer (l .kind)) (ascii "(") (cond (eqb t 14) s (literalText l s));
   after = λ l v. cond (isContainer (l .kind)) (ascii ")") [];
@@ -92,6 +93,7 @@ spell report = silent
 spell reportTime = silent
 spell reportSource = silent
 
+-- The text of a level's items, along the slots.
 abbrev pub texts : Items → Level → List ℕ
 texts none v = []
 texts (item l s ms rs) done = []
@@ -113,7 +115,7 @@ anAriDue = due (ari inside) 0
 unfoldable pub textOf : Items → List ℕ
 textOf g = cond (isRelative g) [] (ascii "ari:") ++ texts g anAriDue
 
--- Whether there is a text form; the place where there is none
+-- An ARI has a text form, or none, and then a place.
 pub data Form : Type 0 where
   spelled : Form
   none-at : ℕ → Form
@@ -121,17 +123,17 @@ pub data Form : Type 0 where
 unfoldable pub isFloat : Lead → Bool
 isFloat l = leb half (l .kind)
 
--- "otherwise a float, place is the first float's head"
+-- the first float's head
 abbrev pub floatIn : List Spot → Form
 floatIn [] = spelled
 floatIn (x ∷ xs) = cond (isFloat (x .lead)) (none-at (x .first)) (floatIn xs)
 
--- "outermost type 20 or 21"
+-- outermost type 20 or 21
 unfoldable pub isSet : Items → Bool
 isSet none = false
 isSet (item l s none rs) = false
 isSet (item l s (item l₁ s₁ m₁ r₁) rs) = eqb (l .kind) array && (eqb (l .arg) 2 && (eqb (l₁ .arg) 20 || eqb (l₁ .arg) 21))
 
--- test 14
+-- Test 14: "accepted, but has no text form: outermost type 20 or 21, place 0; otherwise a float, place is the first float's head"
 unfoldable pub form : Items → Form
 form g = cond (isSet g) (none-at 0) (floatIn (spots g false (due (ari alone) 0) 0 0))
