@@ -207,7 +207,7 @@ module _ (m : Limits) where
 
 -- Under document 01's numbers every written text is short enough, and is read again.
 module _ (t b : List ℕ) (n : ℕ) (o : all isByte b ≡ true) (e : writeText firstLimits b ≡ output t n) where
-  pub first-short : length t ≤ 32768
+  pub first-short : length t ≤ firstLimits .text
   first-short = omega (arith, text-short firstLimits t b n o e)
 
   pub first-write-read : readText firstLimits t ≡ output b n
