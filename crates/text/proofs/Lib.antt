@@ -1,0 +1,13 @@
+pub mod Decimal
+pub mod Words
+pub mod Leads
+pub mod Below
+pub mod Slots
+pub mod Tally
+pub mod Ahead
+pub mod Back
+pub mod Bound
+pub mod Outer
+pub mod Octets
+pub mod Round
+pub mod Example

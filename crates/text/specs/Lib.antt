@@ -1,0 +1,4 @@
+pub mod Chars
+pub mod Text
+pub mod Parse
+pub mod Answer

@@ -1,0 +1,1 @@
+// Definitions of the text of ARIs, and the theorems about them.
