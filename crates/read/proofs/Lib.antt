@@ -5,4 +5,3 @@ pub mod Loop
 pub mod Bounds
 pub mod Heads
 pub mod Whole
-pub mod Entries

@@ -31,21 +31,22 @@ use Rattle.slots.specs.declared.Next.{Next}
 use Rattle.slots.specs.declared.Next.the-variants.{Done, Due}
 use Rattle.slots.specs.Code.{slotOf, levelOf, fitsCode, asksOf, nextCode, insideCode}
 use Rattle.slots.proofs.Right.{IsSlot, Slotted, Stands, fits-right, next-right, inside-right, asks-right}
 use Rattle.read.specs.declared.Answer.{Answer}
 use Rattle.read.specs.declared.Answer.the-variants.{Accepted}
 use Rattle.read.specs.declared.Answer.the-variants as answers
-use Rattle.read.specs.declared.Literal.{Literal}
-use Rattle.read.specs.declared.Literal.the-variants.{Unsigned, Negative, Bytes, Text, Simple, Half, Single, Double}
-use Rattle.read.specs.declared.Container.the-variants.{Array, Map}
-use Rattle.read.specs.declared.Kind.{Kind}
-use Rattle.read.specs.declared.Kind.the-variants.{Reference}
-use Rattle.read.specs.declared.Kind.the-variants as kinds
-use Rattle.read.specs.declared.Record.{Record}
-use Rattle.read.specs.declared.Found.{Found}
-use Rattle.read.specs.declared.Found.the-variants as found
+use Rattle.items.specs.declared.Literal.{Literal}
+use Rattle.items.specs.declared.Literal.the-variants.{Unsigned, Negative, Bytes, Text, Simple, Half, Single, Double}
+use Rattle.items.specs.declared.Container.the-variants.{Array, Map}
+use Rattle.items.specs.declared.Kind.{Kind}
+use Rattle.items.specs.declared.Kind.the-variants.{Reference}
+use Rattle.items.specs.declared.Kind.the-variants as kinds
+use Rattle.items.specs.declared.Record.{Record}
+use Rattle.items.specs.declared.Found.{Found}
+use Rattle.items.specs.declared.Found.the-variants as found
 use Rattle.read.specs.Walks.{codeOf, packed, entryOf}
-use Rattle.read.specs.Answers.{limitsOf, answerOf, Kept, referenceBy, literalOf, kindOf, kindAt, recordOf, recordFrom, foundOf, foundFrom, itemOf, spotNumber, Roomy}
+use Rattle.read.specs.Answers.{answerOf, Kept}
+use Rattle.items.specs.Records.{referenceBy, literalOf, kindOf, kindAt, recordOf, recordFrom, foundOf, foundFrom, itemOf, spotNumber, Roomy}
 use Rattle.read.proofs.Loop.{code-slot}
 
 sound-kind : {l : Lead} → Sound l → l .kind ≤ 9
 sound-kind (counted k a i) = omega arith

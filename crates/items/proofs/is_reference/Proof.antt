@@ -1,8 +1,8 @@
--- `read::is_reference` meets its contract: an array of another length than 2 where one is asked for.
+-- `items::is_reference` meets its contract: an array of another length than 2 where one is asked for.
 use borrow.Author.Needs.{needs}
-use Rattle.read.proofs.Entries.{reference-ways}
-use Rattle.read.proofs.is_reference.Statement.{statement}
-use Rattle.read.proofs.is_reference.Tie as tie
+use Rattle.items.proofs.Entries.{reference-ways}
+use Rattle.items.proofs.is_reference.Statement.{statement}
+use Rattle.items.proofs.is_reference.Tie as tie
 
 pub is-reference-spec : {M : Type 1} → statement M
 is-reference-spec =

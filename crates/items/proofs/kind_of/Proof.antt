@@ -1,8 +1,8 @@
--- `read::kind_of` meets its contract: a reference, a container or a literal.
+-- `items::kind_of` meets its contract: a reference, a container or a literal.
 use borrow.Author.Needs.{needs}
-use Rattle.read.proofs.Entries.{kind-ways}
-use Rattle.read.proofs.kind_of.Statement.{statement}
-use Rattle.read.proofs.kind_of.Tie as tie
+use Rattle.items.proofs.Entries.{kind-ways}
+use Rattle.items.proofs.kind_of.Statement.{statement}
+use Rattle.items.proofs.kind_of.Tie as tie
 
 pub kind-of-spec : {M : Type 1} → statement M
 kind-of-spec =

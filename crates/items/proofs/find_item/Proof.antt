@@ -1,8 +1,8 @@
--- `read::find_item` meets its contract: by the answer, and by the count.
+-- `items::find_item` meets its contract: by the answer, and by the count.
 use borrow.Author.Needs.{needs}
-use Rattle.read.proofs.Entries.{found-ways}
-use Rattle.read.proofs.find_item.Statement.{statement}
-use Rattle.read.proofs.find_item.Tie as tie
+use Rattle.items.proofs.Entries.{found-ways}
+use Rattle.items.proofs.find_item.Statement.{statement}
+use Rattle.items.proofs.find_item.Tie as tie
 
 pub find-item-spec : {M : Type 1} → statement M
 find-item-spec =

@@ -1,8 +1,8 @@
--- `read::kind_at` meets its contract: by the head.
+-- `items::kind_at` meets its contract: by the head.
 use borrow.Author.Needs.{needs}
-use Rattle.read.proofs.Entries.{good-kind, bad-kind}
-use Rattle.read.proofs.kind_at.Statement.{statement}
-use Rattle.read.proofs.kind_at.Tie as tie
+use Rattle.items.proofs.Entries.{good-kind, bad-kind}
+use Rattle.items.proofs.kind_at.Statement.{statement}
+use Rattle.items.proofs.kind_at.Tie as tie
 
 pub kind-at-spec : {M : Type 1} → statement M
 kind-at-spec =

@@ -1,11 +1,11 @@
--- `read::literal_of` meets its contract: each arm is an entry of the list.
+-- `items::literal_of` meets its contract: each arm is an entry of the list.
 use borrow.Author.Needs.{needs}
 use mathlib.Core.Path.{_≡_, refl, sym, _∙_, ap}
 use Rattle.slots.proofs.Hits.{hit, miss}
-use Rattle.read.proofs.Entries.{list}
-use Rattle.read.specs.declared.Literal.the-variants.{Unsigned, Negative, Bytes, Text, Simple, Half, Single, Double}
-use Rattle.read.proofs.literal_of.Statement.{statement}
-use Rattle.read.proofs.literal_of.Tie as tie
+use Rattle.items.proofs.Entries.{list}
+use Rattle.items.specs.declared.Literal.the-variants.{Unsigned, Negative, Bytes, Text, Simple, Half, Single, Double}
+use Rattle.items.proofs.literal_of.Statement.{statement}
+use Rattle.items.proofs.literal_of.Tie as tie
 
 pub literal-of-spec : {M : Type 1} → statement M
 literal-of-spec =
