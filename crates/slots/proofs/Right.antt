@@ -9,6 +9,8 @@ use lib.Dec.{ltb, leb, eqb}
 use borrow.Author.Tests.{ltb-true, ltb-false, leb-true, leb-false, eqb-true, eqb-false, lt-ltb, le-ltb, le-leb, lt-leb, eq-eqb, ne-eqb}
 use Rattle.cbor.specs.Byte.{within}
 use Rattle.cbor.specs.Head.{Lead}
+use Rattle.cbor.proofs.ByteLaws.{and-true}
+use Rattle.cbor.proofs.Computed.{same, same-true, allFrom, all-at}
 use Rattle.cbor.specs.Utf8.{utf8}
 use Rattle.ari.specs.Name.{identifier, namespaceName}
 use Rattle.ari.specs.Table.{Place, inside, param, Slot, version, type, value, namespace, objectNamespace, Row, row, types, Own, none, one, rising, filled, Level, done, due, many, referenceLevel, ariLevel, Rule, rule, fits, fitsRow, members}
@@ -47,19 +49,10 @@ arrayIn v a = arrayLevel (field v 8 16) (v % 256) a
 abbrev mapIn : ℕ → ℕ → Level
 mapIn v a = cond (eqb (field v 24 16) 3) (many (slotOf (field v 16 256)) a) done
 
-abbrev same : Bool → Bool → Bool
-same true b = b
-same false b = not b
-
 -- the rows of one kind
 abbrev only : ℕ → List Row → List Row
 only k [] = []
 only k (row k′ lo hi ∷ rs) = let r = only k rs in cond (eqb k k′) (row k′ lo hi ∷ r) r
-
--- a test of the n numbers from j on
-abbrev allFrom : ℕ → ℕ → (ℕ → Bool) → Bool
-allFrom zero j p = true
-allFrom (suc n) j p = p j && allFrom n (suc j) p
 
 -- the bits of a range are the arguments below 32 that the rows allow
 abbrev bitIs : ℕ → ℕ → List Row → ℕ → Bool
@@ -355,16 +348,6 @@ right : (i : ℕ) → IsSlot i → RightFor (wordOf i) (insideOf i) (slotOf i)
 unfolding wordOf insideOf
 right i h = right-at i words insides slots version all-right h h h
 
-and-true : (a b : Bool) → a && b ≡ true → (a ≡ true) × (b ≡ true)
-and-true true b e = (refl, e)
-and-true false b e = (e, cc)
-
-same-true : (a b : Bool) → same a b ≡ true → a ≡ b
-same-true true true e = refl
-same-true true false e = sym e
-same-true false true e = e
-same-true false false e = refl
-
 -- test 7
 only-fits : (k a : ℕ) (rs : List Row) → fits k a rs ≡ fits k a (only k rs)
 only-fits k a [] = refl
@@ -398,17 +381,6 @@ above-false k a (row k′ lo hi ∷ rs) t h =
     go true true = refl
     go true false = refl
     go false y = refl
-
-all-at : (n j : ℕ) (p : ℕ → Bool) → allFrom n j p ≡ true → (k : ℕ) → j ≤ k → k < j + n → p k ≡ true
-all-at zero j p t k h g = absurd (omega arith)
-all-at (suc n) j p t k h g = go (eqb j k) refl (λ l. all-at n (suc j) p (both .1) k l (omega arith))
-  where
-    both : (p j ≡ true) × (allFrom n (suc j) p ≡ true)
-    both = and-true (p j) (allFrom n (suc j) p) t
-
-    go : (x : Bool) → eqb j k ≡ x → (suc j ≤ k → p k ≡ true) → p k ≡ true
-    go true q ih = let e : k ≡ j = sym (eqb-true j k q) in rw e (both .0)
-    go false q ih = let ne : j ≡ k → ⊥ = eqb-false j k q in ih (omega arith)
 
 above-right : (t k a : ℕ) (rs : List Row) → AreKind k rs → aboveIs t rs ≡ true → 31 < a → leb a t ≡ fits k a rs
 above-right t k a [] y e h = let l : t ≤ 31 = leb-true t 31 e in lt-leb a t (omega arith)
