@@ -5,3 +5,4 @@ pub mod FloatWays
 pub mod HeadWays
 pub mod TextWays
 pub mod OrderWays
+pub mod Computed

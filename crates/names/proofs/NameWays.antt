@@ -1,50 +1,59 @@
 -- Identifiers and namespace names, way by way through the tests; the premises are the tests as the code makes them.
-use Prim.Native.Nat.{ℕ, _+_, _-_, _<_, _≤_}
+use Prim.Native.Nat.{ℕ, _+_, _-_, _/_, _%_, _^_, _<_, _≤_}
 use mathlib.Core.Path.{_≡_, refl, sym, _∙_}
-use mathlib.Core.Bool.{Bool, true, false, not, _&&_, _||_, or-false, and-false}
+use mathlib.Core.Bool.{Bool, true, false, _&&_, _||_, cond, or-false, and-false}
 use mathlib.Core.List.{List, [], _∷_}
 use native.Mathlib.Omega.{arith}
 use native.Mathlib.Numerals.{add-one}
 use lib.ListN.{length, drop, getD, length-drop, drop-of-length-le}
 use lib.Seq.{drop-cons}
-use lib.Dec.{leb, eqb}
-use borrow.Author.Tests.{lt-ltb, le-ltb, le-leb, lt-leb, eq-eqb, ne-eqb, leb-true, leb-false}
+use lib.Dec.{ltb, eqb}
+use borrow.Author.Tests.{lt-ltb, le-ltb, le-leb, lt-leb, eq-eqb, ne-eqb}
 use Rattle.cbor.specs.Byte.{all}
+use Rattle.cbor.proofs.Computed.{same, same-true, allFrom, all-at}
 use Rattle.ari.specs.Name.{startsName, continuesName, identifier, namespaceName}
 
-module _ (b : ℕ) where
-  pub below-letters : b < 65 → false ≡ startsName b
-  unfolding startsName
-  below-letters h = rw (lt-leb 65 b h, lt-leb 97 b (omega arith), ne-eqb b 95 (λ e. omega arith))
+-- the bytes of names as bits
+abbrev nameBits : ℕ → ℕ
+nameBits x = cond (ltb x 64) 0x03ff600000000000 0x07fffffe87fffffe
 
-  pub upper : 65 ≤ b → b ≤ 90 → true ≡ startsName b
-  unfolding startsName
-  upper h k = rw (le-leb 65 b h, le-leb b 90 k)
+pub low-bits : (x : ℕ) → x < 64 → 0x03ff600000000000 ≡ nameBits x
+low-bits x h = rw (lt-ltb x 64 h)
 
-  pub between : 90 < b → b < 97 → eqb b 95 ≡ startsName b
-  unfolding startsName
-  between h k = rw (le-leb 65 b (omega arith), lt-leb b 90 h, lt-leb 97 b k)
+pub high-bits : (x : ℕ) → 64 ≤ x → 0x07fffffe87fffffe ≡ nameBits x
+high-bits x h = rw (le-ltb x 64 h)
 
-  pub lower : 97 ≤ b → leb b 122 ≡ startsName b
-  unfolding startsName
-  lower h = rw (le-leb 65 b (omega arith), lt-leb b 90 (omega arith), le-leb 97 b h, ne-eqb b 95 (λ e. omega arith), or-false)
+abbrev bit : ℕ → ℕ → Bool
+bit m x = eqb (m / 2 ^ (x % 64) % 2) 1
 
-  pub below-hyphen : b < 45 → false ≡ continuesName b
+starts : allFrom 64 64 (λ x. same (bit 0x07fffffe87fffffe x) (startsName x)) ≡ true
+unfolding startsName
+starts = refl
+
+continues : allFrom 128 0 (λ x. same (bit (nameBits x) x) (continuesName x)) ≡ true
+unfolding startsName continuesName
+continues = refl
+
+module _ (b : ℕ) {x : ℕ} (e : (x ≡ b) × (x < 256)) where
+  pub below-letters : x < 64 → false ≡ startsName b
+  unfolding startsName
+  below-letters h = rw (lt-leb 65 b (omega (arith, e .0)), lt-leb 97 b (omega (arith, e .0)), ne-eqb b 95 (λ q. omega (arith, e .0)))
+
+  pub past-ascii : 127 < x → false ≡ startsName b
+  unfolding startsName
+  past-ascii h =
+      rw (le-leb 65 b (omega (arith, e .0)), lt-leb b 90 (omega (arith, e .0)), le-leb 97 b (omega (arith, e .0)), lt-leb b 122 (omega (arith, e .0)), ne-eqb b 95 (λ q. omega (arith, e .0)))
+
+  pub a-letter : 64 ≤ x → x ≤ 127 → bit 0x07fffffe87fffffe x ≡ startsName b
+  a-letter h g = rw (← e .0) (same-true _ _ (all-at 64 64 (λ x. same (bit 0x07fffffe87fffffe x) (startsName x)) starts x h (omega arith)))
+
+  pub past-names : 127 < x → false ≡ continuesName b
   unfolding continuesName
-  below-hyphen h = rw (← below-letters (omega arith), lt-leb 48 b (omega arith), lt-leb 45 b h)
+  past-names h =
+      rw (← past-ascii h, le-leb 48 b (omega (arith, e .0)), lt-leb b 57 (omega (arith, e .0)), le-leb 45 b (omega (arith, e .0)), lt-leb b 46 (omega (arith, e .0)))
 
-  pub hyphen-to-nine : 45 ≤ b → b ≤ 57 → not (eqb b 47) ≡ continuesName b
-  unfolding continuesName
-  hyphen-to-nine h k = rw (← below-letters (omega arith), le-leb 45 b h, le-leb b 57 k) (go (leb 48 b) (leb b 46) refl refl)
-    where
-      go : (t u : Bool) → leb 48 b ≡ t → leb b 46 ≡ u → not (eqb b 47) ≡ (t && true || u)
-      go true u d e = rw (ne-eqb b 47 (λ q. omega (arith, leb-true 48 b d)))
-      go false true d e = rw (ne-eqb b 47 (λ q. omega (arith, leb-true b 46 e)))
-      go false false d e = rw (eq-eqb b 47 (omega (arith, leb-false 48 b d, leb-false b 46 e)))
-
-  pub past-nine : {r : Bool} → 57 < b → r ≡ startsName b → r ≡ continuesName b
-  unfolding continuesName
-  past-nine h q = rw (le-leb 48 b (omega arith), lt-leb b 57 h, le-leb 45 b (omega arith), lt-leb b 46 (omega arith), or-false) q
+  pub a-name-byte : x ≤ 127 → {m : ℕ} → m ≡ nameBits x → bit m x ≡ continuesName b
+  a-name-byte h q = rw (← e .0, q) (same-true _ _ (all-at 128 0 (λ x. same (bit (nameBits x) x) (continuesName x)) continues x (omega arith) (omega arith)))
 
 -- From `at` on.
 module _ (s : List ℕ) (at : ℕ) where
@@ -97,4 +106,4 @@ module _ {r : Bool} where
   plain [] n e q = absurd (n refl)
   plain (b ∷ bs) n e q = rw (ne-eqb b 33 e, or-false) q
 
-pub ruleset names = (below-letters, upper, between, lower, below-hyphen, hyphen-to-nine, past-nine, empty, too-long, no-start, name-ends, no-name, goes-on, no-bytes, marked, plain)
+pub ruleset names = (low-bits, high-bits, below-letters, past-ascii, a-letter, past-names, a-name-byte, empty, too-long, no-start, name-ends, no-name, goes-on, no-bytes, marked, plain)

@@ -1,34 +1,55 @@
 // Identifiers and namespace names.
 ghost use mathlib.Core.Path.{_≡_};
-ghost use Prim.Native.Nat.{_≤_};
+ghost use mathlib.Core.Bool.{cond};
+ghost use Prim.Native.Nat.{_<_, _≤_};
+ghost use lib.Dec.{ltb};
 ghost use lib.ListN.{length, drop};
 ghost use Rattle.ari.specs.Name.{startsName, continuesName, identifier, namespaceName};
+
+fn wide(x: u8) -> u64
+    ensures { λ r. ⌜ (r ≡ x) × (r < 256) ⌝ }
+{
+    x as u64
+}
+
+// The bytes from 64 to 127 that stand in a name, a bit each: letters and underscore. A test by bits costs no branch that bytes decide.
+const LETTERS: u64 = 0x07fffffe87fffffe;
+
+// Those below 64: digits, hyphen and full stop.
+const DIGITS: u64 = 0x03ff600000000000;
 
 fn starts_name(b: u8) -> bool
     ensures { λ r. ⌜ r ≡ startsName b ⌝ }
 {
-    if b < b'A' {
+    let x = wide(b);
+    if x < 64 {
         return false;
     }
-    if b <= b'Z' {
-        return true;
+    if 127 < x {
+        return false;
     }
-    if b < b'a' {
-        return b == b'_';
+    (LETTERS >> (x % 64)) % 2 == 1
+}
+
+// The bits of the bytes around this one.
+fn name_bits(x: u64) -> u64
+    ensures { λ r. ⌜ r ≡ cond (ltb x 64) 0x03ff600000000000 0x07fffffe87fffffe ⌝ }
+{
+    if x < 64 {
+        return DIGITS;
     }
-    b <= b'z'
+    LETTERS
 }
 
 fn continues_name(b: u8) -> bool
     ensures { λ r. ⌜ r ≡ continuesName b ⌝ }
 {
-    if b < b'-' {
+    let x = wide(b);
+    if 127 < x {
         return false;
     }
-    if b <= b'9' {
-        return b != b'/';
-    }
-    starts_name(b)
+    let bits = name_bits(x);
+    (bits >> (x % 64)) % 2 == 1
 }
 
 // The bytes from `at` on are an identifier.

@@ -20,7 +20,7 @@ use Rattle.ari.specs.Items.{Items, item, encode}
 use Rattle.ari.proofs.Due.{Due as DueItems}
 use Rattle.slots.specs.declared.Next.{Next}
 use Rattle.slots.specs.declared.Next.the-variants.{Done, Due}
-use Rattle.slots.specs.Code.{slotOf, levelOf, fitsCode, insideCode, inArrayCode, inMapCode}
+use Rattle.slots.specs.Code.{insideOf, slotOf, levelOf, fitsCode, insideCode, inArrayCode, inMapCode}
 use Rattle.slots.proofs.Right.{IsSlot, Stands, inside-right}
 use Rattle.read.specs.declared.Step.{Step}
 use Rattle.read.specs.declared.Step.the-variants.{Taken}
@@ -131,7 +131,7 @@ module _ (i k a : ℕ) {x : Next} (e : x ≡ insideCode i k a) where
       deep′ : k ≡ 5 → 0 < d
       deep′ z = let n : d ≡ 0 → ⊥ = eqb-false d 0 (rw z at s) in omega arith
 
-      go : (y : Bool) → eqb k 4 ≡ y → (z : Bool) → eqb k 5 ≡ z → Due j m ≡ cond y (inArrayCode i a) (cond z (inMapCode i a) Done) → 0 < d
+      go : (y : Bool) → eqb k 4 ≡ y → (z : Bool) → eqb k 5 ≡ z → Due j m ≡ cond y (inArrayCode (insideOf i) a) (cond z (inMapCode (insideOf i) a) Done) → 0 < d
       go true p z r u = deep (eqb-true k 4 p)
       go false p true r u = deep′ (eqb-true k 5 r)
       go false p false r u = absurd (let z : _≡_ {A = ℕ} 0 1 = cc in omega arith)

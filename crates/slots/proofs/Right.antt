@@ -9,95 +9,111 @@ use lib.Dec.{ltb, leb, eqb}
 use borrow.Author.Tests.{ltb-true, ltb-false, leb-true, leb-false, eqb-true, eqb-false, lt-ltb, le-ltb, le-leb, lt-leb, eq-eqb, ne-eqb}
 use Rattle.cbor.specs.Byte.{within}
 use Rattle.cbor.specs.Head.{Lead}
+use Rattle.cbor.proofs.ByteLaws.{and-true}
+use Rattle.cbor.proofs.Computed.{same, same-true, allFrom, all-at}
 use Rattle.cbor.specs.Utf8.{utf8}
 use Rattle.ari.specs.Name.{identifier, namespaceName}
 use Rattle.ari.specs.Table.{Place, inside, param, Slot, version, type, value, namespace, objectNamespace, Row, row, types, Own, none, one, rising, filled, Level, done, due, many, referenceLevel, ariLevel, Rule, rule, fits, fitsRow, members}
 use Rattle.slots.specs.declared.Next.{Next}
 use Rattle.slots.specs.declared.Next.the-variants.{Done, Due}
-use Rattle.slots.specs.Code.{slots, slotOf, levelOf, words, wordOf, insides, insideOf, leasts, mosts, leastOf, mostOf, maskOf, field, rangeOf, fitsCode, ownOf, spellingOf, asksOf, manyCode, valueCode, nextWay, nextCode, inReferenceCode, inAriCode, arrayWay, inArrayCode, inMapCode, insideCode}
+use Rattle.slots.specs.Code.{slots, slotOf, levelOf, words, wordOf, insides, insideOf, smalls, tops, smallOf, topOf, field, rangeOf, fitsCode, ownOf, spellingOf, asksOf, manyCode, keptCode, nextBits, nextCode, inReferenceCode, inAriCode, arrayWay, inArrayCode, inMapCode, insideCode}
 
 -- what a word says, in the rules' terms
 abbrev ownIn : ℕ → Own
-ownIn w = getD (none ∷ one ∷ rising ∷ filled ∷ []) (field w 52 16) none
+ownIn w = getD (none ∷ one ∷ rising ∷ filled ∷ []) (field w 60 4) none
 
 abbrev spellingIn : ℕ → List ℕ → Bool
-spellingIn w = getD (utf8 ∷ identifier ∷ namespaceName ∷ []) (field w 56 16) utf8
+spellingIn w = getD (utf8 ∷ identifier ∷ namespaceName ∷ []) (w / 2 ^ 62) utf8
 
 abbrev asksIn : ℕ → Bool
-asksIn w = eqb (field w 60 16) 1
+asksIn v = eqb (field v 28 2) 1
+
+abbrev levelBits : ℕ → ℕ → ℕ → ℕ → ℕ → ℕ → Level
+levelBits took stay add to a n =
+    cond (eqb add 0)
+    (cond (eqb took 0) (due (slotOf to) (keptCode stay n)) (cond (eqb stay 0) done (many (slotOf to) n)))
+    (cond (eqb to 28) (due (value a inside) 0) (due (value a param) 0))
 
 abbrev nextIn : ℕ → ℕ → ℕ → Level
-nextIn w a n =
-    let to = slotOf (field w 40 256) in
-    getD (done ∷ due to 0 ∷ due to n ∷ many to n ∷ due (value a inside) 0 ∷ due (value a param) 0 ∷ []) (field w 48 16) done
+nextIn w a n = levelBits (field w 57 2) (field w 58 2) (field w 59 2) (field w 50 128) a n
+
+abbrev arrayLevel : ℕ → ℕ → ℕ → Level
+arrayLevel way to a =
+    cond (ltb way 3)
+    (cond (eqb way 1) (cond (eqb a 2) (due (slotOf to) 0) (referenceLevel a)) (cond (eqb way 0) done (referenceLevel a)))
+    (cond (eqb way 3) (many (slotOf to) a) (due (slotOf to) (a - (way - 3))))
 
 abbrev arrayIn : ℕ → ℕ → Level
-arrayIn v a =
-    let to = slotOf (v % 256) in
-    getD (done ∷ cond (eqb a 2) (due to 0) (referenceLevel a) ∷ referenceLevel a ∷ many to a ∷ due to (a - 1) ∷ due to (a - 2) ∷ []) (field v 8 16) done
+arrayIn v a = arrayLevel (field v 8 16) (v % 256) a
 
 abbrev mapIn : ℕ → ℕ → Level
 mapIn v a = cond (eqb (field v 24 16) 3) (many (slotOf (field v 16 256)) a) done
-
-abbrev same : Bool → Bool → Bool
-same true b = b
-same false b = not b
 
 -- the rows of one kind
 abbrev only : ℕ → List Row → List Row
 only k [] = []
 only k (row k′ lo hi ∷ rs) = let r = only k rs in cond (eqb k k′) (row k′ lo hi ∷ r) r
 
--- a test of the n numbers from j on
-abbrev allFrom : ℕ → ℕ → (ℕ → Bool) → Bool
-allFrom zero j p = true
-allFrom (suc n) j p = p j && allFrom n (suc j) p
-
--- the bits of a mask are the types that the rows allow
+-- the bits of a range are the arguments below 32 that the rows allow
 abbrev bitIs : ℕ → ℕ → List Row → ℕ → Bool
 bitIs m k rs a = same (eqb (m / 2 ^ a % 2) 1) (fits k a rs)
 
--- no row goes beyond 21
+-- no row goes beyond 31
 abbrev topped : List Row → Bool
 topped [] = true
-topped (row k lo hi ∷ rs) = leb hi 21 && topped rs
+topped (row k lo hi ∷ rs) = leb hi 31 && topped rs
 
-abbrev isRange : ℕ → ℕ → ℕ → List Row → Bool
-isRange i c k [] = eqb c 0
-isRange i c k (row k′ lo hi ∷ []) = not (eqb c 14) && (eqb (getD leasts c 0) lo && eqb (getD mosts c 0) hi)
-isRange i c k (row k′ lo hi ∷ r ∷ rs) = eqb c 14 && (allFrom 22 0 (bitIs (maskOf i) k (row k′ lo hi ∷ r ∷ rs)) && topped (row k′ lo hi ∷ r ∷ rs))
+-- the rows of one kind allow from 32 on what lies below t
+abbrev aboveIs : ℕ → List Row → Bool
+aboveIs t [] = leb t 31
+aboveIs t (row k lo hi ∷ []) = leb lo 32 && (eqb t hi || (leb hi 31 && leb t 31))
+aboveIs t (row k lo hi ∷ r ∷ rs) = leb t 31 && topped (row k lo hi ∷ r ∷ rs)
 
-abbrev rangeAt : ℕ → ℕ → List Row → ℕ → Bool
-rangeAt i w rs k = isRange i (w / 2 ^ (k * 4) % 16) k (only k rs)
+abbrev isRange : ℕ → ℕ → List Row → Bool
+isRange c k rs = allFrom 32 0 (bitIs (getD smalls c 0) k rs) && aboveIs (getD tops c 0) rs
 
--- where a value follows, no range goes beyond 21
+abbrev rangeAt : ℕ → List Row → ℕ → Bool
+rangeAt w rs k = isRange (w / 2 ^ (k * 5) % 32) k (only k rs)
+
+-- where a value follows, no argument beyond 21 passes
+abbrev clear : ℕ → ℕ → Bool
+clear m a = eqb (m / 2 ^ a % 2) 0
+
+abbrev isSmall : ℕ → Bool
+isSmall c = allFrom 10 22 (clear (getD smalls c 0)) && leb (getD tops c 0) 31
+
 abbrev smallAt : ℕ → ℕ → Bool
-smallAt w k = leb (getD mosts (w / 2 ^ (k * 4) % 16) 0) 21
+smallAt w k = isSmall (w / 2 ^ (k * 5) % 32)
+
+abbrev valueAt : ℕ → Bool
+valueAt w =
+    cond (eqb (field w 59 2) 0) true
+    (allFrom 10 0 (smallAt w) && (eqb (field w 57 2) 0 && (eqb (field w 58 2) 0 && (eqb (field w 50 128) 28 || eqb (field w 50 128) 50))))
 
 -- the slots that a word names are slots
 abbrev names : ℕ → ℕ → Bool
-names w v = ltb (field w 40 256) 72 && (ltb (v % 256) 72 && ltb (field v 16 256) 72)
+names w v = ltb (field w 50 128) 72 && (ltb (v % 256) 72 && ltb (field v 16 256) 72)
 
 -- the word and the inner word of a slot's number are right for the slot
-abbrev RightFor : ℕ → ℕ → ℕ → Slot → Type 0
-RightFor i w v s =
+abbrev RightFor : ℕ → ℕ → Slot → Type 0
+RightFor w v s =
     (nextIn w ≡ rule s .next)
     × (arrayIn v ≡ rule s .inArray)
     × (mapIn v ≡ rule s .inMap)
     × (ownIn w ≡ rule s .own)
     × (spellingIn w ≡ rule s .spelling)
-    × (asksIn w ≡ rule s .asks)
-    × (allFrom 10 0 (rangeAt i w (rule s .rows)) ≡ true)
-    × ((cond (leb 4 (field w 48 16)) (allFrom 10 0 (smallAt w)) true && names w v) ≡ true)
+    × (asksIn v ≡ rule s .asks)
+    × (allFrom 10 0 (rangeAt w (rule s .rows)) ≡ true)
+    × ((valueAt w && names w v) ≡ true)
 
-abbrev AllRight : ℕ → List ℕ → List ℕ → List Slot → Type 0
-AllRight i [] vs ss = Unit {0}
-AllRight i (w ∷ ws) [] ss = Unit {0}
-AllRight i (w ∷ ws) (v ∷ vs) [] = Unit {0}
-AllRight i (w ∷ ws) (v ∷ vs) (s ∷ ss) = RightFor i w v s × AllRight (suc i) ws vs ss
+abbrev AllRight : List ℕ → List ℕ → List Slot → Type 0
+AllRight [] vs ss = Unit {0}
+AllRight (w ∷ ws) [] ss = Unit {0}
+AllRight (w ∷ ws) (v ∷ vs) [] = Unit {0}
+AllRight (w ∷ ws) (v ∷ vs) (s ∷ ss) = RightFor w v s × AllRight ws vs ss
 
-all-right : AllRight 0 words insides slots
-unfolding rule types maskOf
+all-right : AllRight words insides slots
+unfolding rule types
 all-right = (
   (refl, refl, refl, refl, refl, refl, refl, refl),
   (
@@ -316,33 +332,21 @@ all-right = (
   ),
 )
 
-right-at : (i j : ℕ) (ws vs : List ℕ) (ss : List Slot) (d : Slot) → AllRight i ws vs ss → j < length ws → j < length vs → j < length ss
-    → RightFor (i + j) (getD ws j 0) (getD vs j 0) (getD ss j d)
-right-at i j [] vs ss d r h h₁ h₂ = absurd (omega arith)
-right-at i j (w ∷ ws) [] ss d r h h₁ h₂ = absurd (omega arith)
-right-at i j (w ∷ ws) (v ∷ vs) [] d r h h₁ h₂ = absurd (omega arith)
-right-at i zero (w ∷ ws) (v ∷ vs) (s ∷ ss) d r h h₁ h₂ = let e : i + 0 ≡ i = omega arith in rw e (r .0)
-right-at i (suc j) (w ∷ ws) (v ∷ vs) (s ∷ ss) d r h h₁ h₂ =
-    let e : i + suc j ≡ suc i + j = omega arith in
-    rw e (right-at (suc i) j ws vs ss d (r .1) (omega arith) (omega arith) (omega arith))
+right-at : (j : ℕ) (ws vs : List ℕ) (ss : List Slot) (d : Slot) → AllRight ws vs ss → j < length ws → j < length vs → j < length ss
+    → RightFor (getD ws j 0) (getD vs j 0) (getD ss j d)
+right-at j [] vs ss d r h h₁ h₂ = absurd (omega arith)
+right-at j (w ∷ ws) [] ss d r h h₁ h₂ = absurd (omega arith)
+right-at j (w ∷ ws) (v ∷ vs) [] d r h h₁ h₂ = absurd (omega arith)
+right-at zero (w ∷ ws) (v ∷ vs) (s ∷ ss) d r h h₁ h₂ = r .0
+right-at (suc j) (w ∷ ws) (v ∷ vs) (s ∷ ss) d r h h₁ h₂ = right-at j ws vs ss d (r .1) (omega arith) (omega arith) (omega arith)
 
 -- a slot's number
 abbrev pub IsSlot : ℕ → Type 0
 IsSlot i = i < 72
 
-right : (i : ℕ) → IsSlot i → RightFor i (wordOf i) (insideOf i) (slotOf i)
+right : (i : ℕ) → IsSlot i → RightFor (wordOf i) (insideOf i) (slotOf i)
 unfolding wordOf insideOf
-right i h = let e : 0 + i ≡ i = omega arith in rw e at (right-at 0 i words insides slots version all-right h h h)
-
-and-true : (a b : Bool) → a && b ≡ true → (a ≡ true) × (b ≡ true)
-and-true true b e = (refl, e)
-and-true false b e = (e, cc)
-
-same-true : (a b : Bool) → same a b ≡ true → a ≡ b
-same-true true true e = refl
-same-true true false e = sym e
-same-true false true e = e
-same-true false false e = refl
+right i h = right-at i words insides slots version all-right h h h
 
 -- test 7
 only-fits : (k a : ℕ) (rs : List Row) → fits k a rs ≡ fits k a (only k rs)
@@ -366,15 +370,11 @@ only-kind k (row k′ lo hi ∷ rs) = go (eqb k k′) refl (only-kind k rs)
     go true q ih = (eqb-true k k′ q, ih)
     go false q ih = ih
 
--- the tests of `fits` behind the kind's
-abbrev tests : ℕ → ℕ → ℕ → Bool
-tests i c a = cond (ltb a (getD leasts c 0)) false (cond (ltb (getD mosts c 0) a) false (cond (eqb c 14) (eqb (maskOf i / 2 ^ a % 2) 1) true))
-
-above-false : (k a : ℕ) (rs : List Row) → topped rs ≡ true → 21 < a → fits k a rs ≡ false
+above-false : (k a : ℕ) (rs : List Row) → topped rs ≡ true → 31 < a → fits k a rs ≡ false
 above-false k a [] t h = refl
 above-false k a (row k′ lo hi ∷ rs) t h =
-    let (p, q) = and-true (leb hi 21) (topped rs) t in
-    let l : hi ≤ 21 = leb-true hi 21 p in
+    let (p, q) = and-true (leb hi 31) (topped rs) t in
+    let l : hi ≤ 31 = leb-true hi 31 p in
     rw (lt-leb a hi (omega arith), above-false k a rs q h) (go (eqb k k′) (leb lo a))
   where
     go : (x y : Bool) → (x && (y && false)) || false ≡ false
@@ -382,57 +382,44 @@ above-false k a (row k′ lo hi ∷ rs) t h =
     go true false = refl
     go false y = refl
 
-all-at : (n j : ℕ) (p : ℕ → Bool) → allFrom n j p ≡ true → (k : ℕ) → j ≤ k → k < j + n → p k ≡ true
-all-at zero j p t k h g = absurd (omega arith)
-all-at (suc n) j p t k h g = go (eqb j k) refl (λ l. all-at n (suc j) p (both .1) k l (omega arith))
+above-right : (t k a : ℕ) (rs : List Row) → AreKind k rs → aboveIs t rs ≡ true → 31 < a → leb a t ≡ fits k a rs
+above-right t k a [] y e h = let l : t ≤ 31 = leb-true t 31 e in lt-leb a t (omega arith)
+above-right t k a (row k′ lo hi ∷ []) y e h = go (eqb t hi) refl (and-true (leb lo 32) (eqb t hi || (leb hi 31 && leb t 31)) e)
   where
-    both : (p j ≡ true) × (allFrom n (suc j) p ≡ true)
-    both = and-true (p j) (allFrom n (suc j) p) t
-
-    go : (x : Bool) → eqb j k ≡ x → (suc j ≤ k → p k ≡ true) → p k ≡ true
-    go true q ih = let e : k ≡ j = sym (eqb-true j k q) in rw e (both .0)
-    go false q ih = let ne : j ≡ k → ⊥ = eqb-false j k q in ih (omega arith)
-
-range-right : (i c k a : ℕ) (rs : List Row) → AreKind k rs → isRange i c k rs ≡ true → tests i c a ≡ fits k a rs
-range-right i c k a [] y t = rw (eqb-true c 0 t) (go (ltb a 1) refl)
-  where
-    go : (x : Bool) → ltb a 1 ≡ x → cond x false (cond (ltb 0 a) false true) ≡ false
-    go true q = refl
-    go false q = let h : 1 ≤ a = ltb-false a 1 q in rw (lt-ltb 0 a h)
-range-right i c k a (row k′ lo hi ∷ []) y t =
-    let (p, q) = and-true (not (eqb c 14)) (eqb (getD leasts c 0) lo && eqb (getD mosts c 0) hi) t in
-    let (q₁, q₂) = and-true (eqb (getD leasts c 0) lo) (eqb (getD mosts c 0) hi) q in
-    rw (eqb-true _ lo q₁, eqb-true _ hi q₂, eq-eqb k k′ (y .0)) (go (eqb c 14) p (ltb a lo) refl)
-  where
-    inner : (z : Bool) → ltb hi a ≡ z → ltb a lo ≡ false → cond z false true ≡ (leb lo a && leb a hi) || false
-    inner true q p = rw (lt-leb a hi (ltb-true hi a q)) (both (leb lo a))
+    go : (x : Bool) → eqb t hi ≡ x → (leb lo 32 ≡ true) × ((x || (leb hi 31 && leb t 31)) ≡ true)
+        → leb a t ≡ (eqb k k′ && (leb lo a && leb a hi)) || false
+    go true q (p, z) =
+        let l : lo ≤ 32 = leb-true lo 32 p in
+        rw (eqb-true t hi q, eq-eqb k k′ (y .0), le-leb lo a (omega arith)) (one (leb a hi))
       where
-        both : (b : Bool) → false ≡ (b && false) || false
-        both true = refl
-        both false = refl
-    inner false q p = rw (le-leb a hi (ltb-false hi a q), le-leb lo a (ltb-false a lo p))
+        one : (x : Bool) → x ≡ x || false
+        one true = refl
+        one false = refl
+    go false q (p, z) =
+        let (u, v) = and-true (leb hi 31) (leb t 31) z in
+        let l : t ≤ 31 = leb-true t 31 v in
+        let m : topped (row k′ lo hi ∷ []) ≡ true = rw u in
+        lt-leb a t (omega arith) ∙ sym (above-false k a (row k′ lo hi ∷ []) m h)
+above-right t k a (row k′ lo hi ∷ r ∷ rs) y e h =
+    let (u, v) = and-true (leb t 31) (topped (row k′ lo hi ∷ r ∷ rs)) e in
+    let l : t ≤ 31 = leb-true t 31 u in
+    lt-leb a t (omega arith) ∙ sym (above-false k a (row k′ lo hi ∷ r ∷ rs) v h)
 
-    go : (e : Bool) → not e ≡ true → (x : Bool) → ltb a lo ≡ x
-        → cond x false (cond (ltb hi a) false (cond e (eqb (maskOf i / 2 ^ a % 2) 1) true)) ≡ (leb lo a && leb a hi) || false
-    go true n x q = absurd (let z : _≡_ {A = Bool} false true = n in mathlib.Core.Bool.true≢false (sym z))
-    go false n true q = rw (lt-leb lo a (ltb-true a lo q))
-    go false n false q = inner (ltb hi a) refl q
-range-right i c k a (row k′ lo hi ∷ r ∷ rs) y t =
-    let (p, q) = and-true (eqb c 14) (allFrom 22 0 (bitIs (maskOf i) k (row k′ lo hi ∷ r ∷ rs)) && topped (row k′ lo hi ∷ r ∷ rs)) t in
-    let (q₁, q₂) = and-true (allFrom 22 0 (bitIs (maskOf i) k (row k′ lo hi ∷ r ∷ rs))) (topped (row k′ lo hi ∷ r ∷ rs)) q in
-    rw (eqb-true c 14 p) (go q₁ q₂ (ltb 21 a) refl)
+range-right : (c k a : ℕ) (rs : List Row) → AreKind k rs → isRange c k rs ≡ true
+    → cond (ltb a 32) (eqb (getD smalls c 0 / 2 ^ a % 2) 1) (leb a (getD tops c 0)) ≡ fits k a rs
+range-right c k a rs y t = go (ltb a 32) refl (and-true (allFrom 32 0 (bitIs (getD smalls c 0) k rs)) (aboveIs (getD tops c 0) rs) t)
   where
-    go : allFrom 22 0 (bitIs (maskOf i) k (row k′ lo hi ∷ r ∷ rs)) ≡ true → topped (row k′ lo hi ∷ r ∷ rs) ≡ true → (x : Bool) → ltb 21 a ≡ x
-        → cond (ltb a 0) false (cond x false (eqb (maskOf i / 2 ^ a % 2) 1)) ≡ fits k a (row k′ lo hi ∷ r ∷ rs)
-    go q₁ q₂ true q = rw (le-ltb a 0 (omega arith)) (sym (above-false k a (row k′ lo hi ∷ r ∷ rs) q₂ (ltb-true 21 a q)))
-    go q₁ q₂ false q = rw (le-ltb a 0 (omega arith)) (same-true _ _ (all-at 22 0 (bitIs (maskOf i) k (row k′ lo hi ∷ r ∷ rs)) q₁ a (omega arith) (let h : a ≤ 21 = ltb-false 21 a q in omega arith)))
+    go : (x : Bool) → ltb a 32 ≡ x → (allFrom 32 0 (bitIs (getD smalls c 0) k rs) ≡ true) × (aboveIs (getD tops c 0) rs ≡ true)
+        → cond x (eqb (getD smalls c 0 / 2 ^ a % 2) 1) (leb a (getD tops c 0)) ≡ fits k a rs
+    go true q (u, v) = same-true _ _ (all-at 32 0 (bitIs (getD smalls c 0) k rs) u a (omega arith) (let h : a < 32 = ltb-true a 32 q in omega arith))
+    go false q (u, v) = above-right (getD tops c 0) k a rs y v (let h : 32 ≤ a = ltb-false a 32 q in omega arith)
 
 pub fits-right : (i k a : ℕ) → IsSlot i → k ≤ 9 → fitsCode i k a ≡ fits k a (rule (slotOf i) .rows)
-unfolding fitsCode rangeOf leastOf mostOf
+unfolding fitsCode rangeOf smallOf topOf
 fits-right i k a h g =
     let rs = rule (slotOf i) .rows in
-    let t = all-at 10 0 (rangeAt i (wordOf i) rs) (right i h .6) k (omega arith) (omega arith) in
-    rw (le-ltb 9 k g) (range-right i (wordOf i / 2 ^ (k * 4) % 16) k a (only k rs) (only-kind k rs) t) ∙ sym (only-fits k a rs)
+    let t = all-at 10 0 (rangeAt (wordOf i) rs) (right i h .6) k (omega arith) (omega arith) in
+    rw (le-ltb 9 k g) (range-right (wordOf i / 2 ^ (k * 5) % 32) k a (only k rs) (only-kind k rs) t) ∙ sym (only-fits k a rs)
 
 pub own-right : (i : ℕ) → IsSlot i → rule (slotOf i) .own ≡ getD (none ∷ one ∷ rising ∷ filled ∷ []) (ownOf i) none
 own-right i h = sym (right i h .3)
@@ -474,51 +461,89 @@ value-at (suc n) a v h = go (eqb a n) refl (value-at n a (v .0))
     go true q ih = rw (eqb-true a n q) (v .1, v .2)
     go false q ih = let ne : a ≡ n → ⊥ = eqb-false a n q in ih (omega arith)
 
-stands-value : (b a : ℕ) (s : Slot) → a ≤ 21 → b ≤ 50 → slotOf (b + a) ≡ s → Stands (valueCode b a) (due s 0)
-stands-value b a s h g e = rw (le-ltb 21 a h) (record { level = ap (λ (x : Slot). due x 0) e; slotted = omega arith })
-
 -- the ways of `next_slot`
-next-way : (way to a n : ℕ) → IsSlot to → (4 ≤ way → a ≤ 21)
-    → Stands (nextWay way to a n)
-    (getD (done ∷ due (slotOf to) 0 ∷ due (slotOf to) n ∷ many (slotOf to) n ∷ due (value a inside) 0 ∷ due (value a param) 0 ∷ []) way done)
-unfolding nextWay
-next-way zero to a n h g = record { level = refl; slotted = tt }
-next-way (suc zero) to a n h g = record { level = refl; slotted = h }
-next-way (suc (suc zero)) to a n h g = record { level = refl; slotted = h }
-next-way (suc (suc (suc zero))) to a n h g = stands-many to n h
-next-way (suc (suc (suc (suc zero)))) to a n h g =
-    let l : a ≤ 21 = g (omega arith) in stands-value 28 a (value a inside) l (omega arith) (value-at 22 a values (omega arith) .0)
-next-way (suc (suc (suc (suc (suc zero))))) to a n h g =
-    let l : a ≤ 21 = g (omega arith) in stands-value 50 a (value a param) l (omega arith) (value-at 22 a values (omega arith) .1)
-next-way (suc (suc (suc (suc (suc (suc way)))))) to a n h g = record { level = refl; slotted = tt }
+module _ (took stay add to a n : ℕ) (h : IsSlot to) (l : took < 2) where
+  abbrev Follows : Type 0
+  Follows = Stands (nextBits took stay add to a n) (levelBits took stay add to a n)
 
--- what passed test 7 is in its range
-fits-most : (i k a : ℕ) → k ≤ 9 → fitsCode i k a ≡ true → a ≤ getD mosts (wordOf i / 2 ^ (k * 4) % 16) 0
-unfolding fitsCode rangeOf leastOf mostOf
-fits-most i k a g t = go (ltb a (getD leasts (wordOf i / 2 ^ (k * 4) % 16) 0)) (ltb (getD mosts (wordOf i / 2 ^ (k * 4) % 16) 0) a) refl (rw (le-ltb 9 k g) at t)
+  follows-plain : add ≡ 0 → Follows
+  unfolding nextBits
+  follows-plain e = rw e (go (eqb took 0) refl (eqb stay 0) refl)
+    where
+      last : (m : ℕ) → Stands (cond (ltb m 1) Done (Due (to + 0) (m - 1))) (many (slotOf to) m)
+      last zero = record { level = refl; slotted = tt }
+      last (suc m) = rw (le-ltb (suc m) 1 (omega arith)) (let z : to + 0 ≡ to = omega arith in rw z (record { level = ap (due (slotOf to)) (omega arith); slotted = h }))
+
+      go : (x : Bool) → eqb took 0 ≡ x → (y : Bool) → eqb stay 0 ≡ y
+          → Stands (cond (ltb (cond y 0 n) took) Done (Due (to + 0) (cond y 0 n - took)))
+          (cond x (due (slotOf to) (cond y 0 n)) (cond y done (many (slotOf to) n)))
+      go true q y p =
+          let z : took ≡ 0 = eqb-true took 0 q in
+          let v : to + 0 ≡ to = omega arith in
+          rw (z, v, le-ltb (cond y 0 n) 0 (omega arith)) (record { level = ap (due (slotOf to)) (omega arith); slotted = h })
+      go false q true p =
+          let ne : took ≡ 0 → ⊥ = eqb-false took 0 q in
+          let z : took ≡ 1 = omega arith in
+          rw z (record { level = refl; slotted = tt })
+      go false q false p =
+          let ne : took ≡ 0 → ⊥ = eqb-false took 0 q in
+          let z : took ≡ 1 = omega arith in
+          rw z (last n)
+
+  follows-value : (add ≡ 0 → ⊥) → a ≤ 21 → took ≡ 0 → stay ≡ 0 → (eqb to 28 || eqb to 50) ≡ true → Follows
+  unfolding nextBits
+  follows-value m g e f t =
+      let u : a % 32 ≡ a = omega arith in
+      rw (e, f, u, ne-eqb add 0 m) (go (eqb to 28) refl t)
+    where
+      go : (x : Bool) → eqb to 28 ≡ x → (x || eqb to 50) ≡ true → Stands (Due (to + a) 0) (cond x (due (value a inside) 0) (due (value a param) 0))
+      go true q p = rw (eqb-true to 28 q) (record { level = ap (λ (x : Slot). due x 0) (value-at 22 a values (omega arith) .0); slotted = omega arith })
+      go false q p = rw (eqb-true to 50 p) (record { level = ap (λ (x : Slot). due x 0) (value-at 22 a values (omega arith) .1); slotted = omega arith })
+
+-- what passed test 7 where a value follows is a type
+fits-small : (i k a : ℕ) → k ≤ 9 → isSmall (wordOf i / 2 ^ (k * 5) % 32) ≡ true → fitsCode i k a ≡ true → a ≤ 21
+unfolding fitsCode rangeOf smallOf topOf
+fits-small i k a g t e = go (ltb a 32) refl (and-true _ _ t) (rw (le-ltb 9 k g) at e)
   where
-    go : (x y : Bool) → ltb (getD mosts (wordOf i / 2 ^ (k * 4) % 16) 0) a ≡ y
-        → cond x false (cond y false (cond (eqb (wordOf i / 2 ^ (k * 4) % 16) 14) (eqb (maskOf i / 2 ^ a % 2) 1) true)) ≡ true
-        → a ≤ getD mosts (wordOf i / 2 ^ (k * 4) % 16) 0
-    go true y q e = absurd (mathlib.Core.Bool.true≢false (sym e))
-    go false true q e = absurd (mathlib.Core.Bool.true≢false (sym e))
-    go false false q e = ltb-false (getD mosts (wordOf i / 2 ^ (k * 4) % 16) 0) a q
+    go : (x : Bool) → ltb a 32 ≡ x
+        → (allFrom 10 22 (clear (getD smalls (wordOf i / 2 ^ (k * 5) % 32) 0)) ≡ true) × (leb (getD tops (wordOf i / 2 ^ (k * 5) % 32) 0) 31 ≡ true)
+        → cond x (eqb (getD smalls (wordOf i / 2 ^ (k * 5) % 32) 0 / 2 ^ a % 2) 1) (leb a (getD tops (wordOf i / 2 ^ (k * 5) % 32) 0)) ≡ true → a ≤ 21
+    go true q (u, v) p = low (ltb a 22) refl
+      where
+        low : (y : Bool) → ltb a 22 ≡ y → a ≤ 21
+        low true r = let h : a < 22 = ltb-true a 22 r in omega arith
+        low false r =
+            let h : a < 32 = ltb-true a 32 q in
+            let m : 22 ≤ a = ltb-false a 22 r in
+            let z : getD smalls (wordOf i / 2 ^ (k * 5) % 32) 0 / 2 ^ a % 2 ≡ 0 = eqb-true (getD smalls (wordOf i / 2 ^ (k * 5) % 32) 0 / 2 ^ a % 2) 0 (all-at 10 22 (clear (getD smalls (wordOf i / 2 ^ (k * 5) % 32) 0)) u a m (omega arith)) in
+            let o : getD smalls (wordOf i / 2 ^ (k * 5) % 32) 0 / 2 ^ a % 2 ≡ 1 = eqb-true (getD smalls (wordOf i / 2 ^ (k * 5) % 32) 0 / 2 ^ a % 2) 1 p in
+            absurd (omega arith)
+    go false q (u, v) p =
+        let h : 32 ≤ a = ltb-false a 32 q in
+        let m : a ≤ getD tops (wordOf i / 2 ^ (k * 5) % 32) 0 = leb-true a _ p in
+        let o : getD tops (wordOf i / 2 ^ (k * 5) % 32) 0 ≤ 31 = leb-true _ 31 v in
+        absurd (omega arith)
 
 pub next-right : (i k a n : ℕ) → IsSlot i → k ≤ 9 → fitsCode i k a ≡ true → Stands (nextCode i a n) (rule (slotOf i) .next a n)
 unfolding nextCode
 next-right i k a n h g t =
     let r = right i h in
     let w = wordOf i in
-    let (p, q) = and-true (cond (leb 4 (field w 48 16)) (allFrom 10 0 (smallAt w)) true) (names w (insideOf i)) (r .7) in
-    let l : field w 40 256 < 72 = ltb-true _ 72 (and-true _ _ q .0) in
-    rw (← ap (λ (f : ℕ → ℕ → Level). f a n) (r .0)) (next-way (field w 48 16) (field w 40 256) a n l (small p))
+    let (p, q) = and-true (valueAt w) (names w (insideOf i)) (r .7) in
+    let l : field w 50 128 < 72 = ltb-true _ 72 (and-true _ _ q .0) in
+    rw (← ap (λ (f : ℕ → ℕ → Level). f a n) (r .0)) (go l (eqb (field w 59 2) 0) refl p)
   where
-    small : cond (leb 4 (field (wordOf i) 48 16)) (allFrom 10 0 (smallAt (wordOf i))) true ≡ true → 4 ≤ field (wordOf i) 48 16 → a ≤ 21
-    small p l =
-        let s : allFrom 10 0 (smallAt (wordOf i)) ≡ true = rw (le-leb 4 (field (wordOf i) 48 16) l) at p in
-        let m : getD mosts (wordOf i / 2 ^ (k * 4) % 16) 0 ≤ 21 = leb-true _ 21 (all-at 10 0 (smallAt (wordOf i)) s k (omega arith) (omega arith)) in
-        let f = fits-most i k a g t in
-        omega arith
+    go : field (wordOf i) 50 128 < 72 → (x : Bool) → eqb (field (wordOf i) 59 2) 0 ≡ x
+        → cond x true (allFrom 10 0 (smallAt (wordOf i)) && (eqb (field (wordOf i) 57 2) 0 && (eqb (field (wordOf i) 58 2) 0 && (eqb (field (wordOf i) 50 128) 28 || eqb (field (wordOf i) 50 128) 50)))) ≡ true
+        → Stands (nextBits (field (wordOf i) 57 2) (field (wordOf i) 58 2) (field (wordOf i) 59 2) (field (wordOf i) 50 128) a n)
+        (levelBits (field (wordOf i) 57 2) (field (wordOf i) 58 2) (field (wordOf i) 59 2) (field (wordOf i) 50 128) a n)
+    go l true q p = follows-plain _ _ _ _ a n l (omega arith) (eqb-true _ 0 q)
+    go l false q p =
+        let (u, v) = and-true (allFrom 10 0 (smallAt (wordOf i))) _ p in
+        let (v₁, v₂) = and-true (eqb (field (wordOf i) 57 2) 0) _ v in
+        let (v₃, v₄) = and-true (eqb (field (wordOf i) 58 2) 0) _ v₂ in
+        follows-value _ _ _ _ a n l (omega arith) (eqb-false _ 0 q)
+        (fits-small i k a g (all-at 10 0 (smallAt (wordOf i)) u k (omega arith) (omega arith)) t) (eqb-true _ 0 v₁) (eqb-true _ 0 v₃) v₄
 
 stands-reference : (a : ℕ) → Stands (inReferenceCode a) (referenceLevel a)
 unfolding inReferenceCode
@@ -538,31 +563,32 @@ stands-ari to a h = go (eqb a 2) (stands-reference a)
     go true s = record { level = refl; slotted = h }
     go false s = s
 
-array-way : (way to a : ℕ) → IsSlot to
-    → Stands (arrayWay way to a)
-    (getD (done ∷ cond (eqb a 2) (due (slotOf to) 0) (referenceLevel a) ∷ referenceLevel a ∷ many (slotOf to) a ∷ due (slotOf to) (a - 1) ∷ due (slotOf to) (a - 2) ∷ []) way done)
+array-way : (way to a : ℕ) → IsSlot to → Stands (arrayWay way to a) (arrayLevel way to a)
 unfolding arrayWay
-array-way zero to a h = record { level = refl; slotted = tt }
-array-way (suc zero) to a h = stands-ari to a h
-array-way (suc (suc zero)) to a h = stands-reference a
-array-way (suc (suc (suc zero))) to a h = stands-many to a h
-array-way (suc (suc (suc (suc zero)))) to a h = record { level = refl; slotted = h }
-array-way (suc (suc (suc (suc (suc zero))))) to a h = record { level = refl; slotted = h }
-array-way (suc (suc (suc (suc (suc (suc way)))))) to a h = record { level = refl; slotted = tt }
+array-way way to a h = go (ltb way 3) (eqb way 1) (eqb way 0) (eqb way 3)
+  where
+    go : (x y z u : Bool)
+        → Stands (cond x (cond y (inAriCode to a) (cond z Done (inReferenceCode a))) (cond u (manyCode to a) (Due to (a - (way - 3)))))
+        (cond x (cond y (cond (eqb a 2) (due (slotOf to) 0) (referenceLevel a)) (cond z done (referenceLevel a))) (cond u (many (slotOf to) a) (due (slotOf to) (a - (way - 3)))))
+    go true true z u = stands-ari to a h
+    go true false true u = record { level = refl; slotted = tt }
+    go true false false u = stands-reference a
+    go false y z true = stands-many to a h
+    go false y z false = record { level = refl; slotted = h }
 
 pub inside-right : (i : ℕ) (l : Lead) → IsSlot i → Stands (insideCode i (l .kind) (l .arg)) (members (slotOf i) l)
 unfolding insideCode members inArrayCode inMapCode
 inside-right i l h = go (eqb (l .kind) 4) (eqb (l .kind) 5)
   where
     named : names (wordOf i) (insideOf i) ≡ true
-    named = and-true (cond (leb 4 (field (wordOf i) 48 16)) (allFrom 10 0 (smallAt (wordOf i))) true) (names (wordOf i) (insideOf i)) (right i h .7) .1
+    named = and-true (valueAt (wordOf i)) (names (wordOf i) (insideOf i)) (right i h .7) .1
 
     -- the slots that the inner word names
     to-array : insideOf i % 256 < 72
-    to-array = ltb-true _ 72 (and-true (ltb (insideOf i % 256) 72) (ltb (field (insideOf i) 16 256) 72) (and-true (ltb (field (wordOf i) 40 256) 72) _ named .1) .0)
+    to-array = ltb-true _ 72 (and-true (ltb (insideOf i % 256) 72) (ltb (field (insideOf i) 16 256) 72) (and-true (ltb (field (wordOf i) 50 128) 72) _ named .1) .0)
 
     to-map : field (insideOf i) 16 256 < 72
-    to-map = ltb-true _ 72 (and-true (ltb (insideOf i % 256) 72) (ltb (field (insideOf i) 16 256) 72) (and-true (ltb (field (wordOf i) 40 256) 72) _ named .1) .1)
+    to-map = ltb-true _ 72 (and-true (ltb (insideOf i % 256) 72) (ltb (field (insideOf i) 16 256) 72) (and-true (ltb (field (wordOf i) 50 128) 72) _ named .1) .1)
 
     in-map : (x : Bool) → Stands (cond x (manyCode (field (insideOf i) 16 256) (l .arg)) Done) (cond x (many (slotOf (field (insideOf i) 16 256)) (l .arg)) done)
     in-map true = stands-many (field (insideOf i) 16 256) (l .arg) to-map

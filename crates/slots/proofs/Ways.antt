@@ -2,44 +2,28 @@
 use Prim.Native.Nat.{ℕ, _+_, _-_, _*_, _/_, _%_, _^_, _<_, _≤_}
 use mathlib.Core.Path.{_≡_, refl, sym, _∙_, ap}
 use mathlib.Core.Bool.{Bool, true, false}
-use mathlib.Core.List.{[], _∷_}
 use native.Mathlib.Omega.{arith}
-use lib.Dec.{eqb}
+use lib.Dec.{leb, eqb}
 use borrow.Author.Tests.{lt-ltb, le-ltb, eq-eqb, ne-eqb}
 use Rattle.slots.specs.declared.Next.{Next}
 use Rattle.slots.specs.declared.Next.the-variants.{Done, Due}
-use Rattle.slots.specs.Code.{wordOf, insideOf, leastOf, mostOf, maskOf, rangeOf, fitsCode, manyCode, valueCode, nextWay, nextCode, inReferenceCode, inAriCode, arrayWay, inArrayCode, inMapCode, insideCode}
-use Rattle.slots.proofs.Hits.{hit, miss, Rest}
+use Rattle.slots.specs.Code.{wordOf, insideOf, smallOf, topOf, rangeOf, fitsCode, manyCode, keptCode, nextBits, nextCode, inReferenceCode, inAriCode, arrayWay, inArrayCode, inMapCode, insideCode}
 
 module _ (i k a : ℕ) where
   pub bad-kind : 9 < k → false ≡ fitsCode i k a
   unfolding fitsCode
   bad-kind h = simp (lt-ltb 9 k h)
 
-  module _ (h : k ≤ 9) {w : ℕ} (e : w ≡ wordOf i) {l : ℕ} (q : l ≡ leastOf (w / 2 ^ (k * 4) % 16)) where
-    pub too-small : a < l → false ≡ fitsCode i k a
+  module _ (h : k ≤ 9) {w : ℕ} (e : w ≡ wordOf i) {m : ℕ} where
+    pub below-32 : a < 32 → m ≡ smallOf (w / 2 ^ (k * 5) % 32) → eqb (m / 2 ^ a % 2) 1 ≡ fitsCode i k a
     unfolding fitsCode rangeOf
-    too-small g = simp (le-ltb 9 k h, ← e, ← q, lt-ltb a l g)
+    below-32 g q = simp (le-ltb 9 k h, ← e, lt-ltb a 32 g, ← q)
 
-    module _ (g : l ≤ a) {m : ℕ} (p : m ≡ mostOf (w / 2 ^ (k * 4) % 16)) where
-      pub too-great : m < a → false ≡ fitsCode i k a
-      unfolding fitsCode rangeOf
-      too-great f = simp (le-ltb 9 k h, ← e, ← q, le-ltb a l g, ← p, lt-ltb m a f)
+    pub from-32 : 32 ≤ a → m ≡ topOf (w / 2 ^ (k * 5) % 32) → leb a m ≡ fitsCode i k a
+    unfolding fitsCode rangeOf
+    from-32 g q = simp (le-ltb 9 k h, ← e, le-ltb a 32 g, ← q)
 
-      module _ (f : a ≤ m) where
-        pub in-range : (w / 2 ^ (k * 4) % 16 ≡ 14 → ⊥) → true ≡ fitsCode i k a
-        unfolding fitsCode rangeOf
-        in-range n = simp (le-ltb 9 k h, ← e, ← q, le-ltb a l g, ← p, le-ltb m a f, ne-eqb (w / 2 ^ (k * 4) % 16) 14 n)
-
-        pub a-type : w / 2 ^ (k * 4) % 16 ≡ 14 → {t : ℕ} → t ≡ maskOf i → eqb (t / 2 ^ a % 2) 1 ≡ fitsCode i k a
-        unfolding fitsCode rangeOf
-        a-type n r = simp (le-ltb 9 k h, ← e, ← q, le-ltb a l g, ← p, le-ltb m a f, eq-eqb (w / 2 ^ (k * 4) % 16) 14 n, ← r)
-
-        pub type-below : w / 2 ^ (k * 4) % 16 ≡ 14 → a < 64
-        unfolding mostOf
-        type-below n = let s : m ≡ 21 = p ∙ ap mostOf n in omega arith
-
-pub ruleset fit-ways = (bad-kind, too-small, too-great, in-range, a-type, type-below)
+pub ruleset fit-ways = (bad-kind, below-32, from-32)
 
 pub no-more : (s n : ℕ) → n ≡ 0 → Done ≡ manyCode s n
 no-more s n e = simp (eq-eqb n 0 e)
@@ -47,48 +31,64 @@ no-more s n e = simp (eq-eqb n 0 e)
 pub one-more : (s n : ℕ) → (n ≡ 0 → ⊥) → Due s (n - 1) ≡ manyCode s n
 one-more s n e = simp (ne-eqb n 0 e)
 
-pub no-type : (b a : ℕ) → 21 < a → Done ≡ valueCode b a
-no-type b a h = simp (lt-ltb 21 a h)
+pub gone : (b n : ℕ) → b ≡ 0 → 0 ≡ keptCode b n
+gone b n e = simp (eq-eqb b 0 e)
 
-pub its-value : (b a : ℕ) → a ≤ 21 → Due (b + a) 0 ≡ valueCode b a
-its-value b a h = simp (le-ltb 21 a h)
+pub stays : (b n : ℕ) → (b ≡ 0 → ⊥) → n ≡ keptCode b n
+stays b n e = simp (ne-eqb b 0 e)
 
 -- the ways of `next_slot`
-module _ (i a n : ℕ) {w : ℕ} (e : w ≡ wordOf i) where
-  pub follows : (v : ℕ) → w / 2 ^ 48 % 16 ≡ v → {r : Next} → r ≡ nextWay v (w / 2 ^ 40 % 256) a n → r ≡ nextCode i a n
-  unfolding nextCode
-  follows v k q = q ∙ rw (← e, k)
+module _ (i a n : ℕ) {w : ℕ} (e : w ≡ wordOf i) {r : ℕ} (q : (r ≡ keptCode (w / 2 ^ 58 % 2) n) × (r ≤ n)) where
+  pub none-left : r < w / 2 ^ 57 % 2 → Done ≡ nextCode i a n
+  unfolding nextCode nextBits
+  none-left h = rw (← e, ← q .0, lt-ltb r (w / 2 ^ 57 % 2) h)
 
-  pub ends : Rest 6 (w / 2 ^ 48 % 16) → Done ≡ nextCode i a n
-  unfolding nextCode nextWay
-  ends r = rw (← e) (miss (Done ∷ Due (w / 2 ^ 40 % 256) 0 ∷ Due (w / 2 ^ 40 % 256) n ∷ manyCode (w / 2 ^ 40 % 256) n ∷ valueCode 28 a ∷ valueCode 50 a ∷ []) Done 6 (w / 2 ^ 48 % 16) refl r)
+  pub next-due : w / 2 ^ 57 % 2 ≤ r → {x : ℕ} → (x ≡ keptCode (w / 2 ^ 59 % 2) (a % 32)) × (x ≤ a % 32)
+      → Due (w / 2 ^ 50 % 128 + x) (r - w / 2 ^ 57 % 2) ≡ nextCode i a n
+  unfolding nextCode nextBits
+  next-due h p = rw (← e, ← q .0, le-ltb r (w / 2 ^ 57 % 2) h, p .0)
 
 -- the ways of `in_array`
-module _ (i a : ℕ) {w : ℕ} (e : w ≡ insideOf i) where
-  pub comes : (v : ℕ) → w / 2 ^ 8 % 16 ≡ v → {r : Next} → r ≡ arrayWay v (w % 256) a → r ≡ inArrayCode i a
-  unfolding inArrayCode
-  comes v k q = q ∙ rw (← e, k)
+module _ (w a : ℕ) where
+  module _ (h : w / 2 ^ 8 % 16 < 3) where
+    pub an-ari : w / 2 ^ 8 % 16 ≡ 1 → {r : Next} → r ≡ inAriCode (w % 256) a → r ≡ inArrayCode w a
+    unfolding inArrayCode arrayWay
+    an-ari k q = q ∙ rw (k)
 
-  pub holds-none : Rest 6 (w / 2 ^ 8 % 16) → Done ≡ inArrayCode i a
+    pub holds-none : w / 2 ^ 8 % 16 ≡ 0 → Done ≡ inArrayCode w a
+    unfolding inArrayCode arrayWay
+    holds-none k = rw (k)
+
+    pub a-reference : (w / 2 ^ 8 % 16 ≡ 1 → ⊥) → (w / 2 ^ 8 % 16 ≡ 0 → ⊥) → {r : Next} → r ≡ inReferenceCode a → r ≡ inArrayCode w a
+    unfolding inArrayCode arrayWay
+    a-reference m n q = q ∙ rw (lt-ltb (w / 2 ^ 8 % 16) 3 h, ne-eqb (w / 2 ^ 8 % 16) 1 m, ne-eqb (w / 2 ^ 8 % 16) 0 n)
+
+  pub a-list : w / 2 ^ 8 % 16 ≡ 3 → {r : Next} → r ≡ manyCode (w % 256) a → r ≡ inArrayCode w a
   unfolding inArrayCode arrayWay
-  holds-none r = rw (← e) (miss (Done ∷ inAriCode (w % 256) a ∷ inReferenceCode a ∷ manyCode (w % 256) a ∷ Due (w % 256) (a - 1) ∷ Due (w % 256) (a - 2) ∷ []) Done 6 (w / 2 ^ 8 % 16) refl r)
+  a-list k q = q ∙ rw (k)
 
-  pub pairs : w / 2 ^ 24 % 16 ≡ 3 → {r : Next} → r ≡ manyCode (w / 2 ^ 16 % 256) a → r ≡ inMapCode i a
-  unfolding inMapCode
-  pairs k q = q ∙ rw (← e, eq-eqb (w / 2 ^ 24 % 16) 3 k)
+  pub led : 3 ≤ w / 2 ^ 8 % 16 → (w / 2 ^ 8 % 16 ≡ 3 → ⊥) → {x : ℕ} → x ≡ a - (w / 2 ^ 8 % 16 - 3) → Due (w % 256) x ≡ inArrayCode w a
+  unfolding inArrayCode arrayWay
+  led h m q = rw (q, le-ltb (w / 2 ^ 8 % 16) 3 h, ne-eqb (w / 2 ^ 8 % 16) 3 m)
 
-  pub no-pairs : (w / 2 ^ 24 % 16 ≡ 3 → ⊥) → Done ≡ inMapCode i a
+  pub pairs : w / 2 ^ 24 % 16 ≡ 3 → {r : Next} → r ≡ manyCode (w / 2 ^ 16 % 256) a → r ≡ inMapCode w a
   unfolding inMapCode
-  no-pairs k = rw (← e, ne-eqb (w / 2 ^ 24 % 16) 3 k)
+  pairs k q = q ∙ rw (eq-eqb (w / 2 ^ 24 % 16) 3 k)
+
+  pub no-pairs : (w / 2 ^ 24 % 16 ≡ 3 → ⊥) → Done ≡ inMapCode w a
+  unfolding inMapCode
+  no-pairs k = rw (ne-eqb (w / 2 ^ 24 % 16) 3 k)
+
+pub ruleset array-ways = (an-ari, holds-none, a-reference, a-list, led)
 
 module _ (i k a : ℕ) where
-  pub array-inside : k ≡ 4 → {r : Next} → r ≡ inArrayCode i a → r ≡ insideCode i k a
+  pub array-inside : k ≡ 4 → {w : ℕ} → w ≡ insideOf i → {r : Next} → r ≡ inArrayCode w a → r ≡ insideCode i k a
   unfolding insideCode
-  array-inside e q = q ∙ rw (eq-eqb k 4 e)
+  array-inside e p q = q ∙ rw (p, eq-eqb k 4 e)
 
-  pub map-inside : (k ≡ 4 → ⊥) → k ≡ 5 → {r : Next} → r ≡ inMapCode i a → r ≡ insideCode i k a
+  pub map-inside : (k ≡ 4 → ⊥) → k ≡ 5 → {w : ℕ} → w ≡ insideOf i → {r : Next} → r ≡ inMapCode w a → r ≡ insideCode i k a
   unfolding insideCode
-  map-inside n e q = q ∙ rw (ne-eqb k 4 n, eq-eqb k 5 e)
+  map-inside n e p q = q ∙ rw (p, ne-eqb k 4 n, eq-eqb k 5 e)
 
   pub none-inside : (k ≡ 4 → ⊥) → (k ≡ 5 → ⊥) → Done ≡ insideCode i k a
   unfolding insideCode

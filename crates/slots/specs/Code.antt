@@ -3,7 +3,7 @@ use Prim.Native.Nat.{ℕ, zero, suc, _+_, _-_, _*_, _/_, _%_, _^_}
 use mathlib.Core.Bool.{Bool, true, false, cond}
 use mathlib.Core.List.{List, [], _∷_}
 use lib.ListN.{getD}
-use lib.Dec.{ltb, eqb}
+use lib.Dec.{ltb, leb, eqb}
 use Rattle.ari.specs.Table.{Place, alone, message, inside, param, Slot, version, ari, type, value, namespace, objectNamespace, objectType, objectId, params, key, entry, nonce, setTime, target, report, reportTime, reportSource, Level, done, due}
 use Rattle.slots.specs.declared.Next.{Next}
 use Rattle.slots.specs.declared.Next.the-variants.{Done, Due}
@@ -40,24 +40,24 @@ levelOf (Due s n) = due (slotOf s) n
 
 abbrev pub words : List ℕ
 words =
-    0x0010000000000001 ∷ 0x1003011116091121 ∷ 0x10030200000a0000 ∷ 0x1003031116091121
-    ∷ 0x1003041116091121 ∷ 0x000400000000000e ∷ 0x000400000000000e ∷ 0x000400000000000e
-    ∷ 0x000500000000000e ∷ 0x0200000000001022 ∷ 0x02010c0008001022 ∷ 0x02010d0008001022
-    ∷ 0x01010e0000001030 ∷ 0x01010f0000001030 ∷ 0x0100000000001002 ∷ 0x0101100000001002
-    ∷ 0x0030000000110000 ∷ 0x0022130000001021 ∷ 0x0022140000001021 ∷ 0x1003111116091121
-    ∷ 0x1003121116091121 ∷ 0x0003180008000101 ∷ 0x0002170008000101 ∷ 0x0003190000000022
-    ∷ 0x10031800000b0000 ∷ 0x00031900000d0000 ∷ 0x00021b0000000022 ∷ 0x10030300000b0000
-    ∷ 0x0000000008000000 ∷ 0x0000000007000000 ∷ 0x0000000000000003 ∷ 0x0000000000000000
-    ∷ 0x0000000000000044 ∷ 0x0000000000000005 ∷ 0x0000000000000022 ∷ 0x0000000000000001
-    ∷ 0x0000000110000000 ∷ 0x0000001110000000 ∷ 0x0000000000001000 ∷ 0x0000000000000100
-    ∷ 0x0000000000000022 ∷ 0x0000000000000022 ∷ 0x0100000000001000 ∷ 0x0000000000000100
-    ∷ 0x0000000000000000 ∷ 0x0000000000010000 ∷ 0x0000000000100000 ∷ 0x0000000000000000
-    ∷ 0x00000000000c0000 ∷ 0x00000000000d0000 ∷ 0x0000000008000000 ∷ 0x0000000007000000
-    ∷ 0x0000000000000003 ∷ 0x0000000000000000 ∷ 0x0000000000000044 ∷ 0x0000000000000005
-    ∷ 0x0000000000000022 ∷ 0x0000000000000001 ∷ 0x0000000110000000 ∷ 0x0000001110000000
-    ∷ 0x0000000000001000 ∷ 0x0000000000000100 ∷ 0x0000000000000022 ∷ 0x0000000000000022
-    ∷ 0x0100000000001000 ∷ 0x0000000000000100 ∷ 0x0000000000000000 ∷ 0x0000000000010000
-    ∷ 0x0000000000100000 ∷ 0x0000000000000000 ∷ 0x00000000000c0000 ∷ 0x00000000000d0000
+    0x1200000000000001 ∷ 0x0604210980908441 ∷ 0x0608000000a00000 ∷ 0x060c210980908441
+    ∷ 0x0610210980908441 ∷ 0x087000000000000e ∷ 0x087000000000000f ∷ 0x0870000000000010
+    ∷ 0x08c8000000000011 ∷ 0x8200000000008042 ∷ 0x8030000200008042 ∷ 0x8034000200008042
+    ∷ 0x4038000000008060 ∷ 0x403c000000008060 ∷ 0x4200000000008002 ∷ 0x4040000000008002
+    ∷ 0x3200000002100000 ∷ 0x244c000000008041 ∷ 0x2450000000008041 ∷ 0x0644210980908441
+    ∷ 0x0648210980908441 ∷ 0x0660000200000401 ∷ 0x045c000200000401 ∷ 0x0664000000000042
+    ∷ 0x0660000000b00000 ∷ 0x0664000000d00000 ∷ 0x046c000000000042 ∷ 0x060c000000b00000
+    ∷ 0x0200000200000000 ∷ 0x02000001c0000000 ∷ 0x0200000000000003 ∷ 0x0200000000000000
+    ∷ 0x0200000000000084 ∷ 0x0200000000000005 ∷ 0x0200000000000042 ∷ 0x0200000000000001
+    ∷ 0x0200010800000000 ∷ 0x0200210800000000 ∷ 0x0200000000008000 ∷ 0x0200000000000400
+    ∷ 0x0200000000000042 ∷ 0x0200000000000042 ∷ 0x4200000000008000 ∷ 0x0200000000000400
+    ∷ 0x0200000000000000 ∷ 0x0200000000100000 ∷ 0x0200000002000000 ∷ 0x0200000000000000
+    ∷ 0x0200000000c00000 ∷ 0x0200000000d00000 ∷ 0x0200000200000000 ∷ 0x02000001c0000000
+    ∷ 0x0200000000000003 ∷ 0x0200000000000000 ∷ 0x0200000000000084 ∷ 0x0200000000000005
+    ∷ 0x0200000000000042 ∷ 0x0200000000000001 ∷ 0x0200010800000000 ∷ 0x0200210800000000
+    ∷ 0x0200000000008000 ∷ 0x0200000000000400 ∷ 0x0200000000000042 ∷ 0x0200000000000042
+    ∷ 0x4200000000008000 ∷ 0x0200000000000400 ∷ 0x0200000000000000 ∷ 0x0200000000100000
+    ∷ 0x0200000002000000 ∷ 0x0200000000000000 ∷ 0x0200000000c00000 ∷ 0x0200000000d00000
     ∷ []
 
 unfoldable pub wordOf : ℕ → ℕ
@@ -65,76 +65,72 @@ wordOf i = getD words i 0
 
 abbrev pub insides : List ℕ
 insides =
-    0x0000000 ∷ 0x0000105 ∷ 0x0000106 ∷ 0x0000107 ∷ 0x0000108 ∷ 0x0000000 ∷ 0x0000000 ∷ 0x0000000
-    ∷ 0x0000000 ∷ 0x0000000 ∷ 0x0000000 ∷ 0x0000000 ∷ 0x0000000 ∷ 0x0000000 ∷ 0x0000000 ∷ 0x0000000
-    ∷ 0x3120304 ∷ 0x0000000 ∷ 0x0000000 ∷ 0x0000107 ∷ 0x0000108 ∷ 0x0000000 ∷ 0x0000000 ∷ 0x0000000
-    ∷ 0x0000200 ∷ 0x000051a ∷ 0x0000000 ∷ 0x0000200 ∷ 0x3110303 ∷ 0x3110303 ∷ 0x3110303 ∷ 0x3110303
-    ∷ 0x3110303 ∷ 0x3110303 ∷ 0x3110303 ∷ 0x3110303 ∷ 0x3110303 ∷ 0x3110303 ∷ 0x3110303 ∷ 0x3110303
-    ∷ 0x3110303 ∷ 0x3110303 ∷ 0x3110303 ∷ 0x3110303 ∷ 0x3110303 ∷ 0x3110303 ∷ 0x3110303 ∷ 0x3110303
-    ∷ 0x3110415 ∷ 0x3110516 ∷ 0x3120304 ∷ 0x3120304 ∷ 0x3120304 ∷ 0x3120304 ∷ 0x3120304 ∷ 0x3120304
-    ∷ 0x3120304 ∷ 0x3120304 ∷ 0x3120304 ∷ 0x3120304 ∷ 0x3120304 ∷ 0x3120304 ∷ 0x3120304 ∷ 0x3120304
-    ∷ 0x3120304 ∷ 0x3120304 ∷ 0x3120304 ∷ 0x3120304 ∷ 0x3120304 ∷ 0x3120304 ∷ 0x3120415 ∷ 0x3120516
+    0x00000000 ∷ 0x10000105 ∷ 0x10000106 ∷ 0x10000107 ∷ 0x10000108 ∷ 0x00000000 ∷ 0x00000000 ∷ 0x00000000
+    ∷ 0x00000000 ∷ 0x00000000 ∷ 0x00000000 ∷ 0x00000000 ∷ 0x00000000 ∷ 0x00000000 ∷ 0x00000000 ∷ 0x00000000
+    ∷ 0x03120304 ∷ 0x00000000 ∷ 0x00000000 ∷ 0x10000107 ∷ 0x10000108 ∷ 0x00000000 ∷ 0x00000000 ∷ 0x00000000
+    ∷ 0x10000200 ∷ 0x0000051a ∷ 0x00000000 ∷ 0x10000200 ∷ 0x03110303 ∷ 0x03110303 ∷ 0x03110303 ∷ 0x03110303
+    ∷ 0x03110303 ∷ 0x03110303 ∷ 0x03110303 ∷ 0x03110303 ∷ 0x03110303 ∷ 0x03110303 ∷ 0x03110303 ∷ 0x03110303
+    ∷ 0x03110303 ∷ 0x03110303 ∷ 0x03110303 ∷ 0x03110303 ∷ 0x03110303 ∷ 0x03110303 ∷ 0x03110303 ∷ 0x03110303
+    ∷ 0x03110415 ∷ 0x03110516 ∷ 0x03120304 ∷ 0x03120304 ∷ 0x03120304 ∷ 0x03120304 ∷ 0x03120304 ∷ 0x03120304
+    ∷ 0x03120304 ∷ 0x03120304 ∷ 0x03120304 ∷ 0x03120304 ∷ 0x03120304 ∷ 0x03120304 ∷ 0x03120304 ∷ 0x03120304
+    ∷ 0x03120304 ∷ 0x03120304 ∷ 0x03120304 ∷ 0x03120304 ∷ 0x03120304 ∷ 0x03120304 ∷ 0x03120415 ∷ 0x03120516
     ∷ []
 
 unfoldable pub insideOf : ℕ → ℕ
 insideOf i = getD insides i 0
 
--- the ranges: least and greatest argument
-abbrev pub leasts : List ℕ
-leasts =
-    1 ∷ 0 ∷ 0 ∷ 0 ∷ 0 ∷ 0 ∷ 20 ∷ 20 ∷ 22 ∷ 1 ∷ 2 ∷ 3 ∷ 1 ∷ 2 ∷ 0
+-- the ranges: the arguments below 32, a bit each, and the greatest argument where 32 or more are in it
+abbrev pub smalls : List ℕ
+smalls =
+    0x00000000 ∷ 0xffffffff ∷ 0xffffffff ∷ 0xffffffff ∷ 0xffffffff ∷ 0xffffffff ∷ 0x00f00000 ∷ 0x00300000 ∷ 0x00400000
+    ∷ 0x0000001e ∷ 0x00000004 ∷ 0x00000018 ∷ 0xfffffffe ∷ 0xfffffffc ∷ 0x0036bff7 ∷ 0x00300000 ∷ 0x0006bff7 ∷ 0x0006fff7
     ∷ []
 
-abbrev pub mosts : List ℕ
-mosts =
-    0 ∷ 18446744073709551615 ∷ 9223372036854775807 ∷ 255 ∷ 2147483647 ∷ 4294967295 ∷ 23 ∷ 21
-    ∷ 22 ∷ 4 ∷ 2 ∷ 4 ∷ 18446744073709551615 ∷ 18446744073709551615 ∷ 21
+abbrev pub tops : List ℕ
+tops =
+    0x0 ∷ 0xffffffffffffffff ∷ 0x7fffffffffffffff ∷ 0xff ∷ 0x7fffffff ∷ 0xffffffff
+    ∷ 0x0 ∷ 0x0 ∷ 0x0 ∷ 0x0 ∷ 0x0 ∷ 0x0
+    ∷ 0xffffffffffffffff ∷ 0xffffffffffffffff ∷ 0x0 ∷ 0x0 ∷ 0x0 ∷ 0x0
     ∷ []
 
-unfoldable pub leastOf : ℕ → ℕ
-leastOf c = getD leasts c 0
+unfoldable pub smallOf : ℕ → ℕ
+smallOf c = getD smalls c 0
 
-unfoldable pub mostOf : ℕ → ℕ
-mostOf c = getD mosts c 0
-
--- the types that may stand at a place, a bit each
-unfoldable pub maskOf : ℕ → ℕ
-maskOf i = cond (eqb i 5) 0x36bff7 (cond (eqb i 6) 0x300000 (cond (eqb i 7) 0x06bff7 0x06fff7))
+unfoldable pub topOf : ℕ → ℕ
+topOf c = getD tops c 0
 
 -- bits of a word
 abbrev pub field : ℕ → ℕ → ℕ → ℕ
 field w at size = w / 2 ^ at % size
 
 unfoldable pub rangeOf : ℕ → ℕ → ℕ
-rangeOf i k = wordOf i / 2 ^ (k * 4) % 16
+rangeOf i k = wordOf i / 2 ^ (k * 5) % 32
 
 unfoldable pub fitsCode : ℕ → ℕ → ℕ → Bool
-fitsCode i k a =
-    cond (ltb 9 k) false
-    (cond (ltb a (leastOf (rangeOf i k))) false
-    (cond (ltb (mostOf (rangeOf i k)) a) false
-    (cond (eqb (rangeOf i k) 14) (eqb (maskOf i / 2 ^ a % 2) 1) true)))
+fitsCode i k a = cond (ltb 9 k) false (cond (ltb a 32) (eqb (smallOf (rangeOf i k) / 2 ^ a % 2) 1) (leb a (topOf (rangeOf i k))))
 
 abbrev pub ownOf : ℕ → ℕ
-ownOf i = field (wordOf i) 52 16
+ownOf i = field (wordOf i) 60 4
 
 abbrev pub spellingOf : ℕ → ℕ
-spellingOf i = field (wordOf i) 56 16
+spellingOf i = wordOf i / 2 ^ 62
 
 abbrev pub asksOf : ℕ → Bool
-asksOf i = eqb (field (wordOf i) 60 16) 1
+asksOf i = eqb (field (insideOf i) 28 2) 1
 
 abbrev pub manyCode : ℕ → ℕ → Next
 manyCode s n = cond (eqb n 0) Done (Due s (n - 1))
 
-abbrev pub valueCode : ℕ → ℕ → Next
-valueCode base a = cond (ltb 21 a) Done (Due (base + a) 0)
+-- a number, or 0, by a bit
+abbrev pub keptCode : ℕ → ℕ → ℕ
+keptCode b n = cond (eqb b 0) 0 n
 
-unfoldable pub nextWay : ℕ → ℕ → ℕ → ℕ → Next
-nextWay way to a n = getD (Done ∷ Due to 0 ∷ Due to n ∷ manyCode to n ∷ valueCode 28 a ∷ valueCode 50 a ∷ []) way Done
+-- what follows: so many are taken of those that are left, which stay or not, and the argument is added to the slot or not
+unfoldable pub nextBits : ℕ → ℕ → ℕ → ℕ → ℕ → ℕ → Next
+nextBits took stay add to a n = cond (ltb (keptCode stay n) took) Done (Due (to + keptCode add (a % 32)) (keptCode stay n - took))
 
 unfoldable pub nextCode : ℕ → ℕ → ℕ → Next
-nextCode i a n = nextWay (field (wordOf i) 48 16) (field (wordOf i) 40 256) a n
+nextCode i a n = nextBits (field (wordOf i) 57 2) (field (wordOf i) 58 2) (field (wordOf i) 59 2) (field (wordOf i) 50 128) a n
 
 unfoldable pub inReferenceCode : ℕ → Next
 inReferenceCode a = cond (eqb a 1) (Due 9 0) (cond (eqb a 4) (Due 11 0) (Due 10 0))
@@ -143,13 +139,16 @@ unfoldable pub inAriCode : ℕ → ℕ → Next
 inAriCode to a = cond (eqb a 2) (Due to 0) (inReferenceCode a)
 
 unfoldable pub arrayWay : ℕ → ℕ → ℕ → Next
-arrayWay way to a = getD (Done ∷ inAriCode to a ∷ inReferenceCode a ∷ manyCode to a ∷ Due to (a - 1) ∷ Due to (a - 2) ∷ []) way Done
+arrayWay way to a =
+    cond (ltb way 3)
+    (cond (eqb way 1) (inAriCode to a) (cond (eqb way 0) Done (inReferenceCode a)))
+    (cond (eqb way 3) (manyCode to a) (Due to (a - (way - 3))))
 
 unfoldable pub inArrayCode : ℕ → ℕ → Next
-inArrayCode i a = arrayWay (field (insideOf i) 8 16) (insideOf i % 256) a
+inArrayCode w a = arrayWay (field w 8 16) (w % 256) a
 
 unfoldable pub inMapCode : ℕ → ℕ → Next
-inMapCode i a = cond (eqb (field (insideOf i) 24 16) 3) (manyCode (field (insideOf i) 16 256) a) Done
+inMapCode w a = cond (eqb (field w 24 16) 3) (manyCode (field w 16 256) a) Done
 
 unfoldable pub insideCode : ℕ → ℕ → ℕ → Next
-insideCode i k a = cond (eqb k 4) (inArrayCode i a) (cond (eqb k 5) (inMapCode i a) Done)
+insideCode i k a = cond (eqb k 4) (inArrayCode (insideOf i) a) (cond (eqb k 5) (inMapCode (insideOf i) a) Done)

@@ -1,4 +1,4 @@
--- `slots::asks` meets its contract: a bit of the word.
+-- `slots::asks` meets its contract: a bit of the inner word.
 use borrow.Author.Needs.{needs}
 use mathlib.Core.Path.{_≡_, refl, sym, _∙_, ap}
 use Rattle.slots.proofs.asks.Statement.{statement}
@@ -9,4 +9,4 @@ asks-spec =
     tie.close
     (tie.spec
     (λ c κs. search needs)
-    (λ c. rw (c .rule-word .ensures)))
+    (λ c. rw (c .inside-word .ensures)))

@@ -9,6 +9,5 @@ in-map-spec =
     tie.close
     (tie.spec
     (λ c κs. search needs)
-    (λ c κs. search needs)
     (λ c. search (pairs, needs))
     (λ c. search (no-pairs, needs)))

@@ -9,6 +9,7 @@ inside-spec =
     tie.close
     (tie.spec
     (λ c κs. search needs)
+    (λ c κs. search needs)
     (λ c. search (inside-ways, needs))
     (λ c κs. search needs)
     (λ c. search (inside-ways, needs))
