@@ -17,14 +17,14 @@ use Rattle.cbor.proofs.HeadWays.{Read, read}
 use Rattle.ari.specs.Table.{Slot, Own, rising, rule, fits}
 use Rattle.ari.specs.Reader.{keyBytes, wrongVersion, notGreater, isEmpty, judge, judgeGot}
 use Rattle.ari.specs.Reader as reader
-use Rattle.slots.specs.Code.{slotOf, fitsCode}
+use Rattle.slots.specs.Code.{slotOf, ownOf, fitsCode}
 use Rattle.slots.proofs.Right.{IsSlot, fits-right}
 use Rattle.read.specs.declared.Step.{Step}
 use Rattle.read.specs.declared.Step.the-variants.{Taken, Refused}
 use Rattle.read.specs.declared.End.{End}
 use Rattle.read.specs.declared.End.the-variants.{At, Short}
 use Rattle.read.specs.Steps.{part, stringEnd, stepAnswer, stepAt, lateStep, lateGot, lateAt, LateShown, Bounded, noHead}
-use Rattle.read.proofs.Keys.{ordered-kind, key-bytes, same-order}
+use Rattle.read.proofs.Keys.{ordered-kind, key-bytes, same-order, no-key, filled-other}
 
 -- a string's end
 module _ (b : List ℕ) (a q : ℕ) where
@@ -212,6 +212,13 @@ module _ (b : List ℕ) (p : ℕ) (s : Slot) (prev : List ℕ) {k a q : ℕ} (e 
             = omega (arith, st .next-is, en .end-is, length-take-le (stringSize l) (drop (size l) (drop p b)) (en .there)) in
             rw (not-short, well-spelt, sym order-is ∙ sym d ∙ v, sym empty-is ∙ sym w ∙ j, o, st .kind-is, st .arg-is) (refl) ∙ late-is
 
+-- a slot with no test of its own
+pub is-plain : (b : List ℕ) (p i : ℕ) (prev : List ℕ) {k a q : ℕ} → headAt b p ≡ Good k a q → q ≤ length b → {y : End} → y ≡ stringEnd b k a q
+    → {x : ℕ} → y ≡ At x → {m : Bool} → m ≡ (eqb k 3 && not (rule (slotOf i) .spelling (part b q x))) → m ≡ false → all isByte b ≡ true
+    → fits k a (rule (slotOf i) .rows) ≡ true → IsSlot i → {o : ℕ} → o ≡ ownOf i → o ≡ 0 → Taken k a x ≡ lateAt b p (slotOf i) prev
+is-plain b p i prev {k} {a} {q} e n g {x} f c t bs fit v {o} eo z =
+    is-taken b p (slotOf i) prev e n g f c t bs fit (no-key i v eo (λ u. omega arith) prev (part b p x)) refl (filled-other i v eo (λ u. omega arith) a) refl
+
 -- the tests 2 to 8
 module _ (b : List ℕ) (p i : ℕ) (prev : List ℕ) (c items d : ℕ) where
   abbrev here : Step
@@ -296,4 +303,4 @@ pub ruleset head-shown = (good-head, fit-shown, unread)
 
 pub ruleset head-ways = (stop-head, stop-items, stop-deep, stop-fits, stop-version, goes-late)
 
-pub ruleset late-ways = (is-short, is-misspelt, is-unordered, is-blank, is-taken, end-in, end-on, end-past, fits-slot)
+pub ruleset late-ways = (is-short, is-misspelt, is-unordered, is-blank, is-taken, is-plain, end-in, end-on, end-past, fits-slot)

@@ -11,7 +11,7 @@ ghost use Rattle.cbor.specs.Head.{isContainer};
 ghost use Rattle.cbor.specs.Answer.{headAt};
 ghost use Rattle.cbor.specs.declared.Head.the-variants.{Good};
 ghost use Rattle.ari.specs.Table.{rule, due};
-ghost use Rattle.slots.specs.Code.{fitsCode};
+ghost use Rattle.slots.specs.Code.{fitsCode, ownOf};
 ghost use Rattle.ari.specs.Reader.{wrongVersion, notGreater, isEmpty};
 ghost use Rattle.slots.specs.Code.{slotOf};
 ghost use Rattle.slots.proofs.Right.{IsSlot};
@@ -72,11 +72,11 @@ fn close(table: &mut [u64], i: usize, first: usize, after: usize, around: usize,
 }
 
 // Test 8.
-fn wrong_version(slot: u64, arg: u64) -> bool
-    requires { ⌜ IsSlot slot ⌝ }
+fn wrong_version(slot: u64, own: u64, arg: u64) -> bool
+    requires { ⌜ IsSlot slot × (own ≡ ownOf slot) ⌝ }
     ensures { λ r. ⌜ r ≡ wrongVersion (rule (slotOf slot) .own) arg ⌝ }
 {
-    if slots::own(slot) == 1 {
+    if own == 1 {
         return arg != 1;
     }
     false
@@ -132,11 +132,11 @@ fn is_misspelt(s: &[u8], slot: u64, kind: u8, next: usize, end: usize) -> bool
 }
 
 // Test 11.
-fn is_not_greater(s: &[u8], slot: u64, prev: Span, at: usize, end: usize) -> bool
-    requires { ⌜ IsSlot slot × (prev .from ≤ prev .to) × (prev .to ≤ length (now s)) × (at ≤ end) × (end ≤ length (now s)) ⌝ }
+fn is_not_greater(s: &[u8], slot: u64, own: u64, prev: Span, at: usize, end: usize) -> bool
+    requires { ⌜ IsSlot slot × (own ≡ ownOf slot) × (prev .from ≤ prev .to) × (prev .to ≤ length (now s)) × (at ≤ end) × (end ≤ length (now s)) ⌝ }
     ensures { λ r. ⌜ r ≡ notGreater (rule (slotOf slot) .own) (part (now (s .entry)) (prev .from) (prev .to)) (part (now (s .entry)) at end) ⌝ }
 {
-    if slots::own(slot) == 2 {
+    if own == 2 {
         let from = prev.from;
         let to = prev.to;
         return !cbor::is_below(&s[from..to], &s[at..end]);
@@ -145,19 +145,28 @@ fn is_not_greater(s: &[u8], slot: u64, prev: Span, at: usize, end: usize) -> boo
 }
 
 // Test 12.
-fn is_empty(slot: u64, arg: u64) -> bool
-    requires { ⌜ IsSlot slot ⌝ }
+fn is_empty(slot: u64, own: u64, arg: u64) -> bool
+    requires { ⌜ IsSlot slot × (own ≡ ownOf slot) ⌝ }
     ensures { λ r. ⌜ r ≡ isEmpty (rule (slotOf slot) .own) arg ⌝ }
 {
-    if slots::own(slot) == 3 {
+    if own == 3 {
         return arg == 0;
     }
     false
 }
 
-// The tests 9 to 12.
-fn late(s: &[u8], at: usize, slot: u64, prev: Span, kind: u8, arg: u64, next: usize) -> Step
-    requires { ⌜ (all isByte (now s) ≡ true) × IsSlot slot × (prev .from ≤ prev .to) × (prev .to ≤ length (now s)) ⌝ }
+// The tests 9 to 12. Most slots have no test of their own: 11 and 12 are not theirs.
+fn late(
+    s: &[u8],
+    at: usize,
+    slot: u64,
+    own: u64,
+    prev: Span,
+    kind: u8,
+    arg: u64,
+    next: usize,
+) -> Step
+    requires { ⌜ (all isByte (now s) ≡ true) × IsSlot slot × (own ≡ ownOf slot) × (prev .from ≤ prev .to) × (prev .to ≤ length (now s)) ⌝ }
     requires { ⌜ (headAt (now s) at ≡ Good kind arg next) × (at < next) × (next ≤ length (now s)) × (fitsCode slot kind arg ≡ true) × (kind ≤ 9) ⌝ }
     ensures { λ r. ⌜ r ≡ lateAt (now (s .entry)) at (slotOf slot) (part (now (s .entry)) (prev .from) (prev .to)) ⌝ }
     ensures { λ r. ⌜ LateShown (now (s .entry)) kind arg next r ⌝ }
@@ -175,13 +184,20 @@ fn late(s: &[u8], at: usize, slot: u64, prev: Span, kind: u8, arg: u64, next: us
             place: at,
         };
     }
-    if is_not_greater(s, slot, prev, at, end) {
+    if own == 0 {
+        return Step::Taken {
+            kind,
+            arg,
+            after: end,
+        };
+    }
+    if is_not_greater(s, slot, own, prev, at, end) {
         return Step::Refused {
             number: 11,
             place: at,
         };
     }
-    if is_empty(slot, arg) {
+    if is_empty(slot, own, arg) {
         return Step::Refused {
             number: 12,
             place: at,
@@ -260,13 +276,14 @@ fn take_head(
             place: at,
         };
     }
-    if wrong_version(slot, arg) {
+    let own = slots::own(slot);
+    if wrong_version(slot, own, arg) {
         return Step::Refused {
             number: 8,
             place: at,
         };
     }
-    late(s, at, slot, prev, kind, arg, next)
+    late(s, at, slot, own, prev, kind, arg, next)
 }
 
 // The key before, for what is due next on a level.

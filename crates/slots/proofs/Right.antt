@@ -70,7 +70,7 @@ aboveIs t (row k lo hi ∷ []) = leb lo 32 && (eqb t hi || (leb hi 31 && leb t 3
 aboveIs t (row k lo hi ∷ r ∷ rs) = leb t 31 && topped (row k lo hi ∷ r ∷ rs)
 
 abbrev isRange : ℕ → ℕ → List Row → Bool
-isRange c k rs = allFrom 32 0 (bitIs (getD smalls c 0) k rs) && aboveIs (getD tops c 0) rs
+isRange c k rs = allFrom 32 0 (bitIs (getD smalls c 1) k rs) && aboveIs (getD tops c 1) rs
 
 abbrev rangeAt : ℕ → List Row → ℕ → Bool
 rangeAt w rs k = isRange (w / 2 ^ (k * 5) % 32) k (only k rs)
@@ -80,7 +80,7 @@ abbrev clear : ℕ → ℕ → Bool
 clear m a = eqb (m / 2 ^ a % 2) 0
 
 abbrev isSmall : ℕ → Bool
-isSmall c = allFrom 10 22 (clear (getD smalls c 0)) && leb (getD tops c 0) 31
+isSmall c = allFrom 10 22 (clear (getD smalls c 1)) && leb (getD tops c 1) 31
 
 abbrev smallAt : ℕ → ℕ → Bool
 smallAt w k = isSmall (w / 2 ^ (k * 5) % 32)
@@ -406,13 +406,13 @@ above-right t k a (row k′ lo hi ∷ r ∷ rs) y e h =
     lt-leb a t (omega arith) ∙ sym (above-false k a (row k′ lo hi ∷ r ∷ rs) v h)
 
 range-right : (c k a : ℕ) (rs : List Row) → AreKind k rs → isRange c k rs ≡ true
-    → cond (ltb a 32) (eqb (getD smalls c 0 / 2 ^ a % 2) 1) (leb a (getD tops c 0)) ≡ fits k a rs
-range-right c k a rs y t = go (ltb a 32) refl (and-true (allFrom 32 0 (bitIs (getD smalls c 0) k rs)) (aboveIs (getD tops c 0) rs) t)
+    → cond (ltb a 32) (eqb (getD smalls c 1 / 2 ^ a % 2) 1) (leb a (getD tops c 1)) ≡ fits k a rs
+range-right c k a rs y t = go (ltb a 32) refl (and-true (allFrom 32 0 (bitIs (getD smalls c 1) k rs)) (aboveIs (getD tops c 1) rs) t)
   where
-    go : (x : Bool) → ltb a 32 ≡ x → (allFrom 32 0 (bitIs (getD smalls c 0) k rs) ≡ true) × (aboveIs (getD tops c 0) rs ≡ true)
-        → cond x (eqb (getD smalls c 0 / 2 ^ a % 2) 1) (leb a (getD tops c 0)) ≡ fits k a rs
-    go true q (u, v) = same-true _ _ (all-at 32 0 (bitIs (getD smalls c 0) k rs) u a (omega arith) (let h : a < 32 = ltb-true a 32 q in omega arith))
-    go false q (u, v) = above-right (getD tops c 0) k a rs y v (let h : 32 ≤ a = ltb-false a 32 q in omega arith)
+    go : (x : Bool) → ltb a 32 ≡ x → (allFrom 32 0 (bitIs (getD smalls c 1) k rs) ≡ true) × (aboveIs (getD tops c 1) rs ≡ true)
+        → cond x (eqb (getD smalls c 1 / 2 ^ a % 2) 1) (leb a (getD tops c 1)) ≡ fits k a rs
+    go true q (u, v) = same-true _ _ (all-at 32 0 (bitIs (getD smalls c 1) k rs) u a (omega arith) (let h : a < 32 = ltb-true a 32 q in omega arith))
+    go false q (u, v) = above-right (getD tops c 1) k a rs y v (let h : 32 ≤ a = ltb-false a 32 q in omega arith)
 
 pub fits-right : (i k a : ℕ) → IsSlot i → k ≤ 9 → fitsCode i k a ≡ fits k a (rule (slotOf i) .rows)
 unfolding fitsCode rangeOf smallOf topOf
@@ -506,8 +506,8 @@ unfolding fitsCode rangeOf smallOf topOf
 fits-small i k a g t e = go (ltb a 32) refl (and-true _ _ t) (rw (le-ltb 9 k g) at e)
   where
     go : (x : Bool) → ltb a 32 ≡ x
-        → (allFrom 10 22 (clear (getD smalls (wordOf i / 2 ^ (k * 5) % 32) 0)) ≡ true) × (leb (getD tops (wordOf i / 2 ^ (k * 5) % 32) 0) 31 ≡ true)
-        → cond x (eqb (getD smalls (wordOf i / 2 ^ (k * 5) % 32) 0 / 2 ^ a % 2) 1) (leb a (getD tops (wordOf i / 2 ^ (k * 5) % 32) 0)) ≡ true → a ≤ 21
+        → (allFrom 10 22 (clear (getD smalls (wordOf i / 2 ^ (k * 5) % 32) 1)) ≡ true) × (leb (getD tops (wordOf i / 2 ^ (k * 5) % 32) 1) 31 ≡ true)
+        → cond x (eqb (getD smalls (wordOf i / 2 ^ (k * 5) % 32) 1 / 2 ^ a % 2) 1) (leb a (getD tops (wordOf i / 2 ^ (k * 5) % 32) 1)) ≡ true → a ≤ 21
     go true q (u, v) p = low (ltb a 22) refl
       where
         low : (y : Bool) → ltb a 22 ≡ y → a ≤ 21
@@ -515,13 +515,13 @@ fits-small i k a g t e = go (ltb a 32) refl (and-true _ _ t) (rw (le-ltb 9 k g) 
         low false r =
             let h : a < 32 = ltb-true a 32 q in
             let m : 22 ≤ a = ltb-false a 22 r in
-            let z : getD smalls (wordOf i / 2 ^ (k * 5) % 32) 0 / 2 ^ a % 2 ≡ 0 = eqb-true (getD smalls (wordOf i / 2 ^ (k * 5) % 32) 0 / 2 ^ a % 2) 0 (all-at 10 22 (clear (getD smalls (wordOf i / 2 ^ (k * 5) % 32) 0)) u a m (omega arith)) in
-            let o : getD smalls (wordOf i / 2 ^ (k * 5) % 32) 0 / 2 ^ a % 2 ≡ 1 = eqb-true (getD smalls (wordOf i / 2 ^ (k * 5) % 32) 0 / 2 ^ a % 2) 1 p in
+            let z : getD smalls (wordOf i / 2 ^ (k * 5) % 32) 1 / 2 ^ a % 2 ≡ 0 = eqb-true (getD smalls (wordOf i / 2 ^ (k * 5) % 32) 1 / 2 ^ a % 2) 0 (all-at 10 22 (clear (getD smalls (wordOf i / 2 ^ (k * 5) % 32) 1)) u a m (omega arith)) in
+            let o : getD smalls (wordOf i / 2 ^ (k * 5) % 32) 1 / 2 ^ a % 2 ≡ 1 = eqb-true (getD smalls (wordOf i / 2 ^ (k * 5) % 32) 1 / 2 ^ a % 2) 1 p in
             absurd (omega arith)
     go false q (u, v) p =
         let h : 32 ≤ a = ltb-false a 32 q in
-        let m : a ≤ getD tops (wordOf i / 2 ^ (k * 5) % 32) 0 = leb-true a _ p in
-        let o : getD tops (wordOf i / 2 ^ (k * 5) % 32) 0 ≤ 31 = leb-true _ 31 v in
+        let m : a ≤ getD tops (wordOf i / 2 ^ (k * 5) % 32) 1 = leb-true a _ p in
+        let o : getD tops (wordOf i / 2 ^ (k * 5) % 32) 1 ≤ 31 = leb-true _ 31 v in
         absurd (omega arith)
 
 pub next-right : (i k a n : ℕ) → IsSlot i → k ≤ 9 → fitsCode i k a ≡ true → Stands (nextCode i a n) (rule (slotOf i) .next a n)

@@ -86,15 +86,19 @@ module _ (i k a : ℕ) where
   unfolding insideCode
   array-inside e p q = q ∙ rw (p, eq-eqb k 4 e)
 
-  pub map-inside : (k ≡ 4 → ⊥) → k ≡ 5 → {w : ℕ} → w ≡ insideOf i → {r : Next} → r ≡ inMapCode w a → r ≡ insideCode i k a
+  pub map-inside : 4 ≤ k → k ≤ 5 → (k ≡ 4 → ⊥) → {w : ℕ} → w ≡ insideOf i → {r : Next} → r ≡ inMapCode w a → r ≡ insideCode i k a
   unfolding insideCode
-  map-inside n e p q = q ∙ rw (p, ne-eqb k 4 n, eq-eqb k 5 e)
+  map-inside h g n p q = q ∙ rw (p, ne-eqb k 4 n, eq-eqb k 5 (omega arith))
 
-  pub none-inside : (k ≡ 4 → ⊥) → (k ≡ 5 → ⊥) → Done ≡ insideCode i k a
+  pub below-containers : k < 4 → Done ≡ insideCode i k a
   unfolding insideCode
-  none-inside n m = rw (ne-eqb k 4 n, ne-eqb k 5 m)
+  below-containers h = rw (ne-eqb k 4 (λ e. omega arith), ne-eqb k 5 (λ e. omega arith))
 
-pub ruleset inside-ways = (array-inside, map-inside, none-inside)
+  pub above-containers : 5 < k → Done ≡ insideCode i k a
+  unfolding insideCode
+  above-containers h = rw (ne-eqb k 4 (λ e. omega arith), ne-eqb k 5 (λ e. omega arith))
+
+pub ruleset inside-ways = (array-inside, map-inside, below-containers, above-containers)
 
 module _ (a : ℕ) where
   pub space-only : a ≡ 1 → Due 9 0 ≡ inReferenceCode a

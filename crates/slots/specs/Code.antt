@@ -84,6 +84,7 @@ abbrev pub smalls : List ℕ
 smalls =
     0x00000000 ∷ 0xffffffff ∷ 0xffffffff ∷ 0xffffffff ∷ 0xffffffff ∷ 0xffffffff ∷ 0x00f00000 ∷ 0x00300000 ∷ 0x00400000
     ∷ 0x0000001e ∷ 0x00000004 ∷ 0x00000018 ∷ 0xfffffffe ∷ 0xfffffffc ∷ 0x0036bff7 ∷ 0x00300000 ∷ 0x0006bff7 ∷ 0x0006fff7
+    ∷ 0 ∷ 0 ∷ 0 ∷ 0 ∷ 0 ∷ 0 ∷ 0 ∷ 0 ∷ 0 ∷ 0 ∷ 0 ∷ 0 ∷ 0 ∷ 0
     ∷ []
 
 abbrev pub tops : List ℕ
@@ -91,13 +92,14 @@ tops =
     0x0 ∷ 0xffffffffffffffff ∷ 0x7fffffffffffffff ∷ 0xff ∷ 0x7fffffff ∷ 0xffffffff
     ∷ 0x0 ∷ 0x0 ∷ 0x0 ∷ 0x0 ∷ 0x0 ∷ 0x0
     ∷ 0xffffffffffffffff ∷ 0xffffffffffffffff ∷ 0x0 ∷ 0x0 ∷ 0x0 ∷ 0x0
+    ∷ 0 ∷ 0 ∷ 0 ∷ 0 ∷ 0 ∷ 0 ∷ 0 ∷ 0 ∷ 0 ∷ 0 ∷ 0 ∷ 0 ∷ 0 ∷ 0
     ∷ []
 
 unfoldable pub smallOf : ℕ → ℕ
-smallOf c = getD smalls c 0
+smallOf c = getD smalls c 1
 
 unfoldable pub topOf : ℕ → ℕ
-topOf c = getD tops c 0
+topOf c = getD tops c 1
 
 -- bits of a word
 abbrev pub field : ℕ → ℕ → ℕ → ℕ

@@ -8,6 +8,5 @@ pub is-empty-spec : {M : Type 1} → statement M
 is-empty-spec =
     tie.close
     (tie.spec
-    (λ c κs. search needs)
     (λ c. search (owns, needs))
     (λ c. search (owns, needs)))

@@ -8,7 +8,6 @@ pub is-not-greater-spec : {M : Type 1} → statement M
 is-not-greater-spec =
     tie.close
     (tie.spec
-    (λ c κs. search needs)
     (λ c. search needs)
     (λ c. search needs)
     (λ c. search needs)

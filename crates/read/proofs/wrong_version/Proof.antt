@@ -8,6 +8,5 @@ pub wrong-version-spec : {M : Type 1} → statement M
 wrong-version-spec =
     tie.close
     (tie.spec
-    (λ c κs. search needs)
     (λ c. search (owns, needs))
     (λ c. search (owns, needs)))

@@ -8,9 +8,10 @@ pub inside-spec : {M : Type 1} → statement M
 inside-spec =
     tie.close
     (tie.spec
+    (λ c. search (inside-ways, needs))
+    (λ c. search (inside-ways, needs))
     (λ c κs. search needs)
     (λ c κs. search needs)
     (λ c. search (inside-ways, needs))
     (λ c κs. search needs)
-    (λ c. search (inside-ways, needs))
     (λ c. search (inside-ways, needs)))
