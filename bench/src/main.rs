@@ -1,19 +1,89 @@
-//! Times of the message check, all taken in one run: for each case the rounds
-//! of all checks take turns, so that noise hits them alike, and the best
-//! round counts. Buffers are filled before, and only read.
+//! Times of the archive's calls beside the plain reading's, all taken in one run:
+//! for each case the rounds of all that is timed take turns, so that noise hits
+//! them alike, and the best round counts. Buffers are filled before, and rooms
+//! for answers are lent again and again without being cleared.
 
 use std::hint::black_box;
 use std::time::Instant;
 
-use reading::archive::{self, packed};
+use reading::archive::{self, packed, packed_release, packed_written};
 use reading::generate::{self, Random, Settings};
 use reading::vectors::hex;
-use reading::{check_message, items_message, Answer};
+use reading::{check_message, check_single, Answer, Row, LIMITS};
 
 const ROUNDS: usize = 25;
 
-/// What each round of one check takes, about.
+/// What each round of one run takes, about.
 const ROUND_NS: f64 = 2e6;
+
+/// Something to be timed, pass by pass.
+struct Run<'a> {
+    name: &'static str,
+    calls_a_pass: usize,
+    pass: Box<dyn FnMut() + 'a>,
+}
+
+impl<'a> Run<'a> {
+    /// Calls `f` with each input in turn.
+    fn new(
+        name: &'static str,
+        inputs: &'a [Vec<u8>],
+        mut f: impl FnMut(&[u8]) -> u64 + 'a,
+    ) -> Run<'a> {
+        let pass = move || {
+            for input in inputs {
+                black_box(f(black_box(input)));
+            }
+        };
+        Run { name, calls_a_pass: inputs.len(), pass: Box::new(pass) }
+    }
+
+    /// Nanoseconds a call.
+    fn time(&mut self, passes: usize) -> f64 {
+        let start = Instant::now();
+        for _ in 0..passes {
+            (self.pass)();
+        }
+        start.elapsed().as_nanos() as f64 / (passes * self.calls_a_pass) as f64
+    }
+}
+
+/// The best times of some runs, by name.
+struct Best(Vec<(&'static str, f64)>);
+
+impl Best {
+    fn of(mut runs: Vec<Run>) -> Best {
+        let passes: Vec<usize> = runs
+            .iter_mut()
+            .map(|run| {
+                let once = run.time(1).min(run.time(1)) * run.calls_a_pass as f64;
+                (ROUND_NS / once).ceil() as usize
+            })
+            .collect();
+        let mut best: Vec<_> = runs.iter().map(|run| (run.name, f64::INFINITY)).collect();
+        for _ in 0..ROUNDS {
+            for (k, run) in runs.iter_mut().enumerate() {
+                best[k].1 = best[k].1.min(run.time(passes[k]));
+            }
+        }
+        Best(best)
+    }
+
+    fn get(&self, wanted: &str) -> Option<f64> {
+        self.0.iter().find(|(name, _)| *name == wanted).map(|(_, ns)| *ns)
+    }
+
+    fn ns(&self, wanted: &str) -> String {
+        self.get(wanted).map_or("-".to_string(), |ns| format!("{ns:.1}"))
+    }
+
+    fn ratio(&self, one: &str, two: &str) -> String {
+        match (self.get(one), self.get(two)) {
+            (Some(one), Some(two)) => format!("{:.2}", one / two),
+            _ => "-".to_string(),
+        }
+    }
+}
 
 #[cfg(libcbor)]
 fn libcbor(input: &[u8]) -> u64 {
@@ -24,53 +94,64 @@ fn libcbor(input: &[u8]) -> u64 {
     unsafe { libcbor_load(input.as_ptr(), input.len()) as u64 }
 }
 
-fn reading_check(input: &[u8]) -> u64 {
-    packed(check_message(input))
+/// Different inputs with that many bytes and items, all accepted.
+fn varied(
+    count: usize,
+    seed: u64,
+    bytes: std::ops::RangeInclusive<usize>,
+    items: std::ops::RangeInclusive<usize>,
+    check: fn(&[u8]) -> Answer,
+    make: impl Fn(&mut Random) -> Vec<u8>,
+) -> Vec<Vec<u8>> {
+    let mut random = Random::new(seed);
+    let mut inputs = Vec::new();
+    while inputs.len() < count {
+        let input = make(&mut random);
+        if let Answer::Accepted(n) = check(&input) {
+            if bytes.contains(&input.len()) && items.contains(&n) && !inputs.contains(&input) {
+                inputs.push(input);
+            }
+        }
+    }
+    inputs
 }
 
-struct Case {
+/// Messages, or lists, that fill both limits nearly.
+fn large_settings(random: &mut Random) -> Settings {
+    Settings {
+        items: 1_010,
+        bytes: 4_096,
+        containers: 12,
+        nesting: 50,
+        string: random.pick(&[6, 7, 8, 9]),
+        small_numbers: random.chance(70),
+        floats: true,
+        few_namespaces: false,
+    }
+}
+
+fn mean(inputs: &[Vec<u8>], f: impl Fn(&[u8]) -> usize) -> usize {
+    inputs.iter().map(|input| f(input)).sum::<usize>() / inputs.len()
+}
+
+fn items(answer: Answer) -> usize {
+    match answer {
+        Answer::Accepted(items) => items,
+        Answer::Refused { .. } => panic!("refused"),
+    }
+}
+
+const C: &str = "01 82 14 82 f6 84 1a00010000 22 00 81 83 33 2a 05";
+
+struct Check {
     name: &'static str,
     messages: Vec<Vec<u8>>,
     /// A string within the only message, for the standard library's check.
     string: Option<Vec<u8>>,
 }
 
-/// Nanoseconds a call, over `passes` passes over all inputs.
-fn time(f: fn(&[u8]) -> u64, inputs: &[Vec<u8>], passes: usize) -> f64 {
-    let start = Instant::now();
-    for _ in 0..passes {
-        for input in inputs {
-            black_box(f(black_box(input)));
-        }
-    }
-    start.elapsed().as_nanos() as f64 / (passes * inputs.len()) as f64
-}
-
-/// Different messages with that many bytes and items, all accepted.
-fn varied(
-    count: usize,
-    seed: u64,
-    bytes: std::ops::RangeInclusive<usize>,
-    items: std::ops::RangeInclusive<usize>,
-    make: impl Fn(&mut Random) -> Vec<u8>,
-) -> Vec<Vec<u8>> {
-    let mut random = Random::new(seed);
-    let mut messages = Vec::new();
-    while messages.len() < count {
-        let message = make(&mut random);
-        if let Answer::Accepted(n) = check_message(&message) {
-            if bytes.contains(&message.len()) && items.contains(&n) && !messages.contains(&message)
-            {
-                messages.push(message);
-            }
-        }
-    }
-    messages
-}
-
-fn cases() -> Vec<Case> {
-    let c = hex("01 82 14 82 f6 84 1a00010000 22 00 81 83 33 2a 05");
-    let small = varied(2_000, 1, 16..=20, 12..=16, |random| {
+fn checks(large: &[Vec<u8>]) -> Vec<Check> {
+    let small = varied(2_000, 1, 16..=20, 12..=16, check_message, |random| {
         let settings = Settings {
             items: 20,
             bytes: 40,
@@ -78,51 +159,114 @@ fn cases() -> Vec<Case> {
             nesting: 50,
             string: 2,
             small_numbers: true,
+            floats: true,
+            few_namespaces: false,
         };
         generate::message(random, settings)
-    });
-    let large = varied(500, 2, 4_096..=4_096, 980..=1_024, |random| {
-        let settings = Settings {
-            items: 1_010,
-            bytes: 4_096,
-            containers: 12,
-            nesting: 50,
-            string: random.pick(&[6, 7, 8, 9]),
-            small_numbers: random.chance(70),
-        };
-        generate::full_message(random, settings, 4_096)
     });
     let mut note = hex("01 82 15 83 f6 00 83 00 83 f6 20 00 79 0fa0");
     let string: Vec<u8> = (0..4_000).map(|k| b' ' + (k % 95) as u8).collect();
     note.extend(&string);
 
-    let case = |name, messages| Case { name, messages, string: None };
+    let check = |name, messages| Check { name, messages, string: None };
     vec![
-        case("a  message C, repeated", vec![c]),
-        case("a  2,000 like it", small),
-        case("b  4,096 bytes, repeated", large[..1].to_vec()),
-        case("b  500 like it", large),
-        Case { string: Some(string), ..case("c  4,000 bytes of ASCII", vec![note]) },
+        check("a  message C, repeated", vec![hex(C)]),
+        check("a  2,000 like it", small),
+        check("b  4,096 bytes, repeated", large[..1].to_vec()),
+        check("b  500 like it", large.to_vec()),
+        Check { string: Some(string), ..check("c  4,000 bytes of ASCII", vec![note]) },
     ]
 }
 
-fn main() {
-    let mut checks: Vec<(&str, fn(&[u8]) -> u64)> = vec![("reading", reading_check)];
-    if archive::LINKED {
-        checks.insert(0, ("archive", archive::check_message));
-    } else {
-        println!("archive: skipped, not there when this was built");
+/// The message check, beside libcbor and the standard library's UTF-8 check too.
+fn time_check(Check { name, messages, string }: Check) {
+    let linked = archive::has("surfbodkin_check_message");
+    let reading = |message: &[u8]| packed(check_message(message));
+    for message in &messages {
+        assert!(!linked || archive::check_message(message) == reading(message));
+        #[cfg(libcbor)]
+        assert!(libcbor(message) > 0);
+    }
+    let string = string.map(|string| vec![string]);
+    let mut runs = vec![Run::new("reading", &messages, reading)];
+    if linked {
+        runs.push(Run::new("archive", &messages, archive::check_message));
     }
     #[cfg(libcbor)]
-    checks.push(("libcbor", libcbor));
+    runs.push(Run::new("libcbor", &messages, libcbor));
+    if let Some(string) = &string {
+        let from_utf8 = |string: &[u8]| u64::from(std::str::from_utf8(string).is_ok());
+        runs.push(Run::new("from_utf8", string, from_utf8));
+    }
+    let best = Best::of(runs);
+    println!(
+        "{name:<25}{:>7}{:>7}{:>10}{:>10}{:>10}{:>10}   {:>8}{:>9}{:>10}",
+        mean(&messages, <[u8]>::len),
+        mean(&messages, |message| items(check_message(message))),
+        best.ns("archive"),
+        best.ns("reading"),
+        best.ns("libcbor"),
+        best.ns("from_utf8"),
+        best.ratio("archive", "reading"),
+        best.ratio("libcbor", "archive"),
+        best.ratio("archive", "from_utf8"),
+    );
+}
+
+/// A call that both have, as it is called on one input with room for its answer.
+struct Call<'a> {
+    function: &'static str,
+    archive: &'a dyn Fn(&[u8], &mut [u8]) -> u64,
+    reading: &'a dyn Fn(&[u8], &mut [u8]) -> u64,
+}
+
+/// Any other call, beside the reading. The column `answer` has the entries or
+/// bytes that it writes.
+fn time_call(name: &str, call: &Call, inputs: &[Vec<u8>]) {
+    let linked = archive::has(call.function);
+    let [mut room, mut other_room] = [(); 2].map(|()| vec![0; LIMITS.text]);
+    let mut answers = 0;
+    for input in inputs {
+        let answer = (call.reading)(input, &mut room);
+        assert_eq!(answer >> 56, 0, "refused or held");
+        answers += answer as u32 as usize;
+        assert!(!linked || (call.archive)(input, &mut other_room) == answer);
+        assert!(!linked || room == other_room);
+    }
+    let mut runs =
+        vec![Run::new("reading", inputs, |input| (call.reading)(input, &mut other_room))];
+    if linked {
+        runs.push(Run::new("archive", inputs, |input| (call.archive)(input, &mut room)));
+    }
+    let best = Best::of(runs);
+    println!(
+        "{name:<36}{:>7}{:>8}{:>10}{:>10}   {:>8}",
+        mean(inputs, <[u8]>::len),
+        answers / inputs.len(),
+        best.ns("archive"),
+        best.ns("reading"),
+        best.ratio("archive", "reading"),
+    );
+}
+
+fn main() {
+    let missing: Vec<&str> =
+        archive::FUNCTIONS.iter().filter(|(_, there)| !there).map(|(name, _)| *name).collect();
+    if !missing.is_empty() {
+        println!("archive: skipped, not there when this was built: {}", missing.join(", "));
+    }
     if !cfg!(libcbor) {
         println!("libcbor: skipped, not installed");
     }
+    println!("ns a call, best of {ROUNDS} rounds taken in turns");
 
-    println!("ns a message, best of {ROUNDS} rounds taken in turns");
+    let large = varied(500, 2, 4_096..=4_096, 980..=1_024, check_message, |random| {
+        let settings = large_settings(random);
+        generate::full_message(random, settings, 4_096)
+    });
     println!(
         "{:<25}{:>7}{:>7}{:>10}{:>10}{:>10}{:>10}   {:>8}{:>9}{:>10}",
-        "",
+        "message check",
         "bytes",
         "items",
         "archive",
@@ -133,54 +277,61 @@ fn main() {
         "cbor/arc",
         "arc/utf8"
     );
-    for Case { name, messages, string } in cases() {
-        for message in &messages {
-            let expected = reading_check(message);
-            assert!(!archive::LINKED || archive::check_message(message) == expected);
-            #[cfg(libcbor)]
-            assert!(libcbor(message) > 0);
-        }
-        let count = messages.len();
-        let bytes = messages.iter().map(Vec::len).sum::<usize>() / count;
-        let items = messages.iter().map(|m| items_message(m).unwrap().len()).sum::<usize>() / count;
+    checks(&large).into_iter().for_each(time_check);
 
-        // Each check with what it is given: messages, or the string alone.
-        let string = string.map(|string| vec![string]);
-        let mut runs: Vec<(&str, fn(&[u8]) -> u64, &[Vec<u8>])> =
-            checks.iter().map(|&(name, f)| (name, f, messages.as_slice())).collect();
-        if let Some(string) = &string {
-            let from_utf8 = |string: &[u8]| u64::from(std::str::from_utf8(string).is_ok());
-            runs.push(("from_utf8", from_utf8, string));
-        }
-        let passes: Vec<usize> = runs
-            .iter()
-            .map(|(_, f, inputs)| {
-                let once = time(*f, inputs, 1).min(time(*f, inputs, 1)) * inputs.len() as f64;
-                (ROUND_NS / once).ceil() as usize
-            })
-            .collect();
-        let mut best = vec![f64::INFINITY; runs.len()];
-        for _ in 0..ROUNDS {
-            for (k, (_, f, inputs)) in runs.iter().enumerate() {
-                best[k] = best[k].min(time(*f, inputs, passes[k]));
-            }
-        }
+    println!(
+        "{:<36}{:>7}{:>8}{:>10}{:>10}   {:>8}",
+        "other calls", "bytes", "answer", "archive", "reading", "arc/read"
+    );
+    let c = [hex(C)];
+    let list = Call {
+        function: "surfbodkin_list",
+        archive: &archive::list,
+        reading: &|message, room| packed_written(reading::list(message, room)),
+    };
+    time_call("d  listing, message C", &list, &c);
+    time_call("d  listing, 4,096 bytes, repeated", &list, &large[..1]);
+    time_call("d  listing, 500 like it", &list, &large);
 
-        let of = |wanted: &str| runs.iter().position(|run| run.0 == wanted).map(|k| best[k]);
-        let ns = |wanted| of(wanted).map_or("-".to_string(), |ns| format!("{ns:.1}"));
-        let ratio = |one, two| match (of(one), of(two)) {
-            (Some(one), Some(two)) => format!("{:.2}", one / two),
-            _ => "-".to_string(),
-        };
-        println!(
-            "{name:<25}{bytes:>7}{items:>7}{:>10}{:>10}{:>10}{:>10}   {:>8}{:>9}{:>10}",
-            ns("archive"),
-            ns("reading"),
-            ns("libcbor"),
-            ns("from_utf8"),
-            ratio("archive", "reading"),
-            ratio("libcbor", "archive"),
-            ratio("archive", "from_utf8"),
-        );
-    }
+    // All numbers are granted by the table's last rows.
+    let few = varied(500, 3, 4_096..=4_096, 980..=1_024, check_message, |random| {
+        let settings = Settings { few_namespaces: true, ..large_settings(random) };
+        generate::full_message(random, settings, 4_096)
+    });
+    let others = 500 - generate::NAMESPACES.len() as i64;
+    let rows = (0..others).map(|k| Row { subscriber: 8, namespace: 1_000 + k });
+    let own = generate::NAMESPACES.map(|namespace| Row { subscriber: 7, namespace });
+    let table = reading::table_bytes(&rows.chain(own).collect::<Vec<_>>());
+    let release = Call {
+        function: "surfbodkin_release",
+        archive: &|message, _| archive::release(message, &table, 7),
+        reading: &|message, _| packed_release(reading::release(message, &table, 7)),
+    };
+    time_call("e  release, 500 rows, message C", &release, &c);
+    time_call("e  release, 500 rows, 4,096 bytes", &release, &few[..1]);
+    time_call("e  release, 500 rows, 500 like it", &release, &few);
+
+    let target = [c[0][5..].to_vec()];
+    let aris = varied(500, 4, 4_096..=4_096, 980..=1_024, check_single, |random| {
+        let settings = Settings { floats: false, ..large_settings(random) };
+        generate::full_list(random, settings, 4_096)
+    });
+    let text = |ari: &Vec<u8>| reading::text_of(ari, &LIMITS).unwrap().0.into_bytes();
+    let write = Call {
+        function: "surfbodkin_write_text",
+        archive: &archive::write_text,
+        reading: &|ari, room| packed_written(reading::write_text(ari, room)),
+    };
+    time_call("f  text of C's target", &write, &target);
+    time_call("f  text of 4,096 bytes, repeated", &write, &aris[..1]);
+    time_call("f  text of 500 like it", &write, &aris);
+    let read = Call {
+        function: "surfbodkin_read_text",
+        archive: &archive::read_text,
+        reading: &|text, room| packed_written(reading::read_text(text, room)),
+    };
+    let texts: Vec<Vec<u8>> = aris.iter().map(text).collect();
+    time_call("g  C's target from its text", &read, &target.each_ref().map(text));
+    time_call("g  4,096 bytes from text, repeated", &read, &texts[..1]);
+    time_call("g  500 like it", &read, &texts);
 }

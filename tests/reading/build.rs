@@ -1,14 +1,37 @@
 //! Links the gate's C archive where it has been built: the file named by
 //! SURFBODKIN_ARCHIVE, or target/staticlib/libsurfbodkin.a in the repository's
-//! root. Without it everything builds all the same, and says so when run.
+//! root. Each function that it has is told to the crate by a cfg, so that what is
+//! missing (all, without an archive) still builds, and is said when run.
 
 use std::env;
-use std::path::PathBuf;
+use std::path::{Path, PathBuf};
+use std::process::Command;
+
+const FUNCTIONS: [&str; 7] =
+    ["check_single", "check_message", "list", "check_table", "release", "write_text", "read_text"];
+
+/// The functions that the archive defines, as nm names them.
+fn defined(archive: &Path) -> Vec<&'static str> {
+    let nm = env::var("NM").unwrap_or("nm".to_string());
+    let output = Command::new(&nm)
+        .args(["-g", "--defined-only"])
+        .arg(archive)
+        .output()
+        .unwrap_or_else(|error| panic!("cannot run {nm}: {error}"));
+    assert!(output.status.success(), "{nm} cannot read {}", archive.display());
+    let symbols = String::from_utf8_lossy(&output.stdout);
+    let symbols: Vec<&str> = symbols
+        .lines()
+        .filter_map(|line| line.rsplit(' ').next()?.strip_prefix("surfbodkin_"))
+        .collect();
+    FUNCTIONS.into_iter().filter(|function| symbols.contains(function)).collect()
+}
 
 fn main() {
-    println!("cargo::rustc-check-cfg=cfg(surfbodkin_archive)");
+    println!("cargo::rustc-check-cfg=cfg(archive_has, values(\"{}\"))", FUNCTIONS.join("\", \""));
     println!("cargo::rerun-if-changed=build.rs");
     println!("cargo::rerun-if-env-changed=SURFBODKIN_ARCHIVE");
+    println!("cargo::rerun-if-env-changed=NM");
 
     let package = PathBuf::from(env::var("CARGO_MANIFEST_DIR").unwrap());
     let mut archive = match env::var_os("SURFBODKIN_ARCHIVE") {
@@ -27,5 +50,7 @@ fn main() {
     let name = archive.file_stem().unwrap().to_str().unwrap();
     println!("cargo::rustc-link-search=native={folder}");
     println!("cargo::rustc-link-lib=static={}", name.trim_start_matches("lib"));
-    println!("cargo::rustc-cfg=surfbodkin_archive");
+    for function in defined(&archive) {
+        println!("cargo::rustc-cfg=archive_has=\"{function}\"");
+    }
 }

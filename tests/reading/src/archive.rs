@@ -1,41 +1,105 @@
-//! The gate's C archive, if it was there when this was built (see build.rs).
-//! Each answer is one `u64`; [`packed`] gives the number that stands for the
-//! reading's answer.
+//! The gate's C archive, as far as it was there when this was built (see
+//! build.rs). Each answer is one `u64`; [`packed`] and its kin give the numbers
+//! that stand for the reading's answers.
 
-use crate::Answer;
+use crate::{Answer, Refusal, Release, Written};
 
-/// Whether the archive is linked; if not, the calls below panic.
-pub const LINKED: bool = cfg!(surfbodkin_archive);
+/// Declares the functions that the archive has, and puts one that panics in the
+/// place of each other.
+macro_rules! functions {
+    ($($flag:literal $name:ident($($argument:ident: $kind:ty),*);)*) => {
+        mod functions {
+            extern "C" {
+                $(#[cfg(archive_has = $flag)] pub fn $name($($argument: $kind),*) -> u64;)*
+            }
+            $(
+                #[cfg(not(archive_has = $flag))]
+                pub unsafe fn $name($(_: $kind),*) -> u64 {
+                    panic!(concat!("built without ", stringify!($name)))
+                }
+            )*
+        }
 
-#[cfg(surfbodkin_archive)]
-mod calls {
-    extern "C" {
-        pub fn surfbodkin_check_single(input: *const u8, length: usize) -> u64;
-        pub fn surfbodkin_check_message(input: *const u8, length: usize) -> u64;
-    }
+        /// Each function's name, and whether the archive has it.
+        pub const FUNCTIONS: &[(&str, bool)] =
+            &[$((stringify!($name), cfg!(archive_has = $flag))),*];
+    };
 }
 
-#[cfg(not(surfbodkin_archive))]
-mod calls {
-    pub unsafe fn surfbodkin_check_single(_: *const u8, _: usize) -> u64 {
-        panic!("built without the archive")
-    }
-    pub unsafe fn surfbodkin_check_message(_: *const u8, _: usize) -> u64 {
-        panic!("built without the archive")
-    }
+functions! {
+    "check_single" surfbodkin_check_single(input: *const u8, length: usize);
+    "check_message" surfbodkin_check_message(input: *const u8, length: usize);
+    "list" surfbodkin_list(message: *const u8, length: usize, out: *mut u8, out_length: usize);
+    "check_table" surfbodkin_check_table(table: *const u8, table_length: usize);
+    "release" surfbodkin_release(
+        message: *const u8, length: usize, table: *const u8, table_length: usize, subscriber: u64
+    );
+    "write_text" surfbodkin_write_text(
+        ari: *const u8, length: usize, out: *mut u8, out_length: usize
+    );
+    "read_text" surfbodkin_read_text(
+        text: *const u8, length: usize, out: *mut u8, out_length: usize
+    );
 }
+
+/// Whether the archive has a function; if not, its call below panics.
+pub fn has(name: &str) -> bool {
+    FUNCTIONS.contains(&(name, true))
+}
+
+// SAFETY, for each call: the pointers and the lengths are those of slices.
 
 #[inline]
 pub fn check_single(input: &[u8]) -> u64 {
-    // SAFETY: the pointer and the length are those of a slice.
-    unsafe { calls::surfbodkin_check_single(input.as_ptr(), input.len()) }
+    unsafe { functions::surfbodkin_check_single(input.as_ptr(), input.len()) }
 }
 
 #[inline]
 pub fn check_message(input: &[u8]) -> u64 {
-    // SAFETY: as above.
-    unsafe { calls::surfbodkin_check_message(input.as_ptr(), input.len()) }
+    unsafe { functions::surfbodkin_check_message(input.as_ptr(), input.len()) }
 }
+
+#[inline]
+pub fn list(message: &[u8], room: &mut [u8]) -> u64 {
+    unsafe {
+        functions::surfbodkin_list(message.as_ptr(), message.len(), room.as_mut_ptr(), room.len())
+    }
+}
+
+#[inline]
+pub fn check_table(table: &[u8]) -> u64 {
+    unsafe { functions::surfbodkin_check_table(table.as_ptr(), table.len()) }
+}
+
+#[inline]
+pub fn release(message: &[u8], table: &[u8], subscriber: u64) -> u64 {
+    unsafe {
+        functions::surfbodkin_release(
+            message.as_ptr(),
+            message.len(),
+            table.as_ptr(),
+            table.len(),
+            subscriber,
+        )
+    }
+}
+
+#[inline]
+pub fn write_text(ari: &[u8], room: &mut [u8]) -> u64 {
+    unsafe {
+        functions::surfbodkin_write_text(ari.as_ptr(), ari.len(), room.as_mut_ptr(), room.len())
+    }
+}
+
+#[inline]
+pub fn read_text(text: &[u8], room: &mut [u8]) -> u64 {
+    unsafe {
+        functions::surfbodkin_read_text(text.as_ptr(), text.len(), room.as_mut_ptr(), room.len())
+    }
+}
+
+/// The top byte of release's no.
+pub const NO: u64 = 255;
 
 /// A check's answer as the archive gives it: the refusal's number in the top
 /// byte and its place below, or 0 there and the item count from bit 32 on.
@@ -46,10 +110,35 @@ pub fn packed(answer: Answer) -> u64 {
     }
 }
 
+fn refused(refusal: Refusal) -> u64 {
+    packed(Answer::from(Err(refusal)))
+}
+
+/// What was written to lent room has its size in the low half.
+pub fn packed_written(answer: Result<Written, Refusal>) -> u64 {
+    match answer {
+        Ok(Written { items, size }) => packed(Answer::Accepted(items)) | size as u64,
+        Err(refusal) => refused(refusal),
+    }
+}
+
+pub fn packed_table(answer: Result<(), Refusal>) -> u64 {
+    answer.map_or_else(refused, |()| 0)
+}
+
+pub fn packed_release(answer: Result<Release, Refusal>) -> u64 {
+    match answer {
+        Ok(Release::Yes) => 0,
+        Ok(Release::No(entry)) => NO << 56 | entry as u64,
+        Err(refusal) => refused(refusal),
+    }
+}
+
 /// An archive's answer in words.
 pub fn unpacked(answer: u64) -> String {
     match (answer >> 56, answer << 8 >> 8) {
         (0, low) => format!("accepted {} (low half {})", low >> 32, low as u32),
+        (NO, entry) => format!("no {entry}"),
         (number, place) => format!("refused {number} {place}"),
     }
 }

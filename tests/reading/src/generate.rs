@@ -2,6 +2,10 @@
 //! shapes near the limits, damaged ones, and random bytes. Nothing here is
 //! taken for right or wrong; that is for the readers to say.
 
+pub mod tables;
+pub mod texts;
+
+pub use crate::head::{put_head, put_wide_head};
 use crate::{Kind, Record, LIMITS};
 
 /// SplitMix64: small, seeded, the same on every machine.
@@ -46,31 +50,6 @@ impl Random {
     }
 }
 
-/// Appends the shortest head.
-pub fn put_head(out: &mut Vec<u8>, major: u8, argument: u64) {
-    let width = match argument {
-        0..=23 => 0,
-        24..=0xff => 1,
-        0x100..=0xffff => 2,
-        0x1_0000..=0xffff_ffff => 4,
-        _ => 8,
-    };
-    put_wide_head(out, major, argument, width);
-}
-
-/// Appends a head whose argument has 0 (in the first byte), 1, 2, 4 or 8 bytes.
-pub fn put_wide_head(out: &mut Vec<u8>, major: u8, argument: u64, width: usize) {
-    let info = match width {
-        0 => argument as u8 & 31,
-        1 => 24,
-        2 => 25,
-        4 => 26,
-        _ => 27,
-    };
-    out.push(major << 5 | info);
-    out.extend(&argument.to_be_bytes()[8 - width..]);
-}
-
 /// A half holds exactly the numbers of up to 11 significant bits that are
 /// multiples of 2^-24 and at most 65,504.
 fn fits_half(value: f64) -> bool {
@@ -96,7 +75,14 @@ pub struct Settings {
     pub string: usize,
     /// Whether numbers tend to fit one byte.
     pub small_numbers: bool,
+    /// Whether there are floats; an ARI with one has no text.
+    pub floats: bool,
+    /// Whether namespaces are few, and all of them numbers.
+    pub few_namespaces: bool,
 }
+
+/// The namespaces where they are few.
+pub const NAMESPACES: [i64; 8] = [65_536, -20, 0, -1, 65_537, i64::MIN, i64::MAX, -300];
 
 /// Writes ARIs and messages by the grammar.
 struct Writer<'r> {
@@ -200,6 +186,17 @@ impl<'r> Writer<'r> {
         }
     }
 
+    /// A string that takes `left` bytes with its head, or one fewer.
+    fn fill(&mut self, major: u8, left: usize) {
+        let length = match left {
+            0..=24 => left.saturating_sub(1),
+            25..=257 => left - 2,
+            _ => left - 3,
+        };
+        self.head(major, length as u64);
+        self.out.resize(self.out.len() + length, 0x5a);
+    }
+
     fn text(&mut self) {
         let length = self.string_length();
         let mut text = String::new();
@@ -273,7 +270,7 @@ impl<'r> Writer<'r> {
             0..=8 => self.integer(u64::MAX, i64::MAX as u64),
             9..=12 => self.text(),
             13..=14 => self.bytes(),
-            15 => self.float(8),
+            15 if self.settings.floats => self.float(8),
             _ => {
                 let simple = self.random.pick(&[0xf4, 0xf5, 0xf6, 0xf7]);
                 self.simple(simple);
@@ -293,6 +290,13 @@ impl<'r> Writer<'r> {
     }
 
     fn namespace(&mut self, may_be_null: bool) {
+        if self.settings.few_namespaces {
+            let number = self.random.pick(&NAMESPACES);
+            return match number < 0 {
+                true => self.head(1, !number as u64),
+                false => self.head(0, number as u64),
+            };
+        }
         match self.random.below(10) {
             0 if may_be_null => self.simple(0xf6),
             0 | 1 => self.name(false),
@@ -354,7 +358,10 @@ impl<'r> Writer<'r> {
     fn typed(&mut self, in_parameters: bool) {
         const TYPES: [u64; 17] = [0, 1, 2, 4, 5, 6, 7, 8, 9, 10, 11, 12, 13, 14, 15, 17, 18];
         let mut number = self.random.pick(&TYPES);
-        if number == 14 && !in_parameters || number >= 17 && !self.may_open(1) {
+        if number == 14 && !in_parameters
+            || matches!(number, 8 | 9) && !self.settings.floats
+            || number >= 17 && !self.may_open(1)
+        {
             number = 6;
         }
         self.head(0, number);
@@ -437,6 +444,8 @@ pub fn settings(random: &mut Random) -> Settings {
         nesting: random.pick(&[10, 40, 70, 95]),
         string: random.pick(&[3, 10, 30]),
         small_numbers: random.chance(50),
+        floats: true,
+        few_namespaces: false,
     }
 }
 
@@ -469,17 +478,30 @@ pub fn full_message(random: &mut Random, mut settings: Settings, bytes: usize) -
     while writer.has_room() {
         writer.set();
     }
-    // 82 14 81, a byte string's head of 1 to 3 bytes, its bytes
-    let left = bytes.saturating_sub(writer.out.len() + 4);
-    let length = match left {
-        0..=23 => left,
-        24..=256 => left - 1,
-        _ => left - 2,
-    };
     writer.out.extend([0x82, 0x14, 0x81]);
-    writer.head(2, length as u64);
-    writer.out.resize(writer.out.len() + length, 0x5a);
+    let left = bytes.saturating_sub(writer.out.len());
+    writer.fill(2, left);
     writer.out
+}
+
+/// A list of `bytes` bytes or a few fewer: ARIs by the grammar, then a text string
+/// that fills what is left.
+pub fn full_list(random: &mut Random, mut settings: Settings, bytes: usize) -> Vec<u8> {
+    settings.bytes = bytes;
+    let mut writer = Writer::new(random, settings);
+    writer.items = 4;
+    writer.open = 2;
+    let mut count = 1;
+    while writer.has_room() {
+        writer.ari(false);
+        count += 1;
+    }
+    let mut list = vec![0x82, 0x11];
+    put_head(&mut list, 4, count);
+    let left = bytes.saturating_sub(list.len() + writer.out.len());
+    writer.fill(3, left);
+    list.extend(writer.out);
+    list
 }
 
 /// A message whose parameters, lists and maps reach `containers` open

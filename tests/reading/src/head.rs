@@ -1,4 +1,5 @@
-//! 'Heads': one head from the front of some bytes, tests 2 to 4.
+//! 'Heads': one head from the front of some bytes, tests 2 to 4, and one put to
+//! the end of some.
 
 use crate::Test;
 
@@ -134,6 +135,31 @@ fn double_is_shortest(bits: u64) -> bool {
         874..=896 => m % (1 << (926 - e)) != 0,
         _ => true,
     }
+}
+
+/// Appends the shortest head.
+pub fn put_head(out: &mut Vec<u8>, major: u8, argument: u64) {
+    let width = match argument {
+        0..=23 => 0,
+        24..=0xff => 1,
+        0x100..=0xffff => 2,
+        0x1_0000..=0xffff_ffff => 4,
+        _ => 8,
+    };
+    put_wide_head(out, major, argument, width);
+}
+
+/// Appends a head whose argument has 0 (in the first byte), 1, 2, 4 or 8 bytes.
+pub fn put_wide_head(out: &mut Vec<u8>, major: u8, argument: u64, width: usize) {
+    let info = match width {
+        0 => argument as u8 & 31,
+        1 => 24,
+        2 => 25,
+        4 => 26,
+        _ => 27,
+    };
+    out.push(major << 5 | info);
+    out.extend(&argument.to_be_bytes()[8 - width..]);
 }
 
 #[cfg(test)]

@@ -2,15 +2,21 @@
 //!
 //! `check_single` and `check_message` answer with the item count or with the
 //! first refusal (tests 1 to 13); `items_single` and `items_message` give every
-//! item record as well. One recursive-descent walk serves all of them: what it
-//! meets is told to a [`Visitor`], and a check's visitor does nothing.
+//! item record as well; `listing` and `list` give a message's references. One
+//! recursive-descent walk serves all of them: what it meets is told to a
+//! [`Visitor`], and a check's visitor does nothing. `check_table` and `release`
+//! judge by the listing and a grant table, `write_text` and `read_text` go from
+//! a single ARI to its text and back.
 //!
 //! Not part of the reading: [`archive`] calls the gate, [`generate`] makes
 //! inputs for comparisons and times, [`vectors`] holds the fixed inputs,
 //! [`appendix`] RFC 8949's examples.
 
+mod grants;
 mod head;
+mod listing;
 mod spelling;
+mod text;
 mod walk;
 
 pub mod appendix;
@@ -18,22 +24,28 @@ pub mod archive;
 pub mod generate;
 pub mod vectors;
 
+pub use grants::{check_table, release, rows, table_bytes, Release, Row, ROW};
 pub use head::Kind;
+pub use listing::{list, listing, Entry, Listing, Namespace, ENTRY};
 pub use spelling::{is_identifier, is_namespace_name, is_utf8};
+pub use text::{read_text, text_of, write_text};
 pub use walk::{walk_message, walk_single, Visitor};
 
 /// "at most 4,096 bytes, at most 1,024 items (one item is one head), at most
-/// 12 containers (arrays and maps, empty ones counted) open at once".
+/// 12 containers (arrays and maps, empty ones counted) open at once [...]. A
+/// text has at most 32,768 bytes."
 #[derive(Clone, Copy, Debug, PartialEq, Eq)]
 pub struct Limits {
     pub bytes: usize,
     pub items: usize,
     pub containers: usize,
+    pub text: usize,
 }
 
-pub const LIMITS: Limits = Limits { bytes: 4_096, items: 1_024, containers: 12 };
+pub const LIMITS: Limits = Limits { bytes: 4_096, items: 1_024, containers: 12, text: 32_768 };
 
-/// The tests of 'Order of the tests' that a binary input can fail, by number.
+/// The tests of 'Order of the tests', by number. 17 is missing: no call here is
+/// asked for an item by number.
 #[derive(Clone, Copy, Debug, PartialEq, Eq)]
 #[repr(u8)]
 pub enum Test {
@@ -63,13 +75,28 @@ pub enum Test {
     EmptyParameters = 12,
     /// "bytes after a single ARI"
     BytesAfter = 13,
+    /// "accepted, but has no text form"
+    NoText = 14,
+    /// "text that isn't the text of an accepted ARI"
+    NotText = 15,
+    /// "the answer needs more room than lent"
+    Room = 16,
+    /// "grant table"
+    Table = 18,
 }
 
-/// "A refusal is a number with one further number, the place".
+/// "A refusal is a number with one further number, the place"; with tests 16
+/// and 18 that number is a need or a row.
 #[derive(Clone, Copy, Debug, PartialEq, Eq)]
 pub struct Refusal {
     pub test: Test,
     pub place: usize,
+}
+
+impl std::fmt::Display for Refusal {
+    fn fmt(&self, f: &mut std::fmt::Formatter<'_>) -> std::fmt::Result {
+        write!(f, "refused {} {}", self.test as u8, self.place)
+    }
 }
 
 #[derive(Clone, Copy, Debug, PartialEq, Eq)]
@@ -99,6 +126,26 @@ impl std::fmt::Display for Answer {
             Answer::Refused { number, place } => write!(f, "refused {number} {place}"),
         }
     }
+}
+
+/// An answer that was written to lent room.
+#[derive(Clone, Copy, Debug, PartialEq, Eq)]
+pub struct Written {
+    /// "The item count is a number in every acceptance".
+    pub items: usize,
+    /// The answer's size as test 16 counts it: "in bytes, or in entries for a
+    /// listing".
+    pub size: usize,
+}
+
+/// Writes an answer to the front of the room, or nothing at all: "An acceptance
+/// leaves room past its answer unchanged", and 16 is given with the size.
+fn hand_over(answer: &[u8], written: Written, room: &mut [u8]) -> Result<Written, Refusal> {
+    let Some(front) = room.get_mut(..answer.len()) else {
+        return Err(Refusal { test: Test::Room, place: written.size });
+    };
+    front.copy_from_slice(answer);
+    Ok(written)
 }
 
 /// "Asked for item k, the gate gives a record".

@@ -97,7 +97,8 @@ fn examples_of_document_004() {
 fn limits_are_arguments() {
     let input = hex("82 11 82 81 00 f6");
     let within = |bytes, items, containers| {
-        Answer::from(walk_single(&input, &Limits { bytes, items, containers }, &mut ())).to_string()
+        let limits = Limits { bytes, items, containers, ..LIMITS };
+        Answer::from(walk_single(&input, &limits, &mut ())).to_string()
     };
     assert_eq!(within(6, 6, 3), "accepted 6");
     assert_eq!(within(5, 6, 3), "refused 1 0");

@@ -1,143 +1,377 @@
-//! Compares the archive's answers with the reading's on inputs from the
-//! grammar, near the limits, damaged and random.
+//! Compares the archive's answers, and what it leaves in lent memory, with the
+//! reading's: on inputs from the grammar, near the limits, damaged and random,
+//! with tables that grant most of what is named, and rooms from none to enough.
 //!
-//! `agree [--count N] [--seed S]`: N inputs in all (200,000); the seed is taken
-//! from the clock unless given, and printed.
+//! `agree [--count N] [--seed S]`: N inputs in all (200,000), for each function
+//! that the archive has the same number; the seed is taken from the clock unless
+//! given, and printed.
 
 use std::process::ExitCode;
 use std::time::{Instant, SystemTime, UNIX_EPOCH};
 
-use reading::archive::{self, packed, unpacked};
-use reading::generate::{self, Random};
+use reading::archive::{self, packed, packed_release, packed_table, packed_written, unpacked};
+use reading::generate::{self, tables, texts, Random, Settings};
 use reading::vectors::to_hex;
-use reading::{Record, LIMITS};
+use reading::{Record, Refusal, Test, Written, ENTRY, LIMITS};
 
-#[derive(Clone, Copy, Debug)]
+#[derive(Clone, Copy, Debug, PartialEq, Eq)]
 enum Call {
     Single,
     Message,
+    List,
+    Table,
+    Release,
+    Write,
+    Read,
+}
+
+/// What a call is lent. Most use only a part of it.
+#[derive(Default)]
+struct Case {
+    /// The message, the single ARI or the text.
+    input: Vec<u8>,
+    table: Vec<u8>,
+    subscriber: u64,
+    /// What the room for the answer holds before.
+    room: Vec<u8>,
 }
 
 impl Call {
-    fn reading(self, input: &[u8]) -> u64 {
-        packed(match self {
-            Call::Single => reading::check_single(input),
-            Call::Message => reading::check_message(input),
-        })
+    const ALL: [Call; 7] = [
+        Call::Single,
+        Call::Message,
+        Call::List,
+        Call::Table,
+        Call::Release,
+        Call::Write,
+        Call::Read,
+    ];
+
+    fn function(self) -> &'static str {
+        archive::FUNCTIONS[self as usize].0
     }
 
-    fn archive(self, input: &[u8]) -> u64 {
+    /// The numbers that may be the answer's top byte.
+    fn numbers(self) -> Vec<u64> {
+        match self {
+            Call::Single => (0..=7).chain(9..=13).collect(),
+            Call::Message => (0..=12).collect(),
+            Call::List => (0..=12).chain([16]).collect(),
+            Call::Table => vec![0, 18],
+            Call::Release => (0..=12).chain([18, archive::NO]).collect(),
+            Call::Write => (0..=7).chain(9..=14).chain([16]).collect(),
+            Call::Read => vec![0, 1, 15, 16],
+        }
+    }
+
+    fn reading(self, input: &[u8], table: &[u8], subscriber: u64, room: &mut [u8]) -> u64 {
+        match self {
+            Call::Single => packed(reading::check_single(input)),
+            Call::Message => packed(reading::check_message(input)),
+            Call::List => packed_written(reading::list(input, room)),
+            Call::Table => {
+                packed_table(reading::rows(table).and_then(|rows| reading::check_table(&rows)))
+            }
+            Call::Release => packed_release(reading::release(input, table, subscriber)),
+            Call::Write => packed_written(reading::write_text(input, room)),
+            Call::Read => packed_written(reading::read_text(input, room)),
+        }
+    }
+
+    fn archive(self, input: &[u8], table: &[u8], subscriber: u64, room: &mut [u8]) -> u64 {
         match self {
             Call::Single => archive::check_single(input),
             Call::Message => archive::check_message(input),
+            Call::List => archive::list(input, room),
+            Call::Table => archive::check_table(table),
+            Call::Release => archive::release(input, table, subscriber),
+            Call::Write => archive::write_text(input, room),
+            Call::Read => archive::read_text(input, room),
         }
+    }
+
+    /// Whether the input is a single ARI; otherwise it is a message.
+    fn takes_single(self) -> bool {
+        matches!(self, Call::Single | Call::Write)
     }
 
     fn records(self, input: &[u8]) -> Vec<Record> {
-        match self {
-            Call::Single => reading::items_single(input),
-            Call::Message => reading::items_message(input),
+        match self.takes_single() {
+            true => reading::items_single(input),
+            false => reading::items_message(input),
         }
         .unwrap_or_default()
     }
-}
 
-/// An input as the generator makes it, most of them to be accepted.
-fn whole(random: &mut Random, call: Call) -> Vec<u8> {
-    let settings = generate::settings(random);
-    // One below a limit, on it, or one past it.
-    let near = |limit: usize, random: &mut Random| limit - 1 + random.below(3);
-    match (random.below(100), call) {
-        (0..=9, Call::Single) => {
-            let containers = near(LIMITS.containers, random);
-            generate::nested_single(random, containers)
+    fn settings(self, random: &mut Random) -> Settings {
+        let settings = generate::settings(random);
+        match self {
+            Call::Release => Settings { few_namespaces: random.chance(60), ..settings },
+            Call::Write => Settings { floats: random.chance(20), ..settings },
+            _ => settings,
         }
-        (0..=9, Call::Message) => {
-            let containers = near(LIMITS.containers, random);
-            generate::nested_message(random, containers)
+    }
+
+    /// An input as the generator makes it, most of them to be accepted.
+    fn whole(self, random: &mut Random) -> Vec<u8> {
+        let settings = self.settings(random);
+        // One below a limit, on it, or one past it.
+        let near = |limit: usize, random: &mut Random| limit - 1 + random.below(3);
+        match (random.below(100), self.takes_single()) {
+            (0..=9, true) => {
+                let containers = near(LIMITS.containers, random);
+                generate::nested_single(random, containers)
+            }
+            (0..=9, false) => {
+                let containers = near(LIMITS.containers, random);
+                generate::nested_message(random, containers)
+            }
+            (10..=12, false) => {
+                let start = generate::message(random, settings);
+                let items = self.records(&start).len();
+                generate::counted_message(&start, items, near(LIMITS.items, random))
+            }
+            (13..=15, false) => {
+                let bytes = near(LIMITS.bytes, random);
+                generate::full_message(random, settings, bytes)
+            }
+            (10..=12, true) => {
+                let items = near(LIMITS.items, random) + 1;
+                generate::counted_message(&[0x01], 1, items).split_off(1)
+            }
+            (13, true) => {
+                // Sets without a version: a single ARI, most often with bytes after.
+                generate::full_message(random, settings, LIMITS.bytes).split_off(1)
+            }
+            (14..=15, true) => {
+                let bytes = near(LIMITS.bytes, random);
+                generate::full_list(random, settings, bytes)
+            }
+            (_, true) => generate::single(random, settings),
+            (_, false) => generate::message(random, settings),
         }
-        (10..=12, Call::Message) => {
-            let start = generate::message(random, settings);
-            let items = call.records(&start).len();
-            generate::counted_message(&start, items, near(LIMITS.items, random))
+    }
+
+    /// A message or a single ARI.
+    fn binary(self, random: &mut Random) -> Vec<u8> {
+        match random.below(100) {
+            0..=4 => return generate::random_input(random),
+            5..=7 => {
+                let before: &[u8] = match self.takes_single() {
+                    true => &[],
+                    false => &[1, 0x82, 0x15, 0x83, 0xf6, 0, 0x83, 0, 0x83, 0xf6, 0x20, 0],
+                };
+                return [before, &generate::boundary_literal(random)].concat();
+            }
+            8 => return Call::Single.whole(random),
+            9 => return Call::Message.whole(random),
+            _ => (),
         }
-        (13..=15, Call::Message) => {
-            let bytes = near(LIMITS.bytes, random);
-            generate::full_message(random, settings, bytes)
+        let mut input = self.whole(random);
+        let damaged = match self {
+            Call::Single | Call::Message => 55,
+            _ => 25,
+        };
+        if random.chance(damaged) {
+            let other = self.whole(random);
+            let records = self.records(&input);
+            generate::damage(random, &mut input, &records, &other);
+            for _ in 0..random.pick(&[0, 0, 0, 1, 3]) {
+                generate::damage(random, &mut input, &[], &other);
+            }
         }
-        (10..=12, Call::Single) => {
-            let items = near(LIMITS.items, random) + 1;
-            generate::counted_message(&[0x01], 1, items).split_off(1)
+        input
+    }
+
+    fn case(self, random: &mut Random) -> Case {
+        let mut case = Case::default();
+        match self {
+            Call::Table => case.table = tables::table(random),
+            Call::Read => case.input = text(random),
+            _ => case.input = self.binary(random),
         }
-        (13..=15, Call::Single) => {
-            // Sets without a version: a single ARI, most often with bytes after.
-            generate::full_message(random, settings, LIMITS.bytes).split_off(1)
+        if self == Call::Release {
+            (case.table, case.subscriber) = tables::table_for(random, &case.input);
         }
-        (_, Call::Single) => generate::single(random, settings),
-        (_, Call::Message) => generate::message(random, settings),
+        let need = match self {
+            Call::List => reading::list(&case.input, &mut []).map_err(|r| (r, ENTRY)),
+            Call::Write => reading::write_text(&case.input, &mut []).map_err(|r| (r, 1)),
+            Call::Read => reading::read_text(&case.input, &mut []).map_err(|r| (r, 1)),
+            _ => return case,
+        };
+        let need = match need {
+            Err((Refusal { test: Test::Room, place }, size)) => place * size,
+            _ => 0,
+        };
+        let length = match random.below(10) {
+            0 => 0,
+            1 => random.below(need + 1),
+            2 => need.saturating_sub(1),
+            3..=5 => need,
+            6..=8 => need + 1 + random.below(2 * ENTRY),
+            _ => need + random.below(2_000),
+        };
+        case.room = (0..length.div_ceil(8)).flat_map(|_| random.word().to_ne_bytes()).collect();
+        case.room.truncate(length);
+        case
     }
 }
 
-fn input(random: &mut Random, call: Call) -> Vec<u8> {
-    match random.below(100) {
-        0..=4 => return generate::random_input(random),
-        5..=7 => {
-            let before: &[u8] = match call {
-                Call::Single => &[],
-                Call::Message => &[1, 0x82, 0x15, 0x83, 0xf6, 0, 0x83, 0, 0x83, 0xf6, 0x20, 0],
-            };
-            return [before, &generate::boundary_literal(random)].concat();
-        }
-        8 => return whole(random, Call::Single),
-        9 => return whole(random, Call::Message),
-        _ => (),
-    }
-    let mut input = whole(random, call);
-    if random.chance(55) {
-        let other = whole(random, call);
-        let records = call.records(&input);
-        generate::damage(random, &mut input, &records, &other);
-        for _ in 0..random.pick(&[0, 0, 0, 1, 3]) {
-            generate::damage(random, &mut input, &[], &other);
+fn text(random: &mut Random) -> Vec<u8> {
+    let mut text = match random.below(40) {
+        0..=7 => return texts::words(random),
+        8 => return texts::long_text(random),
+        _ => texts::text(random),
+    };
+    if random.chance(60) {
+        let other = texts::text(random);
+        for _ in 0..random.pick(&[1, 1, 1, 2, 4]) {
+            texts::damage(random, &mut text, &other);
         }
     }
-    input
+    text
 }
 
-/// A buffer that shows writes before, into and after the input that it lends.
-struct Guarded(Vec<u8>);
+/// A copy of some bytes to be lent, between bytes that show writes outside.
+struct Lent {
+    bytes: Vec<u8>,
+    first: usize,
+    after: usize,
+}
 
-impl Guarded {
+impl Lent {
     const GUARD: usize = 64;
 
-    /// Calls with a copy of the input `shift` bytes further on than the last
-    /// guard byte; none if any byte has changed.
-    fn call(&mut self, input: &[u8], shift: usize, f: impl Fn(&[u8]) -> u64) -> Option<u64> {
+    /// The copy starts `shift` bytes further on than the last guard byte would
+    /// have it, for other alignments.
+    fn new(content: &[u8], shift: usize) -> Lent {
         let first = Self::GUARD + shift;
-        let after = first + input.len();
-        self.0.clear();
-        self.0.resize(first, 0xa5);
-        self.0.extend(input);
-        self.0.resize(after + Self::GUARD, 0x5a);
-        let answer = f(&self.0[first..after]);
-        let unchanged = self.0[..first].iter().all(|b| *b == 0xa5)
-            && self.0[first..after] == *input
-            && self.0[after..].iter().all(|b| *b == 0x5a);
-        unchanged.then_some(answer)
+        let after = first + content.len();
+        let mut bytes = vec![0xa5; first];
+        bytes.extend(content);
+        bytes.resize(after + Self::GUARD, 0x5a);
+        Lent { bytes, first, after }
+    }
+
+    fn content(&self) -> &[u8] {
+        &self.bytes[self.first..self.after]
+    }
+
+    fn content_mut(&mut self) -> &mut [u8] {
+        &mut self.bytes[self.first..self.after]
+    }
+
+    fn is(&self, content: &[u8]) -> bool {
+        self.content() == content
+            && self.bytes[..self.first].iter().all(|byte| *byte == 0xa5)
+            && self.bytes[self.after..].iter().all(|byte| *byte == 0x5a)
     }
 }
 
-/// How often each answer occurred: index 0 is accepted, the rest by number.
-#[derive(Default)]
+/// Both answers, if they differ or lent memory isn't as it has to be: the input
+/// and the table unchanged, the room as the reading leaves its own.
+fn compare(call: Call, case: &Case, shift: usize) -> Result<u64, String> {
+    let Case { input, table, subscriber, room } = case;
+    let mut expected_room = room.clone();
+    let expected = call.reading(input, table, *subscriber, &mut expected_room);
+    assert!(expected >> 56 == 0 || expected_room == *room, "the reading wrote on a refusal");
+
+    let (lent_input, lent_table) = (Lent::new(input, shift), Lent::new(table, shift / 2));
+    let mut lent_room = Lent::new(room, shift / 3);
+    let given = call.archive(
+        lent_input.content(),
+        lent_table.content(),
+        *subscriber,
+        lent_room.content_mut(),
+    );
+    let wrong = if given != expected {
+        unpacked(given)
+    } else if !lent_input.is(input) || !lent_table.is(table) {
+        "wrote to what it was lent to read, or around it".to_string()
+    } else if !lent_room.is(&expected_room) {
+        format!("left in the room, or around it, {}", to_hex(&lent_room.bytes))
+    } else {
+        return Ok(expected);
+    };
+    let mut words = format!("{call:?}, input {}", to_hex(input));
+    match call {
+        Call::Table => words = format!("{call:?}, table {}", to_hex(table)),
+        Call::Release => words += &format!(", table {}, subscriber {subscriber}", to_hex(table)),
+        Call::Read => words += &format!(" ({})", String::from_utf8_lossy(input)),
+        _ => (),
+    }
+    if !room.is_empty() {
+        words += &format!(", room {}", to_hex(room));
+    }
+    Err(format!("{words}\n  reading: {}\n  archive: {wrong}", unpacked(expected)))
+}
+
+/// The text that a case had written, as a case of reading it back.
+fn read_back(case: &Case, answer: u64) -> Case {
+    let mut text = case.room.clone();
+    let written = reading::write_text(&case.input, &mut text);
+    assert_eq!(packed_written(written), answer);
+    text.truncate(answer as u32 as usize);
+    let mut room = case.input.clone();
+    let read = reading::read_text(&text, &mut room);
+    assert_eq!((read.map(|Written { size, .. }| size), &room), (Ok(room.len()), &case.input));
+    Case { input: text, room: vec![0xee; case.input.len()], ..Case::default() }
+}
+
+/// How often each answer occurred, by the call and the answer's top byte.
 struct Tally {
-    numbers: [usize; 14],
+    answers: [[usize; 256]; Call::ALL.len()],
+    /// Refusals of a binary input at byte 16 or later.
     deep: usize,
+    entries: usize,
+    /// Answers of yes to messages with references.
+    yes: usize,
+    /// Answers of no at another entry than the first.
+    later_no: usize,
+    read_back: usize,
 }
 
 impl Tally {
-    fn add(&mut self, answer: u64) {
-        self.numbers[(answer >> 56) as usize] += 1;
-        self.deep += usize::from(answer >> 56 != 0 && answer << 8 >> 8 >= 16);
+    fn add(&mut self, call: Call, input: &[u8], answer: u64) {
+        let (number, low) = (answer >> 56, answer << 8 >> 8);
+        self.answers[call as usize][number as usize] += 1;
+        match number {
+            0 if call == Call::List => self.entries += low as u32 as usize,
+            0 if call == Call::Release => {
+                self.yes += usize::from(!reading::listing(input).unwrap().entries.is_empty());
+            }
+            1..=14 => self.deep += usize::from(low >= 16),
+            archive::NO => self.later_no += usize::from(low > 0),
+            _ => (),
+        }
+    }
+
+    /// Prints the tally; false if an answer that a call may give never occurred.
+    fn print(&self, calls: &[Call]) -> bool {
+        print!("{:>12}", "");
+        for call in calls {
+            print!("{:>9}", format!("{call:?}").to_lowercase());
+        }
+        println!();
+        let mut complete = true;
+        for number in (0..=18).filter(|number| *number != 17).chain([archive::NO]) {
+            match number {
+                0 => print!("{:>12}", "accepted"),
+                archive::NO => print!("{:>12}", "no"),
+                _ => print!("{:>12}", format!("refused {number}")),
+            }
+            for &call in calls {
+                match (self.answers[call as usize][number as usize], call.numbers()) {
+                    (0, numbers) if !numbers.contains(&number) => print!("{:>9}", "-"),
+                    (times, _) => {
+                        complete &= times > 0;
+                        print!("{times:>9}");
+                    }
+                }
+            }
+            println!();
+        }
+        complete
     }
 }
 
@@ -152,52 +386,51 @@ fn main() -> ExitCode {
     let count = option("--count").unwrap_or(200_000);
     let now = SystemTime::now().duration_since(UNIX_EPOCH).unwrap();
     let seed = option("--seed").unwrap_or(now.as_nanos() as u64);
-    if !archive::LINKED {
+    let (calls, missing): (Vec<Call>, Vec<Call>) =
+        Call::ALL.into_iter().partition(|call| archive::has(call.function()));
+    if calls.is_empty() {
         println!("agree: built without the archive, nothing compared");
         return ExitCode::FAILURE;
+    }
+    if !missing.is_empty() {
+        let names: Vec<&str> = missing.into_iter().map(Call::function).collect();
+        println!("agree: skipped, not in the archive: {}", names.join(", "));
     }
     println!("agree: seed {seed}, {count} inputs");
 
     let start = Instant::now();
-    let mut guarded = Guarded(Vec::new());
-    let mut tallies = [Tally::default(), Tally::default()];
+    let mut tally =
+        Tally { answers: [[0; 256]; 7], deep: 0, entries: 0, yes: 0, later_no: 0, read_back: 0 };
     for k in 0..count {
         // Each input has a seed of its own, so that one can be made again alone.
         let mut random = Random::new(seed.wrapping_add(k << 32 | k));
-        let (call, tally) = match k % 2 {
-            0 => (Call::Single, &mut tallies[0]),
-            _ => (Call::Message, &mut tallies[1]),
-        };
-        let input = input(&mut random, call);
-        let expected = call.reading(&input);
-        let given = guarded.call(&input, k as usize % 16, |input| call.archive(input));
-        tally.add(expected);
-        if given != Some(expected) {
-            println!("DISAGREE: {call:?}, input {k} of seed {seed}: {}", to_hex(&input));
-            println!("  reading: {}", unpacked(expected));
-            match given {
-                Some(given) => println!("  archive: {}", unpacked(given)),
-                None => println!("  archive: wrote to the input or around it"),
+        let call = calls[(k % calls.len() as u64) as usize];
+        let case = call.case(&mut random);
+        let shift = k as usize % 48;
+        let mut outcome = compare(call, &case, shift);
+        if let Ok(answer) = outcome {
+            tally.add(call, &case.input, answer);
+            if call == Call::Write && answer >> 56 == 0 && calls.contains(&Call::Read) {
+                outcome = compare(Call::Read, &read_back(&case, answer), shift);
+                tally.read_back += 1;
             }
+        }
+        if let Err(words) = outcome {
+            println!("DISAGREE at input {k} of seed {seed}: {words}");
             return ExitCode::FAILURE;
         }
     }
 
-    println!("{:>12} {:>9} {:>9}", "answer", "single", "message");
-    for number in 0..14 {
-        let name = match number {
-            0 => "accepted".to_string(),
-            n => format!("refused {n}"),
-        };
-        let [single, message] = [0, 1].map(|t| tallies[t].numbers[number]);
-        println!("{name:>12} {single:>9} {message:>9}");
-        if single + message == 0 && count >= 100_000 {
-            println!("agree: no input had this answer");
-            return ExitCode::FAILURE;
-        }
+    let complete = tally.print(&calls);
+    println!(
+        "refused at byte 16 or later {}, entries listed {}, yes with references {}, no past entry 0 \
+         {}, texts read back {}",
+        tally.deep, tally.entries, tally.yes, tally.later_no, tally.read_back
+    );
+    if !complete && count >= 100_000 {
+        println!("agree: an answer never occurred");
+        return ExitCode::FAILURE;
     }
-    let [single, message] = [0, 1].map(|t| tallies[t].deep);
-    println!("refused at byte 16 or later: {single} {message}");
     println!("agree: all equal, {:.1} s", start.elapsed().as_secs_f64());
     ExitCode::SUCCESS
 }
