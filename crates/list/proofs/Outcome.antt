@@ -1,11 +1,11 @@
 -- From the message's answer and table to the answers.
-use Prim.Native.Nat.{ℕ, _/_, _<_, _≤_}
+use Prim.Native.Nat.{ℕ, _/_, _%_, _<_, _≤_}
 use mathlib.Core.Path.{_≡_, refl, sym, _∙_, ap}
 use mathlib.Core.Bool.{true}
 use mathlib.Core.List.{List}
 use native.Mathlib.Omega.{arith}
 use lib.ListN.{length}
-use borrow.Author.Tests.{lt-ltb, le-ltb}
+use borrow.Author.Tests.{lt-ltb, le-ltb, eq-eqb, ne-eqb}
 use Rattle.cbor.specs.Byte.{all, isByte}
 use Rattle.ari.specs.Reader.{aMessage, refuse, accept, read}
 use Rattle.ari.specs.Reader as reader
@@ -18,6 +18,8 @@ use Rattle.read.specs.declared.Answer.{Answer}
 use Rattle.read.specs.declared.Answer.the-variants.{Accepted}
 use Rattle.read.specs.declared.Answer.the-variants as answers
 use Rattle.read.specs.Answers.{answerOf, Kept}
+use Rattle.grants.specs.Grants.{granted, Release, judgeFrom, release}
+use Rattle.grants.specs.Bytes.{rows, releaseBytes}
 use Rattle.items.specs.Records.{noSpot}
 use Rattle.items.proofs.Entries.{entry-is}
 use Rattle.list.specs.declared.Listed.{Listed}
@@ -73,4 +75,18 @@ module _ (b : List ℕ) {a : Answer} (e : a ≡ answerOf (read firstLimits aMess
       unfolding writtenOf
       list-written h = h ∙ rw list-accepted
 
-pub ruleset outcomes = (list-refused, none-written, list-accepted, list-written)
+  module _ (t : List ℕ) (s : ℕ) where
+    pub release-refused : {r p : ℕ} → a ≡ answers.Refused r p → Release.refused r p ≡ releaseBytes firstLimits b t s
+    unfolding releaseBytes
+    release-refused f = rw (refused f)
+
+    module _ {n : ℕ} (f : a ≡ Accepted n) where
+      pub release-ragged : (length t % 16 ≡ 0 → ⊥) → Release.refused 18 (length t / 16) ≡ releaseBytes firstLimits b t s
+      unfolding releaseBytes
+      release-ragged h = rw (accepted f, ne-eqb (length t % 16) 0 h)
+
+      pub release-judged : length t % 16 ≡ 0 → {x : Release} → x ≡ judgeFrom (granted (rows t) s) 0 (listing b) → x ≡ releaseBytes firstLimits b t s
+      unfolding releaseBytes release
+      release-judged h g = rw (accepted f, eq-eqb (length t % 16) 0 h) g
+
+pub ruleset outcomes = (list-refused, none-written, list-accepted, list-written, release-refused, release-ragged, release-judged)

@@ -17,7 +17,6 @@ pub be-join : (u v x : ℕ) → x < 256 ^ (u + v) → be (u + v) x ≡ be u (x /
 be-join zero v x h = let e : 0 + v ≡ v = omega arith in rw (e, mod-eq-of-lt (rw e at h))
 be-join (suc u) v x h =
     let e : suc u + v ≡ suc (u + v) = omega arith in
-    let c : ℕ = 256 ^ v in
     let p : 256 ^ (u + v) ≡ 256 ^ u * 256 ^ v = pow-add 256 u v in
     let r : x % 256 ^ v < 256 ^ v = mod-lt x (pow-pos v) in
     let d : x % 256 ^ (u + v) ≡ (x / 256 ^ v % 256 ^ u) * 256 ^ v + x % 256 ^ v = rw p (mod-mul x (pow-pos u) (pow-pos v)) in

@@ -119,7 +119,6 @@ module _ {b t : List ℕ} {n : ℕ} (c : Tabled b n t) where
     inside-is : insideFrom b w ≡ cond reference (At (insideAt (x .first) (x .lead) (x .str))) Nothing
     unfolding insideFrom
     inside-is =
-        let s : Bool = asksOf (codeOf (x .slot)) in
         rw (c .kept k h, entry-slot (c .is) (omega arith) (omega arith) k h _, entry-first (c .is) (omega arith) (omega arith) k h _, entry-head (c .is) (omega arith) (omega arith) k h _)
         (go (asksOf (codeOf (x .slot))) (eqb (x .lead .kind) array && not (eqb (x .lead .arg) 2)) reference (entry-reference (c .is) (omega arith) (omega arith) k h _) begins)
       where

@@ -36,9 +36,6 @@ stored w x = be 8 (w % 65536 * 4294967296 + w / 65536 % 65536) ++ (be 8 (x .kind
 
 here-bytes : {b : List ℕ} {w k q : ℕ} (h : Here b w k q) {x : Namespace} → x ≡ namespaceOf q (headAt b q) → stored w x ≡ entryBytes (h .entry)
 here-bytes {w = w} h e =
-    let f : ℕ = w % 65536 in
-    let a : ℕ = w / 65536 % 65536 in
-    let s : List ℕ = spaceBytes (h .entry .space) in
     ap (λ (n : Namespace). stored w n) (e ∙ h .space-is)
     ∙ ap (λ (l : List ℕ). be 8 (w % 65536 * 4294967296 + w / 65536 % 65536) ++ l) (space-bytes (h .entry .space))
     ∙ ap (λ (l : List ℕ). l ++ spaceBytes (h .entry .space)) (two-ends (w % 65536) (w / 65536 % 65536) (omega arith) (omega arith))
@@ -96,7 +93,6 @@ module _ {b t : List ℕ} {n : ℕ} (c : Tabled b n t) {out₀ : List ℕ} where
         pub written-one : {v : Namespace} → v ≡ namespaceOf q (headAt b q) → {out′ : List ℕ} → out′ ≡ sets out at (stored (getD t k 0) v)
             → Written b out₀ (k + 1) (at + 24) out′
         written-one {v} e {out′} s =
-            let vs : List ℕ = stored (getD t k 0) v in
             record {
               lengths = ap length s ∙ length-sets out at (stored (getD t k 0) v) ∙ i .lengths;
               room = i .room;

@@ -199,3 +199,67 @@ pub fn list_message(s: &[u8], out: &mut [u8]) -> Listed
     let mut table = [0u64; 1024];
     list_in(s, out, &mut table)
 }
+
+// Entries by rows. The search is left at the first entry that no row grants: a number to the subscriber, a name or a relative one to nobody.
+fn release_table(s: &[u8], count: usize, table: &[u64], t: &[u8], subscriber: u64) -> Released
+    requires { ⌜ Tabled (now s) count (now table) ⌝ }
+    ensures { λ r. ⌜ said r ≡ judgeFrom (granted (rows (now (t .entry))) subscriber) 0 (listing (now (s .entry))) ⌝ }
+{
+    let mut entry = 0;
+    let mut k = 0;
+    'entries: while k < count {
+        let inside = inside_at(s, table[k]);
+        match inside {
+            Inside::Nothing => k += 1,
+            Inside::At(next) => {
+                let n = namespace_at(s, next);
+                if n.kind != 0 {
+                    break 'entries;
+                }
+                let word = n.word;
+                let mut at = 0;
+                'rows: loop {
+                    if t.len() - at < 16 {
+                        break 'entries;
+                    }
+                    if grants::holds_at(t, at, subscriber, word) {
+                        break 'rows;
+                    }
+                    at += 16;
+                }
+                entry += 1;
+                k += 1;
+            }
+        }
+    }
+    if k < count {
+        return Released::No(entry);
+    }
+    Released::Yes
+}
+
+fn release_in(s: &[u8], t: &[u8], subscriber: u64, table: &mut [u64]) -> Released
+    requires { ⌜ 1024 ≤ length (now table) ⌝ }
+    ensures { λ r. ⌜ said r ≡ releaseBytes firstLimits (now (s .entry)) (now (t .entry)) subscriber ⌝ }
+{
+    match read::keep_message(s, table) {
+        Answer::Refused { number, place } => Released::Refused { number, place },
+        Answer::Accepted(count) => {
+            if t.len() % 16 != 0 {
+                return Released::Refused {
+                    number: 18,
+                    place: t.len() / 16,
+                };
+            }
+            release_table(s, count, table, t, subscriber)
+        }
+    }
+}
+
+// Whether a message is released to a subscriber under a grant table as bytes.
+pub fn release(s: &[u8], t: &[u8], subscriber: u64) -> Released
+    ensures { λ r. ⌜ said r ≡ releaseBytes firstLimits (now (s .entry)) (now (t .entry)) subscriber ⌝ }
+{
+    let mut table = [0u64; 1024];
+    release_in(s, t, subscriber, &mut table)
+}
