@@ -40,7 +40,7 @@ fn be8(s: &[u8], at: usize) -> u64
 }
 
 // The row at a place holds both numbers.
-fn holds_at(t: &[u8], at: usize, subscriber: u64, namespace: u64) -> bool
+pub fn holds_at(t: &[u8], at: usize, subscriber: u64, namespace: u64) -> bool
     requires { ⌜ at + 16 ≤ length (now t) ⌝ }
     ensures { λ r. ⌜ r ≡ holds subscriber (signed namespace) (rowOf (drop at (now (t .entry)))) ⌝ }
 {

@@ -10,7 +10,7 @@ use lib.Dec.{ltb, eqb}
 use mir.Syntax.{w64}
 use mir.Val.{Fits}
 use borrow.Author.Tests.{lt-ltb, le-ltb, eq-eqb, ne-eqb, ltb-true, not-true, not-false}
-use Rattle.cbor.specs.Head.{Lead, Sound, counted, a-simple, a-float, size, leadBytes, getHead, isContainer}
+use Rattle.cbor.specs.Head.{Lead, Sound, counted, a-simple, a-float, size, stringSize, leadBytes, getHead, isContainer}
 use Rattle.cbor.specs.declared.Head.{Head}
 use Rattle.cbor.specs.declared.Head.the-variants.{Bad, Good}
 use Rattle.cbor.specs.Answer.{headAt}
@@ -56,6 +56,7 @@ sound-kind (a-float k a b c d) = a
 -- a spot whose head may be written, with few containers around it, at a numbered slot
 pub record Fine (most : ℕ) (x : Spot) : Type 0 where
   pub sound : Sound (x .lead)
+  pub sized : length (x .str) ≡ stringSize (x .lead)
   pub shallow : x .around ≤ most
   pub number : ℕ
   pub is-slot : IsSlot number
@@ -104,7 +105,7 @@ fine (item l str ms rs) false done prev p d k most m f h n = absurd f
 fine (item l str ms rs) true done prev p d k most m f h n =
     let w : HasNumber (ari message) = record { number = 2; is-slot = omega arith; slot-is = refl } in
     let y : Fine most (spotAt (ari message) p d l str ms)
-    = record { sound = f .0 .head; shallow = omega arith; number = 2; is-slot = omega arith; slot-is = refl } in
+    = record { sound = f .0 .head; sized = f .0 .sized; shallow = omega arith; number = 2; is-slot = omega arith; slot-is = refl } in
     spot-too y
     (all-append
     (deeper ms (ari message) l d k (isContainer (l .kind)) refl (f .1) (omega arith) (Fine most) (insideAt p l str)
@@ -113,7 +114,7 @@ fine (item l str ms rs) true done prev p d k most m f h n =
     (next-known (ari message) w l 0 (f .0 .head) (f .0 .fitting))))
 fine (item l str ms rs) more (due s i) prev p d k most m f h n =
     let y : Fine most (spotAt s p d l str ms)
-    = record { sound = f .0 .head; shallow = omega arith; number = n .number; is-slot = n .is-slot; slot-is = n .slot-is } in
+    = record { sound = f .0 .head; sized = f .0 .sized; shallow = omega arith; number = n .number; is-slot = n .is-slot; slot-is = n .slot-is } in
     spot-too y
     (all-append
     (deeper ms s l d k (isContainer (l .kind)) refl (f .1) (omega arith) (Fine most) (insideAt p l str)
@@ -130,7 +131,7 @@ all-fine {m} {i} {b} {g} c =
     fine g (openEnded i) (due (firstSlot i) 0) [] 0 0 (m .containers) (m .containers) (omega arith) (stands-fit (c .stands)) (c .shallow) (first-known i)
 
 -- item k is one of them
-at-all : {P : Spot → Type 0} (xs : List Spot) (k : ℕ) (d : Spot) → All P xs → k < length xs → P (getD xs k d)
+pub at-all : {P : Spot → Type 0} (xs : List Spot) (k : ℕ) (d : Spot) → All P xs → k < length xs → P (getD xs k d)
 at-all [] k d a h = absurd (omega arith)
 at-all (x ∷ xs) zero d (spot-too p a) h = p
 at-all (x ∷ xs) (suc k) d (spot-too p a) h = at-all xs k d a (omega arith)
@@ -221,7 +222,7 @@ module _ (b : List ℕ) (k : ℕ) (t : List ℕ) {a : Answer} where
 
 pub ruleset found-ways = (room-fits, found-refused, found-item, found-none, has-room)
 
-head-is : (b : List ℕ) (p : ℕ) (l : Lead) (r : List ℕ) → drop p b ≡ leadBytes l ++ r → Sound l → headAt b p ≡ Good (l .kind) (l .arg) (p + size l)
+pub head-is : (b : List ℕ) (p : ℕ) (l : Lead) (r : List ℕ) → drop p b ≡ leadBytes l ++ r → Sound l → headAt b p ≡ Good (l .kind) (l .arg) (p + size l)
 unfolding headAt
 head-is b p l r e h = rw (e, getHead-back r h)
 
@@ -229,36 +230,71 @@ reference-is : (s : Slot) (l : Lead) (j : ℕ) → IsSlot j → slotOf j ≡ s �
 unfolding isReference
 reference-is s l j v e q = rw (q, ← e, asks-right j v)
 
--- The record of an entry is the item's.
+-- What an entry says of its item, with the head that the bytes have there; its record is the item's.
 module _ {m : Limits} {i : Input} {b : List ℕ} {g : Items} {n : ℕ} (c : Is m i b g n) (small : m .bytes < 65536) (shallow : m .containers < 256) (k : ℕ) (h : k < n)
     (d : Spot) where
   abbrev x : Spot
   x = getD (spotsOf i g) k d
 
-  inside : k < length (spotsOf i g)
+  abbrev l : Lead
+  l = x .lead
+
+  abbrev code : ℕ
+  code = codeOf (x .slot)
+
+  pub inside : k < length (spotsOf i g)
   inside = let z = spot-count c in omega arith
 
   abbrev w : Fine (m .containers) x
   w = at-all (spotsOf i g) k d (all-fine c) inside
 
+  places : Between 0 (length b) x
+  places = at-all (spotsOf i g) k d (spot-between c) inside
+
+  hf : x .first < 65536
+  hf = let y = places in omega (arith, y .0, y .1, y .2, c .short)
+
+  ha : x .after < 65536
+  ha = omega (arith, places .2, c .short)
+
+  hr : x .around < 256
+  hr = omega (arith, w .shallow)
+
+  code-is : code ≡ w .number
+  code-is = ap codeOf (sym (w .slot-is)) ∙ code-slot (w .number) (w .is-slot)
+
+  hs : code < 256
+  hs = omega (arith, w .is-slot, code-is)
+
+  pub entry-first : entryOf x % 65536 ≡ x .first
+  unfolding entryOf
+  entry-first = first-field (x .first) (x .after) (x .around) code hf ha hr hs
+
+  pub entry-after : entryOf x / 65536 % 65536 ≡ x .after
+  unfolding entryOf
+  entry-after = after-field (x .first) (x .after) (x .around) code hf ha hr hs
+
+  entry-around : entryOf x / 4294967296 % 256 ≡ x .around
+  unfolding entryOf
+  entry-around = around-field (x .first) (x .after) (x .around) code hf ha hr hs
+
+  pub entry-slot : entryOf x / 1099511627776 % 256 ≡ code
+  unfolding entryOf
+  entry-slot = slot-field (x .first) (x .after) (x .around) code hf ha hr hs
+
+  pub entry-head : headAt b (x .first) ≡ Good (l .kind) (l .arg) (x .first + size l)
+  entry-head = head-is b (x .first) l _ (at-all (spotsOf i g) k d (spot-covers c) inside) (w .sound)
+
+  pub entry-reference : isReference (x .slot) l ≡ referenceBy code (l .kind) (l .arg)
+  entry-reference = reference-is (x .slot) l (w .number) (w .is-slot) (w .slot-is) code-is
+
   pub entry-record : recordFrom b (entryOf x) ≡ recordOf x
-  unfolding recordFrom entryOf
-  entry-record =
-      let l = x .lead in
-      let y = at-all (spotsOf i g) k d (spot-between c) inside in
-      let cv = at-all (spotsOf i g) k d (spot-covers c) inside in
-      let s : codeOf (x .slot) ≡ w .number = ap codeOf (sym (w .slot-is)) ∙ code-slot (w .number) (w .is-slot) in
-      let hf : x .first < 65536 = omega (arith, y .0, y .1, y .2, c .short) in
-      let ha : x .after < 65536 = omega (arith, y .2, c .short) in
-      let hr : x .around < 256 = omega (arith, w .shallow) in
-      let hs : codeOf (x .slot) < 256 = omega (arith, w .is-slot) in
-      let hd : headAt b (x .first) ≡ Good (l .kind) (l .arg) (x .first + size l) = head-is b (x .first) l _ cv (w .sound) in
-      let rf : isReference (x .slot) l ≡ referenceBy (codeOf (x .slot)) (l .kind) (l .arg) = reference-is (x .slot) l (w .number) (w .is-slot) (w .slot-is) s in
-      rw (first-field (x .first) (x .after) (x .around) (codeOf (x .slot)) hf ha hr hs, after-field (x .first) (x .after) (x .around) (codeOf (x .slot)) hf ha hr hs, around-field (x .first) (x .after) (x .around) (codeOf (x .slot)) hf ha hr hs, slot-field (x .first) (x .after) (x .around) (codeOf (x .slot)) hf ha hr hs, hd, rf)
+  unfolding recordFrom
+  entry-record = rw (entry-first, entry-after, entry-around, entry-slot, entry-head, entry-reference)
 
 -- Item k, from the input's answer and table.
 module _ (i : Input) (b : List ℕ) (bs : all isByte b ≡ true) (k : ℕ) (t : List ℕ) (room : 1024 ≤ length t) where
-  entry-is : {t′ : List ℕ} {n : ℕ} (d : Spot) → Is firstLimits i b (decode b) n → t′ ≡ stored t 0 (map entryOf (spotsOf i (decode b))) → k < n
+  pub entry-is : {t′ : List ℕ} {n : ℕ} (d : Spot) → Is firstLimits i b (decode b) n → t′ ≡ stored t 0 (map entryOf (spotsOf i (decode b))) → k < n
       → getD t′ k 0 ≡ entryOf (getD (spotsOf i (decode b)) k d)
   entry-is {t′} {n} d c e h =
       let ws = map entryOf (spotsOf i (decode b)) in

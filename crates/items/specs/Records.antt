@@ -60,7 +60,7 @@ recordFrom b e = record {
 }
 
 -- the items of an input, and item k
-abbrev noSpot : Spot
+abbrev pub noSpot : Spot
 noSpot = record { slot = version; first = 0; after = 0; around = 0; lead = record { info = 0; kind = 0; arg = 0 }; str = []; inside = none }
 
 abbrev pub spotNumber : Input → List ℕ → ℕ → Spot

@@ -1,0 +1,6 @@
+pub mod Ways
+pub mod Stored
+pub mod Table
+pub mod Written
+pub mod Outcome
+pub mod Search
