@@ -5,7 +5,7 @@ use mathlib.Core.Bool.{Bool, true, false, not, _&&_, cond}
 use mathlib.Core.List.{List, [], _∷_, _++_, append-assoc, map, List·Memᴰ, List·Memᴰ·head, List·Memᴰ·tail, Memᴰ·map}
 use native.Mathlib.Omega.{arith}
 use native.Mathlib.Numerals.{add-one}
-use lib.ListN.{length, getD, drop, length-append}
+use lib.ListN.{length, getD, drop, length-append, length-map}
 use lib.Seq.{drop-cons, drop-drop, drop-at, drop-length}
 use lib.IntN.{pos, negsuc}
 use lib.Dec.{eqb}
@@ -15,9 +15,10 @@ use Rattle.cbor.specs.Answer.{headAt}
 use Rattle.cbor.proofs.ByteLaws.{and-true}
 use Rattle.cbor.proofs.HeadLaws.{length-lead}
 use Rattle.ari.specs.Table.{Slot, max64, rule, isReference}
-use Rattle.ari.specs.Reader.{aMessage}
+use Rattle.ari.specs.Reader.{Limits, aMessage}
 use Rattle.ari.specs.Items.{Items, none, item, encode, Spot, insideAt, spotsOf}
 use Rattle.ari.specs.Decode.{decode}
+use Rattle.ari.specs.Rules.{Is}
 use Rattle.ari.specs.Listing.{Space, number, name, relative, Entry, spaceAt, spaceIn, referring, listing}
 use Rattle.ari.specs.Listing as ari
 use Rattle.ari.proofs.Spots.{Covers, spot-covers, spot-count}
@@ -61,6 +62,20 @@ found-at (x ∷ xs) (suc k) d h e = go (isReference (x .slot) (x .lead)) (found-
     go : (u : Bool) → List·Memᴰ (getD xs k d) (referring xs) → List·Memᴰ (getD xs k d) (cond u (x ∷ referring xs) (referring xs))
     go true m = List·Memᴰ·tail m
     go false m = m
+
+-- no more references than items
+few-referring : (xs : List Spot) → length (referring xs) ≤ length xs
+few-referring [] = omega arith
+few-referring (x ∷ xs) = go (isReference (x .slot) (x .lead)) (few-referring xs)
+  where
+    go : (u : Bool) → length (referring xs) ≤ length xs → length (cond u (x ∷ referring xs) (referring xs)) ≤ suc (length xs)
+    go true h = omega arith
+    go false h = omega arith
+
+pub few-listed : {m : Limits} {b : List ℕ} {n : ℕ} → Is m aMessage b (decode b) n → length (listing b) ≤ n
+unfolding listing
+few-listed {b = b} c =
+    omega (arith, length-map (referring (spotsOf aMessage (decode b))) ari.entryOf, few-referring (spotsOf aMessage (decode b)), spot-count c)
 
 -- a reference has no string
 no-string : (s : Slot) (l : Lead) → isReference s l ≡ true → stringSize l ≡ 0

@@ -1,16 +1,35 @@
 -- The codes of answers.
-use Prim.Native.Nat.{ℕ, _≤_, _<_}
+use Prim.Native.Nat.{ℕ, suc, _/_, _≤_, _<_}
 use mathlib.Core.Path.{_≡_, refl, sym, _∙_, ap}
-use mathlib.Core.List.{List}
+use mathlib.Core.Bool.{Bool, true, false, cond}
+use mathlib.Core.List.{List, [], _∷_}
 use native.Mathlib.Omega.{arith}
-use Rattle.ari.specs.Reader.{refuse, accept, Input, read}
+use lib.ListN.{length}
+use lib.Dec.{ltb}
+use Rattle.cbor.specs.Byte.{all, isByte}
+use Rattle.ari.specs.Reader.{refuse, accept, Input, aMessage, read}
 use Rattle.ari.specs.Reader as reader
 use Rattle.ari.specs.Limits.{firstLimits}
+use Rattle.ari.specs.Decode.{decode}
+use Rattle.ari.specs.Rules.{Is}
+use Rattle.ari.specs.Listing.{Space, Entry, listing}
+use Rattle.ari.proofs.Demand.{demand-two}
 use Rattle.ari.proofs.Numbers.{Numbered, numbered}
 use Rattle.read.specs.declared.Answer.{Answer}
 use Rattle.read.specs.declared.Answer.the-variants.{Accepted, Refused}
 use Rattle.read.specs.Answers.{answerOf}
-use Rattle.surfbodkin.specs.Code.{refusalCode, countCode, checkCode, answerCode, Bounded}
+use Rattle.grants.specs.Grants.{Release, no, granted, judgeFrom, judge, release}
+use Rattle.grants.specs.Bytes.{rows, ragged, whole, releaseBytes}
+use Rattle.grants.specs.declared.Verdict.{Verdict}
+use Rattle.grants.specs.declared.Verdict.the-variants as verdicts
+use Rattle.grants.specs.Verdict as verdict
+use Rattle.list.specs.declared.Listed.{Listed}
+use Rattle.list.specs.declared.Listed.the-variants as listed
+use Rattle.list.specs.declared.Released.{Released}
+use Rattle.list.specs.declared.Released.the-variants as released
+use Rattle.list.specs.Answers.{listedOf, listOf, said}
+use Rattle.list.proofs.Table.{few-listed}
+use Rattle.surfbodkin.specs.Code.{refusalCode, countCode, checkCode, answerCode, Bounded, listCode, Few, tableCode, releaseCode, Small}
 
 module _ {a : Answer} where
   pub few : Bounded a → {n : ℕ} → a ≡ Accepted n → n < 16777216
@@ -38,3 +57,75 @@ coded-of (accept n) = refl
 
 pub coded : (x : reader.Answer) {a : Answer} → a ≡ answerOf x → {c : ℕ} → c ≡ answerCode a → c ≡ checkCode x
 coded x e q = q ∙ rw e (coded-of x)
+
+-- the listing's code
+module _ {a : Listed} where
+  pub few-items : Few a → {k n : ℕ} → a ≡ listed.Entries k n → n < 16777216
+  few-items h e = let z = rw e at h in omega arith
+
+  pub few-entries : Few a → {k n : ℕ} → a ≡ listed.Entries k n → k < 4294967296
+  few-entries h e = let z = rw e at h in omega arith
+
+  pub list-small : Few a → {r p : ℕ} → a ≡ listed.Refused r p → r < 256
+  list-small h e = let z = rw e at h in omega arith
+
+  pub entries-code : {k n : ℕ} → a ≡ listed.Entries k n → {c : ℕ} → c ≡ countCode n k → c ≡ listCode a
+  entries-code e q = rw e q
+
+  pub list-refused-code : {r p : ℕ} → a ≡ listed.Refused r p → {c : ℕ} → c ≡ refusalCode r p → c ≡ listCode a
+  list-refused-code e q = rw e q
+
+pub ruleset list-ways = (few-items, few-entries, list-small, entries-code, list-refused-code)
+
+few-of : (b out : List ℕ) → all isByte b ≡ true → (x : reader.Answer) → read firstLimits aMessage b ≡ x → Few (listedOf x (listing b) (length out / 24))
+few-of b out bs (refuse r p) e = let z = rw e at (numbered firstLimits aMessage b) in omega (arith, z .bounds)
+few-of b out bs (accept n) e = go (ltb (length out / 24) (length (listing b)))
+  where
+    c : Is firstLimits aMessage b (decode b) n
+    c = demand-two firstLimits aMessage b n bs .0 e
+
+    go : (t : Bool) → Few (cond t (listed.Refused 16 (length (listing b))) (listed.Entries (length (listing b)) n))
+    go true = omega arith
+    go false = (omega (arith, few-listed c, c .few), c .few)
+
+pub few-listed-of : (b out : List ℕ) → all isByte b ≡ true → {a : Listed} → a ≡ listOf firstLimits b out → Few a
+unfolding listOf
+few-listed-of b out bs e = rw e (few-of b out bs (read firstLimits aMessage b) refl)
+
+-- the table's
+module _ {a : Verdict} where
+  pub row-code : {i : ℕ} → a ≡ verdicts.Refused i → {c : ℕ} → c ≡ refusalCode 18 i → c ≡ tableCode (verdict.said a)
+  row-code e q = rw e q
+
+-- release's
+module _ {a : Released} where
+  pub release-small : Small (said a) → {r p : ℕ} → a ≡ released.Refused r p → r < 256
+  release-small h e = let z = rw e at h in omega arith
+
+  pub no-code : {k : ℕ} → a ≡ released.No k → {c : ℕ} → c ≡ refusalCode 255 k → c ≡ releaseCode (said a)
+  no-code e q = rw e q
+
+  pub release-refused-code : {r p : ℕ} → a ≡ released.Refused r p → {c : ℕ} → c ≡ refusalCode r p → c ≡ releaseCode (said a)
+  release-refused-code e q = rw e q
+
+pub ruleset release-ways = (release-small, no-code, release-refused-code)
+
+judged-small : (ok : Space → Bool) (i : ℕ) (es : List Entry) → Small (judgeFrom ok i es)
+judged-small ok i [] = tt
+judged-small ok i (e ∷ es) = go (ok (e .space)) (judged-small ok (suc i) es)
+  where
+    go : (t : Bool) → Small (judgeFrom ok (suc i) es) → Small (cond t (judgeFrom ok (suc i) es) (no i))
+    go true h = h
+    go false h = tt
+
+pub small-release : (b t : List ℕ) (s : ℕ) {a : Release} → a ≡ releaseBytes firstLimits b t s → Small a
+unfolding releaseBytes release
+small-release b t s e = rw e (go (read firstLimits aMessage b) (numbered firstLimits aMessage b))
+  where
+    rest : (u : Bool) → Small (cond u (Release.refused 18 (length t / 16)) (judgeFrom (granted (rows t) s) 0 (listing b)))
+    rest true = omega arith
+    rest false = judged-small (granted (rows t) s) 0 (listing b)
+
+    go : (x : reader.Answer) → Numbered firstLimits x → Small (whole x t (judge x (granted (rows t) s) (listing b)))
+    go (refuse r p) h = omega (arith, h .bounds)
+    go (accept n) h = rest (ragged t)

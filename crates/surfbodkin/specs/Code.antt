@@ -1,10 +1,13 @@
--- An answer as one number: the top byte is 0 for an acceptance and the refusal's number otherwise; the low 56 bits are the refusal's place or
--- number, or the item count (bits 32 to 55) with a length or a number of entries (bits 0 to 31).
-use Prim.Native.Nat.{ℕ, _+_, _-_, _*_, _^_, _≤_, min}
+-- An answer as one number: the top byte is 0 for an acceptance, the refusal's number, or 255 for release's no; the low 56 bits are the
+-- refusal's place or number, the entry of a no, or the item count (bits 32 to 55) with a length or a number of entries (bits 0 to 31).
+use Prim.Native.Nat.{ℕ, _+_, _-_, _*_, _^_, _<_, _≤_, min}
 use Rattle.ari.specs.Reader.{refuse, accept}
 use Rattle.ari.specs.Reader as reader
 use Rattle.read.specs.declared.Answer.{Answer}
 use Rattle.read.specs.declared.Answer.the-variants.{Accepted, Refused}
+use Rattle.grants.specs.Grants.{Check, passes, Release, yes, no}
+use Rattle.list.specs.declared.Listed.{Listed}
+use Rattle.list.specs.declared.Listed.the-variants as listed
 
 -- what no machine can hold is the greatest number of 56 bits
 abbrev pub refusalCode : ℕ → ℕ → ℕ
@@ -25,3 +28,26 @@ answerCode (Accepted n) = countCode n 0
 abbrev pub Bounded : Answer → Type 0
 Bounded (Refused r p) = r ≤ 13
 Bounded (Accepted n) = n ≤ 1024
+
+-- the item count and the entries listed
+abbrev pub listCode : Listed → ℕ
+listCode (listed.Refused r p) = refusalCode r p
+listCode (listed.Entries k n) = countCode n k
+
+abbrev pub Few : Listed → Type 0
+Few (listed.Refused r p) = r ≤ 16
+Few (listed.Entries k n) = (k ≤ 1024) × (n ≤ 1024)
+
+abbrev pub tableCode : Check → ℕ
+tableCode passes = 0
+tableCode (Check.refused r i) = refusalCode r i
+
+abbrev pub releaseCode : Release → ℕ
+releaseCode yes = 0
+releaseCode (no k) = refusalCode 255 k
+releaseCode (Release.refused r p) = refusalCode r p
+
+abbrev pub Small : Release → Type 0
+Small yes = Unit {0}
+Small (no k) = Unit {0}
+Small (Release.refused r p) = r ≤ 18

@@ -3,7 +3,13 @@ ghost use mathlib.Core.Path.{_≡_};
 ghost use Prim.Native.Nat.{_<_, _≤_};
 ghost use Rattle.ari.specs.Reader.{read, single, aMessage};
 ghost use Rattle.ari.specs.Limits.{firstLimits};
-ghost use Rattle.surfbodkin.specs.Code.{refusalCode, countCode, checkCode, answerCode, Bounded};
+ghost use Rattle.grants.specs.Bytes.{checkBytes, releaseBytes};
+ghost use Rattle.grants.specs.Verdict as verdict;
+ghost use Rattle.list.specs.Answers.{listOf, writtenOf, said};
+ghost use Rattle.surfbodkin.specs.Code.{refusalCode, countCode, checkCode, answerCode, Bounded, listCode, Few, tableCode, releaseCode, Small};
+use grants::Verdict;
+use list::Listed;
+use list::Released;
 use read::Answer;
 
 // The top byte is the refusal's number, the low 56 bits its place.
@@ -47,4 +53,56 @@ pub extern "C" fn surfbodkin_check_message(input: &[u8]) -> u64
     ensures { λ r. ⌜ r ≡ checkCode (read firstLimits aMessage (now (input .entry))) ⌝ }
 {
     check_code(read::check_message(input))
+}
+
+fn list_code(a: Listed) -> u64
+    requires { ⌜ Few a ⌝ }
+    ensures { λ r. ⌜ r ≡ listCode a ⌝ }
+{
+    match a {
+        Listed::Entries { listed, count } => count_code(count, listed),
+        Listed::Refused { number, place } => refusal_code(number, place as u64),
+    }
+}
+
+#[no_mangle]
+pub extern "C" fn surfbodkin_list(message: &[u8], out: &mut [u8]) -> u64
+    ensures { λ r. ⌜ r ≡ listCode (listOf firstLimits (now (message .entry)) (now (out .entry))) ⌝ }
+    ensures { λ r. ⌜ now (out .exit) ≡ writtenOf firstLimits (now (message .entry)) (now (out .entry)) ⌝ }
+{
+    list_code(list::list_message(message, out))
+}
+
+fn table_code(a: Verdict) -> u64
+    ensures { λ r. ⌜ r ≡ tableCode (verdict.said a) ⌝ }
+{
+    match a {
+        Verdict::Passes => 0,
+        Verdict::Refused(row) => refusal_code(18, row),
+    }
+}
+
+#[no_mangle]
+pub extern "C" fn surfbodkin_check_table(table: &[u8]) -> u64
+    ensures { λ r. ⌜ r ≡ tableCode (checkBytes (now (table .entry))) ⌝ }
+{
+    table_code(grants::check_table(table))
+}
+
+fn release_code(a: Released) -> u64
+    requires { ⌜ Small (said a) ⌝ }
+    ensures { λ r. ⌜ r ≡ releaseCode (said a) ⌝ }
+{
+    match a {
+        Released::Yes => 0,
+        Released::No(entry) => refusal_code(255, entry as u64),
+        Released::Refused { number, place } => refusal_code(number, place as u64),
+    }
+}
+
+#[no_mangle]
+pub extern "C" fn surfbodkin_release(message: &[u8], table: &[u8], subscriber: u64) -> u64
+    ensures { λ r. ⌜ r ≡ releaseCode (releaseBytes firstLimits (now (message .entry)) (now (table .entry)) subscriber) ⌝ }
+{
+    release_code(list::release(message, table, subscriber))
 }
