@@ -1,0 +1,203 @@
+/* Surfbodkin: a gate that reads AMP messages and ARIs, lists the references in a
+   message, and says whether a subscriber's grants cover them.
+
+   Link with libsurfbodkin.a (x86-64). host/relay.c is an example.
+
+   WHAT HOLDS OF EVERY CALL
+
+   - Memory is lent for the call only; nothing is kept, freed or allocated. There
+     is no state between calls: threads may call at the same time. A call takes less
+     than 256 KB of stack.
+   - Nothing but the answer buffer `out` is written. On a refusal not that either;
+     on an acceptance only its front, as far as the answer reaches.
+   - `out` must not overlap the other buffers. A pointer whose length is 0 is not
+     followed, and may be NULL.
+   - Every input has an answer; none has to be tested before.
+
+   ANSWERS are one uint64_t. Its top byte tells which:
+
+     0          accepted; released; the table passes
+     1 to 18    refused, by the test of that number (see enum surfbodkin_test);
+                the other 56 bits are the place, or another number, that goes with it
+     255        held back (release's no); the other 56 bits are the entry
+
+   An acceptance has the number of items (CBOR heads) of the input in bits 32 to 55,
+   and in bits 0 to 31 the size of what was written to `out`, 0 for a check. The yes
+   of a release and a table that passes are plain 0. The functions surfbodkin_number,
+   _place, _count and _low below take an answer apart. */
+#ifndef SURFBODKIN_H
+#define SURFBODKIN_H
+
+#include <stddef.h>
+#include <stdint.h>
+
+#ifdef __cplusplus
+extern "C" {
+#endif
+
+/* Limits, beyond which an input is refused (tests 1, 5 and 6), and sizes. A grant
+   table may have any length. */
+enum surfbodkin_size {
+  SURFBODKIN_BYTES = 4096,       /* of a message or a single ARI */
+  SURFBODKIN_ITEMS = 1024,       /* of a message or a single ARI */
+  SURFBODKIN_CONTAINERS = 12,    /* arrays and maps open at once */
+  SURFBODKIN_TEXT_BYTES = 32768, /* of a text; every text that is written fits */
+  SURFBODKIN_ROW = 16,           /* bytes of a row in a grant table */
+  SURFBODKIN_ENTRY = 24,         /* bytes of an entry in a listing */
+  SURFBODKIN_ENTRIES = 512       /* no listing has more: an entry takes two items */
+};
+
+/* The number in an answer's top byte. Tests are tried in this order: 1, then 2 to 12
+   at each head of the input from the front, then the others. The place is the byte,
+   counted from 0, of the head that failed, unless another is named. (17 is given by
+   none of these functions.) */
+enum surfbodkin_test {
+  SURFBODKIN_ACCEPTED = 0,
+  SURFBODKIN_TOO_LONG = 1,            /* more bytes than the limit; place 0 */
+  SURFBODKIN_CUT = 2,                 /* ends where a head is due, or inside one */
+  SURFBODKIN_NOT_IN_USE = 3,          /* a head that is not used here, as a tag */
+  SURFBODKIN_NOT_SHORTEST = 4,        /* a shorter head or float would do */
+  SURFBODKIN_TOO_MANY_ITEMS = 5,
+  SURFBODKIN_TOO_MANY_CONTAINERS = 6,
+  SURFBODKIN_NOT_ALLOWED = 7,         /* kind, range or length not allowed here */
+  SURFBODKIN_VERSION = 8,             /* the message's version is not 1 */
+  SURFBODKIN_SHORT_STRING = 9,        /* fewer bytes left than the string has */
+  SURFBODKIN_SPELLING = 10,           /* not UTF-8, or no name or identifier */
+  SURFBODKIN_KEY_ORDER = 11,          /* map key not greater than the one before */
+  SURFBODKIN_EMPTY_PARAMETERS = 12,
+  SURFBODKIN_BYTES_AFTER = 13,        /* place: the first byte after the ARI */
+  SURFBODKIN_NO_TEXT = 14,            /* a set (place 0), or a float, has no text */
+  SURFBODKIN_NOT_TEXT = 15,           /* not the text of an accepted ARI; place 0 */
+  SURFBODKIN_ROOM = 16,               /* `out` is too short; place: the size needed */
+  SURFBODKIN_TABLE = 18,              /* grant table; place: a row */
+  SURFBODKIN_HELD = 255               /* not released; place: an entry */
+};
+
+/* Checks a single ARI in binary form.
+     accepted   count: its items
+     refused    1 to 7, 9 to 13 */
+uint64_t surfbodkin_check_single(const uint8_t *input, size_t length);
+
+/* Checks a message: the version 1, then any number of EXECSETs and RPTSETs.
+     accepted   count: its items
+     refused    1 to 12 */
+uint64_t surfbodkin_check_message(const uint8_t *input, size_t length);
+
+/* Lists a message's references, at any depth, in the order of their first bytes:
+   SURFBODKIN_ENTRY bytes each, to be read with surfbodkin_get_entry.
+     accepted   count: the message's items; low: the entries written
+     refused    1 to 12 as check_message
+                16, place: the number of references, if `out` holds fewer whole
+                entries. SURFBODKIN_ENTRIES * SURFBODKIN_ENTRY bytes always suffice */
+uint64_t surfbodkin_list(const uint8_t *message, size_t length,
+                         uint8_t *out, size_t out_length);
+
+/* Checks a grant table: SURFBODKIN_ROW bytes a row, of any length, in any order, as
+   surfbodkin_put_row writes them. Private (negative) namespaces have one subscriber
+   each; equal rows are allowed.
+     0          the table passes
+     refused    18, place: the first row, counted from 0, whose private namespace a
+                row before it grants to another subscriber; or, if table_length is no
+                multiple of 16, the number of whole rows */
+uint64_t surfbodkin_check_table(const uint8_t *table, size_t table_length);
+
+/* Says whether a message may go to a subscriber: whether each listed reference has a
+   namespace number, and for each some row of the table grants that number to that
+   subscriber. Names and relative references are never granted. The rows of others
+   don't matter, nor whether the table passes its check.
+     0          yes: release it
+     255        no, place: the first entry of the listing, counted from 0, that is
+                not granted
+     refused    1 to 12 as check_message
+                18, place: the number of whole rows, if table_length is no multiple
+                of 16 */
+uint64_t surfbodkin_release(const uint8_t *message, size_t length,
+                            const uint8_t *table, size_t table_length,
+                            uint64_t subscriber);
+
+/* Writes the text of a single ARI in binary form, as "ari:/UINT/10", with no zero
+   byte at its end.
+     accepted   count: the ARI's items; low: the text's bytes
+     refused    1 to 7, 9 to 13 as check_single
+                14, place: 0 for an EXECSET or RPTSET, else the first float's head
+                16, place: the text's bytes */
+uint64_t surfbodkin_write_text(const uint8_t *ari, size_t length,
+                               uint8_t *out, size_t out_length);
+
+/* Writes the binary form of the ARI that a text spells. Exactly the texts that
+   surfbodkin_write_text writes are read, no other spelling.
+     accepted   count: the ARI's items; low: its bytes
+     refused    1, the text is longer than SURFBODKIN_TEXT_BYTES
+                15
+                16, place: the ARI's bytes */
+uint64_t surfbodkin_read_text(const uint8_t *text, size_t length,
+                              uint8_t *out, size_t out_length);
+
+/* An answer's top byte: 0, a test's number, or SURFBODKIN_HELD. */
+static inline unsigned surfbodkin_number(uint64_t answer) {
+  return (unsigned)(answer >> 56);
+}
+
+/* Of a refusal the place, or the number that goes with it; of a no the entry. */
+static inline uint64_t surfbodkin_place(uint64_t answer) {
+  return answer & 0x00ffffffffffffff;
+}
+
+/* Of an acceptance the number of items. */
+static inline uint32_t surfbodkin_count(uint64_t answer) {
+  return (uint32_t)(answer >> 32 & 0x00ffffff);
+}
+
+/* Of an acceptance the entries or bytes written. */
+static inline uint32_t surfbodkin_low(uint64_t answer) {
+  return (uint32_t)(answer & 0xffffffff);
+}
+
+static inline uint64_t surfbodkin_get_number(const uint8_t *bytes, size_t length) {
+  uint64_t number = 0;
+  for (size_t k = 0; k < length; k++) number = number << 8 | bytes[k];
+  return number;
+}
+
+/* What stands as a reference's namespace. */
+enum surfbodkin_kind {
+  SURFBODKIN_BY_NUMBER = 0,
+  SURFBODKIN_BY_NAME = 1,
+  SURFBODKIN_RELATIVE = 2
+};
+
+/* An entry of a listing. */
+struct surfbodkin_entry {
+  uint32_t first; /* the reference's first byte in the message */
+  uint32_t after; /* the byte after its last */
+  uint64_t kind;  /* an enum surfbodkin_kind */
+  int64_t space;  /* the namespace number; the place of the name's head; 0 */
+};
+
+/* Entry k, counted from 0, of the listing in `out`. */
+static inline struct surfbodkin_entry surfbodkin_get_entry(const uint8_t *out,
+                                                           size_t k) {
+  const uint8_t *at = out + k * SURFBODKIN_ENTRY;
+  struct surfbodkin_entry entry;
+  uint64_t space = surfbodkin_get_number(at + 16, 8);
+  entry.first = (uint32_t)surfbodkin_get_number(at, 4);
+  entry.after = (uint32_t)surfbodkin_get_number(at + 4, 4);
+  entry.kind = surfbodkin_get_number(at + 8, 8);
+  entry.space = space >> 63 ? -1 - (int64_t)~space : (int64_t)space;
+  return entry;
+}
+
+/* Writes a row of a grant table, SURFBODKIN_ROW bytes. */
+static inline void surfbodkin_put_row(uint8_t *row, uint64_t subscriber,
+                                      int64_t space) {
+  for (int k = 0; k < 8; k++) {
+    row[k] = (uint8_t)(subscriber >> (56 - 8 * k));
+    row[8 + k] = (uint8_t)((uint64_t)space >> (56 - 8 * k));
+  }
+}
+
+#ifdef __cplusplus
+}
+#endif
+
+#endif
