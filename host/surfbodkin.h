@@ -1,7 +1,12 @@
 /* Surfbodkin: a gate that reads AMP messages and ARIs, lists the references in a
    message, and says whether a subscriber's grants cover them.
 
-   Link with libsurfbodkin.a (x86-64). host/relay.c is an example.
+   To use it, link with libsurfbodkin.a (x86-64), which rt staticlib surfbodkin builds
+   as target/staticlib/libsurfbodkin.a:
+
+     cc -std=c11 -o relay relay.c libsurfbodkin.a
+
+   relay.c is an example, and the script run beside it builds and runs that.
 
    WHAT HOLDS OF EVERY CALL
 

@@ -354,7 +354,10 @@ impl Tally {
         }
         println!();
         let mut complete = true;
-        for number in (0..=18).filter(|number| *number != 17).chain([archive::NO]) {
+        for number in (0..=18).chain([archive::NO]) {
+            if !calls.iter().any(|call| call.numbers().contains(&number)) {
+                continue;
+            }
             match number {
                 0 => print!("{:>12}", "accepted"),
                 archive::NO => print!("{:>12}", "no"),

@@ -1,30 +1,38 @@
 //! Texts: those of ARIs, some past a limit, damaged ones, and random words.
 
-use super::{settings, single, Random, Settings};
+use super::{full_list, nested_single, settings, single, Random, Settings};
 use crate::{text_of, Limits, LIMITS};
 
-/// The text of an ARI, most often an accepted one.
+/// The text of an ARI, most often an accepted one, sometimes one about as large as
+/// may be.
 pub fn text(random: &mut Random) -> Vec<u8> {
     // Past a limit it is a text all the same, only not an accepted ARI's.
-    let past = Limits { bytes: 5_000, items: 1_100, containers: 14, ..LIMITS };
+    let past = Limits { bytes: 8_192, items: 2_048, containers: 14, ..LIMITS };
     loop {
-        let mut settings = Settings { floats: false, ..settings(random) };
-        if random.chance(3) {
-            settings = Settings {
-                items: random.pick(&[1_020, 1_030]),
-                bytes: random.pick(&[4_080, 4_096, 4_110, 9_000]),
-                containers: random.pick(&[12, 13]),
-                ..settings
-            };
-        }
-        if let Ok((text, _)) = text_of(&single(random, settings), &past) {
+        let settings = Settings { floats: false, ..settings(random) };
+        let ari = match random.below(40) {
+            0 => {
+                let containers = LIMITS.containers - 1 + random.below(3);
+                nested_single(random, containers)
+            }
+            1 => {
+                let bytes = LIMITS.bytes - 2 + random.below(5);
+                full_list(random, Settings { items: 900, ..settings }, bytes)
+            }
+            2 => {
+                let items = LIMITS.items + random.below(16);
+                full_list(random, Settings { items, string: 2, ..settings }, LIMITS.bytes)
+            }
+            _ => single(random, settings),
+        };
+        if let Ok((text, _)) = text_of(&ari, &past) {
             return text.into_bytes();
         }
     }
 }
 
-/// A text within one byte of the limit that is none, or an accepted one's
-/// longest kind: a text string of bytes that are all escaped.
+/// Zeros up to a text's limit; or a text string of bytes that are all escaped, or a
+/// list of zeros, up to an ARI's.
 pub fn long_text(random: &mut Random) -> Vec<u8> {
     match random.below(3) {
         0 => vec![b'0'; LIMITS.text - 1 + random.below(3)],
