@@ -1,0 +1,5 @@
+pub mod Asking
+pub mod Decided
+pub mod Over
+pub mod Searched
+pub mod Turn
