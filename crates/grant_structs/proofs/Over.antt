@@ -3,7 +3,7 @@
 --     slice ℓ, Own, Shr    the MIR type of a `&ℓ [Grant]`; what one owns; and the fractured borrow in it
 --     own-word, own-int, own-bool, own-grant      what a number, a bool or a row owns is had for nothing, where its relation holds
 --     opens-rows       at entry: the slice's `own` and the token.        A `&` is Copy: Own is kept whole, for the exit and for a callee, and Shr beside it
---     copies-rows      Own twice
+--     copies-rows, copies-words     what a slice owns, twice
 --     looks-row, shuts-row     row i is taken out, with its cell at its place, and put back
 --     at-row           what the code's `16 * i` past the pointer is
 --     answered         what a callee that has no lifetime left: its result's machine value is in hand with what its `ensures` says.        answered-κ     the same of a callee at κ, whose token comes back
@@ -61,6 +61,10 @@ fine s z gs gz = LL.owes T.the-type T′.the-laws (record { subscriber = s; name
 abbrev pub Own : Lft → RefT (List Grant) → Fml
 Own κ a = ShrSlice (named 0) κ R .own a (sliceVal (a .ptr) (length (a .now)) ∷ [])
 
+-- the same of a lent list of words
+abbrev pub Words : Lft → RefT (List ℕ) → Fml
+Words κ a = ShrSlice (named 0) κ u64 .own a (sliceVal (a .ptr) (length (a .now)) ∷ [])
+
 abbrev pub Shr : Lft → List Grant → ℕ → ℕ → Fml
 Shr κ ys b o = fshr-bor κ (λ p. arr-parts (shares R) (length ys) .part p ys b o)
 
@@ -88,8 +92,15 @@ module _ {M : Type 1} {𝓤 : URA M} {H : Heap 𝓤} {A : Atoms 𝓤} {K : Type 
       → Step K W (‵ (Shr κ (a .now) (a .ptr .0) (a .ptr .1)) ∷ ‵ (flft κ q) ∷ ‵ (Own κ a) ∷ Γ) G (‵ (Own κ a) ∷ (‵ (flft κ q) ⊛ ‵ ftrue) ∷ Γ) G
   opens-rows t {κ} a = step (λ s. use1 W (‵ (Own κ a) ⊛ ‵ (Own κ a)) (shr-slice-copy 𝓤 H A W (named 0) κ R .twice a _) $ split t $ move t (2 ∷ []) $ split t $ move t (1 ∷ []) $ drop t $ move t (1 ∷ []) $ fsplit t $ drop t $ fsplit t $ drop t $ s)
 
+  copies : K → (S : RattleType) {κ : Lft} (a : RefT (List (S .Denot)))
+      → let own = ShrSlice (named 0) κ S .own a (sliceVal (a .ptr) (length (a .now)) ∷ []) in Step K W (‵ own ∷ ‵ own ∷ Γ) G (‵ own ∷ Γ) G
+  copies t S {κ} a = let own = ShrSlice (named 0) κ S .own a (sliceVal (a .ptr) (length (a .now)) ∷ []) in step (λ s. use1 W (‵ own ⊛ ‵ own) (shr-slice-copy 𝓤 H A W (named 0) κ S .twice a _) $ split t $ s)
+
   pub copies-rows : K → {κ : Lft} (a : RefT (List Grant)) → Step K W (‵ (Own κ a) ∷ ‵ (Own κ a) ∷ Γ) G (‵ (Own κ a) ∷ Γ) G
-  copies-rows t {κ} a = step (λ s. use1 W (‵ (Own κ a) ⊛ ‵ (Own κ a)) (shr-slice-copy 𝓤 H A W (named 0) κ R .twice a _) $ split t $ s)
+  copies-rows t a = copies t R a
+
+  pub copies-words : K → {κ : Lft} (a : RefT (List ℕ)) → Step K W (‵ (Words κ a) ∷ ‵ (Words κ a) ∷ Γ) G (‵ (Words κ a) ∷ Γ) G
+  copies-words t a = copies t u64 a
 
   pub looks-row : K → Soaks G → {κ : Lft} {q : Share} (ys : List Grant) (i b o : ℕ) → i < length ys
       → ((q′ : Share) → Fine (rowAt ys i) → Seq K W (‵ (cellAt q′ (R .mir) (low (rowAt ys i) ∷ []) b (place 16 o i)) ∷ ‵ (R .own (rowAt ys i) (low (rowAt ys i) ∷ [])) ∷ ‵ (others (shares R) q′ ys i b o)

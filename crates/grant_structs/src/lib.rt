@@ -116,3 +116,71 @@ pub fn check_grants(t: &[Grant]) -> Verdict
     }
     verdict(i, n)
 }
+
+// Two's complement, as a number.
+fn number_of(w: u64) -> i64
+    ensures { λ r. ⌜ r ≡ signed w ⌝ }
+{
+    if w < 9223372036854775808 {
+        return w as i64;
+    }
+    -1 - (18446744073709551615 - w) as i64
+}
+
+// A list of entries is two words each: the kind (0 number, 1 name, 2 relative), and the number in two's complement.
+fn entries(list: &[u64]) -> usize
+    ensures { λ r. ⌜ r ≡ length (now (list .entry)) / 2 ⌝ }
+{
+    list.len() / 2
+}
+
+// The row that grants entry i, if its namespace is a number.
+fn wanted(list: &[u64], i: usize, subscriber: u64) -> Grant
+    requires { ⌜ i < length (now list) / 2 ⌝ }
+    ensures { λ r. ⌜ r ≡ wantedAt (now (list .entry)) i subscriber ⌝ }
+{
+    let namespace = number_of(list[2 * i + 1]);
+    Grant {
+        subscriber,
+        namespace,
+    }
+}
+
+// Entry i isn't granted, where `found` says whether that row stands in the table.
+fn held_back(list: &[u64], i: usize, found: bool) -> bool
+    requires { ⌜ i < length (now list) / 2 ⌝ }
+    ensures { λ r. ⌜ r ≡ heldBack (now (list .entry)) i found ⌝ }
+{
+    if list[2 * i] == 0 {
+        return !found;
+    }
+    true
+}
+
+// What a search over n entries tells that ended at entry i.
+fn judged(i: usize, n: usize) -> Release
+    ensures { λ r. ⌜ told r ≡ heldAt i n ⌝ }
+{
+    if i < n {
+        Release::No(i as u64)
+    } else {
+        Release::Yes
+    }
+}
+
+// Entries by rows: the search is left at the first entry that isn't granted.
+pub fn release_words(list: &[u64], t: &[Grant], subscriber: u64) -> Release
+    ensures { λ r. ⌜ told r ≡ judgeFrom (granted (grants (now (t .entry))) subscriber) 0 (entriesIn (now (list .entry))) ⌝ }
+{
+    let n = entries(list);
+    let rows = t.len();
+    let mut i = 0;
+    'entries: while i < n {
+        let found = some_row(t, rows, false, wanted(list, i, subscriber));
+        if held_back(list, i, found) {
+            break 'entries;
+        }
+        i += 1;
+    }
+    judged(i, n)
+}
