@@ -2,5 +2,6 @@ pub mod Asking
 pub mod Decided
 pub mod Listed
 pub mod Over
+pub mod Same
 pub mod Searched
 pub mod Turn

@@ -48,8 +48,11 @@ kindAt l i = getD l (2 * i) 0
 abbrev pub wordAt : List ℕ → ℕ → ℕ
 wordAt l i = getD l (2 * i + 1) 0
 
+abbrev pub entryBy : ℕ → ℕ → Entry
+entryBy k w = record { first = 0; after = 0; space = spaceBy k w }
+
 abbrev pub entryAt : List ℕ → ℕ → Entry
-entryAt l i = record { first = 0; after = 0; space = spaceBy (kindAt l i) (wordAt l i) }
+entryAt l i = entryBy (kindAt l i) (wordAt l i)
 
 abbrev pub entriesFrom : List ℕ → ℕ → ℕ → List Entry
 entriesFrom l i zero = []
