@@ -1,5 +1,6 @@
 pub mod Asking
 pub mod Decided
+pub mod Lent
 pub mod Listed
 pub mod Over
 pub mod Same

@@ -6,7 +6,7 @@
 --     copies-rows, copies-words     what a slice owns, twice
 --     looks-row, shuts-row     row i is taken out, with its cell at its place, and put back
 --     at-row           what the code's `16 * i` past the pointer is
---     answered         what a callee that has no lifetime left: its result's machine value is in hand with what its `ensures` says.        answered-κ     the same of a callee at κ, whose token comes back
+--     answered         what a callee that has no lifetime left: its result's machine value is in hand with what its `ensures` says.        answered-κ, answered-κκ     the same of a callee at κ, or at two, whose tokens come back
 -- Assumes `Given`.
 use mathlib.Core.Path.{_≡_, refl, sym}
 use Prim.Native.Nat.{ℕ, _<_, _+_, _*_, _^_}
@@ -128,3 +128,10 @@ module _ {M : Type 1} {𝓤 : URA M} {H : Heap 𝓤} {A : Atoms 𝓤} {K : Type 
   answered-κ t z {κ} {q} S u P φ gives says k =
       use1 W (later (some (λ (r : S .Denot). ((‵ (flft κ q) ⊛ ‵ ftrue) ⊛ ‵ (S .own r (u ∷ []))) ⊛ raw (P r)))) gives $ await t z $ pick t (λ r.
       split t $ move t (1 ∷ []) $ use1 W (raw (fact 𝓤 (φ r))) (says r) $ heard t (φ r) (λ e. split t $ move t (1 ∷ []) $ facts t S (Is S) (shows 𝓤 H A S) r (u ∷ []) (λ is. split t $ move t (1 ∷ []) $ drop t $ k r e is)))
+
+  pub answered-κκ : K → Soaks G → {κ κ′ : Lft} {q q′ : Share} {Q : SProp 𝓤} (S : RattleType) (u : Val) (P : S .Denot → SProp 𝓤) (φ : S .Denot → Type 0)
+      → ent 𝓤 Q (H .⇛ (ex 𝓤 (λ (r : S .Denot). sep 𝓤 (sep 𝓤 (sep 𝓤 (A .lft κ q) (sep 𝓤 (A .lft κ′ q′) (emp 𝓤))) (sem 𝓤 H A (S .own r (u ∷ [])))) (P r)))) → ((r : S .Denot) → ent 𝓤 (P r) (fact 𝓤 (φ r)))
+      → ((r : S .Denot) → φ r → Is S r (u ∷ []) → Seq K W (‵ (flft κ q) ∷ ‵ (flft κ′ q′) ∷ Γ) G) → Seq K W (raw Q ∷ Γ) G
+  answered-κκ t z {κ} {κ′} {q} {q′} S u P φ gives says k =
+      use1 W (later (some (λ (r : S .Denot). ((‵ (flft κ q) ⊛ ‵ (flft κ′ q′) ⊛ ‵ ftrue) ⊛ ‵ (S .own r (u ∷ []))) ⊛ raw (P r)))) gives $ await t z $ pick t (λ r.
+      split t $ move t (1 ∷ []) $ use1 W (raw (fact 𝓤 (φ r))) (says r) $ heard t (φ r) (λ e. split t $ move t (1 ∷ []) $ facts t S (Is S) (shows 𝓤 H A S) r (u ∷ []) (λ is. split t $ move t (1 ∷ []) $ split t $ move t (1 ∷ []) $ drop t $ move t (1 ∷ 0 ∷ []) $ k r e is)))

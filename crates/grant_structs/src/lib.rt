@@ -184,3 +184,22 @@ pub fn release_words(list: &[u64], t: &[Grant], subscriber: u64) -> Release
     }
     judged(i, n)
 }
+
+// A table of four rows by value, for a caller that is covered, as a program's main: the array is lent. A shorter table repeats a row.
+pub fn granted_four(t: [Grant; 4], subscriber: u64, namespace: i64) -> bool
+    ensures { λ r. ⌜ r ≡ granted (grants t) subscriber (number namespace) ⌝ }
+{
+    granted(&t, subscriber, namespace)
+}
+
+pub fn check_four(t: [Grant; 4]) -> Verdict
+    ensures { λ r. ⌜ said r ≡ check (grants t) ⌝ }
+{
+    check_grants(&t)
+}
+
+pub fn release_four(list: &[u64], t: [Grant; 4], subscriber: u64) -> Release
+    ensures { λ r. ⌜ told r ≡ judgeFrom (granted (grants t) subscriber) 0 (entriesIn (now (list .entry))) ⌝ }
+{
+    release_words(list, &t, subscriber)
+}
