@@ -1,7 +1,7 @@
 -- What the functions on plain numbers decide, way by way. The borrow checker's tests on an i64 go by its bits.
-use Prim.Native.Nat.{ℕ, _<_}
+use Prim.Native.Nat.{ℕ}
 use mathlib.Core.Path.{_≡_, refl, sym, _∙_, ap}
-use mathlib.Core.Bool.{Bool, true, false, not, _&&_, and-false}
+use mathlib.Core.Bool.{Bool, true, false, not, and-false, and-true}
 use lib.IntN.{ℤ, pos, negsuc}
 use lib.Dec.{eqb}
 use lib.Signed.{ltZ}
@@ -9,7 +9,7 @@ use mir.Syntax.{w64}
 use mir.Val.{ofZ, toZ, SFits}
 use mir.ValLaws.{toZ-ofZ}
 use native.Mathlib.Omega.{arith}
-use borrow.Author.Tests.{eq-eqb, ne-eqb, le-ltb}
+use borrow.Author.Tests.{eq-eqb, ne-eqb, eqb-true, eqb-false, le-ltb}
 use Rattle.grants.specs.Grants.{same, below0, clash, holds}
 use Rattle.grant_structs.specs.declared.Grant.{Grant as Row}
 use Rattle.grant_structs.specs.Structs.{rowBy, grantOf, meetsBy}
@@ -18,24 +18,26 @@ use Rattle.grant_structs.specs.Structs.{rowBy, grantOf, meetsBy}
 same-bits : (a b : ℤ) → SFits w64 a → SFits w64 b → ofZ w64 a ≡ ofZ w64 b → a ≡ b
 same-bits a b fa fb e = sym (toZ-ofZ w64 a fa) ∙ ap (toZ w64) e ∙ toZ-ofZ w64 b fb
 
-pub is-same : (a b : ℤ) → SFits w64 a → SFits w64 b → ofZ w64 a ≡ ofZ w64 b → same a b ≡ true
-is-same a b fa fb e = ap (same a) (sym (same-bits a b fa fb e)) ∙ itself a
+-- the test `b == d`
+same-test : (b d : ℤ) → SFits w64 b → SFits w64 d → eqb (ofZ w64 b) (ofZ w64 d) ≡ same b d
+same-test b d fb fd = go (eqb (ofZ w64 b) (ofZ w64 d)) refl
   where
     itself : (z : ℤ) → same z z ≡ true
     itself (pos n) = eq-eqb n n refl
     itself (negsuc n) = eq-eqb n n refl
 
-pub not-same : (a b : ℤ) → (ofZ w64 a ≡ ofZ w64 b → ⊥) → same a b ≡ false
-not-same a b h = apart a b (λ e. h (ap (ofZ w64) e))
-  where
-    apart : (a b : ℤ) → (a ≡ b → ⊥) → same a b ≡ false
-    apart (pos a) (pos b) n = ne-eqb a b (λ e. n (ap pos e))
-    apart (pos a) (negsuc b) n = refl
-    apart (negsuc a) (pos b) n = refl
-    apart (negsuc a) (negsuc b) n = ne-eqb a b (λ e. n (ap negsuc e))
+    apart : (b d : ℤ) → (b ≡ d → ⊥) → same b d ≡ false
+    apart (pos b) (pos d) n = ne-eqb b d (λ e. n (ap pos e))
+    apart (pos b) (negsuc d) n = refl
+    apart (negsuc b) (pos d) n = refl
+    apart (negsuc b) (negsuc d) n = ne-eqb b d (λ e. n (ap negsuc e))
+
+    go : (t : Bool) → eqb (ofZ w64 b) (ofZ w64 d) ≡ t → t ≡ same b d
+    go true e = sym (ap (same b) (sym (same-bits b d fb fd (eqb-true _ _ e))) ∙ itself b)
+    go false e = sym (apart b d (λ q. eqb-false _ _ e (ap (ofZ w64) q)))
 
 -- the test `d < 0`
-pub below : (d : ℤ) → SFits w64 d → {t : Bool} → ltZ (toZ w64 (ofZ w64 d)) (pos 0) ≡ t → below0 d ≡ t
+below : (d : ℤ) → SFits w64 d → {t : Bool} → ltZ (toZ w64 (ofZ w64 d)) (pos 0) ≡ t → below0 d ≡ t
 below d f e = less d ∙ ap (λ (k : ℤ). ltZ k (pos 0)) (sym (toZ-ofZ w64 d f)) ∙ e
   where
     less : (d : ℤ) → below0 d ≡ ltZ d (pos 0)
@@ -43,8 +45,8 @@ below d f e = less d ∙ ap (λ (k : ℤ). ltZ k (pos 0)) (sym (toZ-ofZ w64 d f)
     less (negsuc a) = refl
 
 module _ (a : ℕ) (b : ℤ) (c : ℕ) (d : ℤ) where
-  pub holds-by : {t : Bool} → a ≡ c → same b d ≡ t → t ≡ holds c d (rowBy a b)
-  holds-by e f = sym (rw (eq-eqb a c e, f))
+  pub holds-by : (a ≡ c) → SFits w64 b → SFits w64 d → eqb (ofZ w64 b) (ofZ w64 d) ≡ holds c d (rowBy a b)
+  holds-by e fb fd = sym (rw (eq-eqb a c e, same-test b d fb fd))
 
   pub holds-not : (a ≡ c → ⊥) → false ≡ holds c d (rowBy a b)
   holds-not n = sym (rw (ne-eqb a c n))
@@ -52,11 +54,11 @@ module _ (a : ℕ) (b : ℤ) (c : ℕ) (d : ℤ) where
   pub clash-same : a ≡ c → false ≡ clash (rowBy c d) (rowBy a b)
   clash-same e = sym (rw (eq-eqb a c e))
 
-  pub clash-by : {t : Bool} → (a ≡ c → ⊥) → same b d ≡ true → below0 d ≡ t → t ≡ clash (rowBy c d) (rowBy a b)
-  clash-by n e f = sym (rw (ne-eqb a c n, e, f))
+  pub clash-by : (a ≡ c → ⊥) → SFits w64 b → SFits w64 d → ltZ (toZ w64 (ofZ w64 d)) (pos 0) ≡ true → eqb (ofZ w64 b) (ofZ w64 d) ≡ clash (rowBy c d) (rowBy a b)
+  clash-by n fb fd e = sym (rw (ne-eqb a c n, below d fd e, and-true (same b d)) (sym (same-test b d fb fd)))
 
-  pub clash-not : same b d ≡ false → false ≡ clash (rowBy c d) (rowBy a b)
-  clash-not e = sym (rw (e, and-false))
+  pub clash-positive : SFits w64 d → ltZ (toZ w64 (ofZ w64 d)) (pos 0) ≡ false → false ≡ clash (rowBy c d) (rowBy a b)
+  clash-positive fd e = sym (rw (below d fd e, and-false (same b d), and-false (not (eqb a c))))
 
 module _ (row g : Row) {z w : ℤ} {r : Bool} (e : z ≡ row .namespace) (f : w ≡ g .namespace) where
   pub meets-clash : (t : Bool) → t ≡ true → r ≡ clash (rowBy (g .subscriber) w) (rowBy (row .subscriber) z) → r ≡ meetsBy t (grantOf g) (grantOf row)

@@ -1,7 +1,7 @@
 // The grant table as a lent slice of grant structs: what it grants, its check, and the release of listed entries.
 // A function over a slice of structs is proved by a walk by hand, so each is thin: what is decided is decided on plain numbers.
 ghost use mathlib.Core.Path.{_≡_};
-ghost use Prim.Native.Nat.{_+_, _*_, _/_, _<_, _≤_};
+ghost use Prim.Native.Nat.{_+_, _-_, _*_, _/_, _<_, _≤_};
 ghost use lib.ListN.{length, take, getD};
 ghost use Rattle.ari.specs.Listing.{number};
 ghost use Rattle.grants.specs.Grants.{some, clash, holds, granted, check, judgeFrom};
@@ -28,11 +28,10 @@ pub enum Release {
 fn holds_both(a: u64, b: i64, subscriber: u64, namespace: i64) -> bool
     ensures { λ r. ⌜ r ≡ holds subscriber namespace (rowBy a b) ⌝ }
 {
-    if a == subscriber {
-        if b == namespace { true } else { false }
-    } else {
-        false
+    if a != subscriber {
+        return false;
     }
+    b == namespace
 }
 
 // The row (a, b) is another subscriber's, in the same negative namespace.
@@ -40,14 +39,12 @@ fn clashes(a: u64, b: i64, subscriber: u64, namespace: i64) -> bool
     ensures { λ r. ⌜ r ≡ clash (rowBy subscriber namespace) (rowBy a b) ⌝ }
 {
     if a == subscriber {
-        false
-    } else {
-        if b == namespace {
-            if namespace < 0 { true } else { false }
-        } else {
-            false
-        }
+        return false;
     }
+    if namespace < 0 {
+        return b == namespace;
+    }
+    false
 }
 
 // A row against g: whether it clashes, or else whether it holds both of g's numbers.
