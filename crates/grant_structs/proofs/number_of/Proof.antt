@@ -1,0 +1,16 @@
+use borrow.Author.Needs.{needs}
+use native.Mathlib.Omega.{arith}
+use Rattle.grant_structs.proofs.Listed.{low-word, high-fits, high-word}
+use Rattle.grant_structs.proofs.number_of.Statement.{statement}
+use Rattle.grant_structs.proofs.number_of.Tie as tie
+
+pub number-of-spec : {M : Type 1} → statement M
+number-of-spec =
+    tie.close
+    (tie.spec
+    (λ c. search needs)
+    (λ c. search (low-word, needs))
+    (λ c. search needs)
+    (λ c. search needs)
+    (λ c. search (high-fits, needs))
+    (λ c. search (high-word, needs)))
