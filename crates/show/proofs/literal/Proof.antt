@@ -1,0 +1,49 @@
+-- `show::literal` meets its contract: by its kind.
+use borrow.Author.Needs.{needs}
+use Rattle.show.proofs.Putting.{matching}
+use Rattle.show.proofs.literal.Statement.{statement}
+use Rattle.show.proofs.literal.Tie as tie
+
+pub literal-spec : {M : Type 1} → statement M
+literal-spec =
+    tie.close
+    (tie.spec
+    (λ c. search needs)
+    (λ c. search needs)
+    (λ c κs. search needs)
+    (λ c. search needs)
+    (λ c. search needs)
+    (λ c κs. search needs)
+    (λ c. search needs)
+    (λ c. search needs)
+    (λ c κs. search needs)
+    (λ c. search needs)
+    (λ c. search needs)
+    (λ c κs. search needs)
+    (λ c. search needs)
+    (λ c κs. search needs)
+    (λ c. search needs)
+    (λ c. search needs)
+    (λ c κs. search needs)
+    (λ c. search needs)
+    (λ c. search needs)
+    (λ c κs. search needs)
+    (λ c. search needs)
+    (λ c. search needs)
+    (λ c κs. search needs)
+    (λ c. search needs)
+    (λ c. search (matching, needs))
+    (λ c. search needs)
+    (λ c. search (matching, needs))
+    (λ c. search needs)
+    (λ c. search (matching, needs))
+    (λ c. search needs)
+    (λ c. search (matching, needs))
+    (λ c. search needs)
+    (λ c. search (matching, needs))
+    (λ c. search needs)
+    (λ c. search (matching, needs))
+    (λ c. search needs)
+    (λ c. search (matching, needs))
+    (λ c. search needs)
+    (λ c. search (matching, needs)))

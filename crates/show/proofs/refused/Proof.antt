@@ -1,0 +1,17 @@
+-- `show::refused` meets its contract: text after text.
+use borrow.Author.Needs.{needs}
+use Rattle.show.proofs.Putting.{putting}
+use Rattle.show.proofs.refused.Statement.{statement}
+use Rattle.show.proofs.refused.Tie as tie
+
+pub refused-spec : {M : Type 1} → statement M
+refused-spec =
+    tie.close
+    (tie.spec
+    (λ c. search needs)
+    (λ c κs. search needs)
+    (λ c κs. search needs)
+    (λ c κs. search needs)
+    (λ c κs. search needs)
+    (λ c. search needs)
+    (λ c. search (putting, needs)))

@@ -1,0 +1,286 @@
+// What the programs write. Each writer puts its text into a lent buffer from a place on and answers the place behind it; what
+// the buffer has no room for is left out.
+ghost use mathlib.Core.Path.{_≡_};
+ghost use mathlib.Core.List.{[], _∷_, _++_};
+ghost use Prim.Native.Nat.{_-_, min, max};
+ghost use lib.ListN.{length};
+ghost use Rattle.show.specs.Put.{Put};
+ghost use Rattle.show.specs.Texts.{repeated, decimalOf, hexOf, negativeOf, simpleOf, literalOf, containerOf, kindOf, numbersOf, lineOf, refusedOf, acceptedOf, fieldOf};
+ghost use Rattle.show.specs.Listing.{freshOf, checkOf, foundOf, foundLine, answerLine, Listed};
+
+pub fn put_byte(out: &mut [u8], at: usize, b: u8) -> usize
+    ensures { λ r. ⌜ Put (now (out .entry)) at (b ∷ []) (now (out .exit)) r ⌝ }
+{
+    if at < out.len() {
+        out[at] = b;
+        return at + 1;
+    }
+    at
+}
+
+pub fn put(out: &mut [u8], at: usize, text: &[u8]) -> usize
+    ensures { λ r. ⌜ Put (now (out .entry)) at (now (text .entry)) (now (out .exit)) r ⌝ }
+{
+    let mut p = at;
+    let mut i = 0;
+    while i < text.len() {
+        p = put_byte(out, p, text[i]);
+        i += 1;
+    }
+    p
+}
+
+// A text, so many times.
+fn repeat(out: &mut [u8], at: usize, text: &[u8], times: usize) -> usize
+    ensures { λ r. ⌜ Put (now (out .entry)) at (repeated times (now (text .entry))) (now (out .exit)) r ⌝ }
+{
+    let mut p = at;
+    let mut i = 0;
+    while i < times {
+        p = put(out, p, text);
+        i += 1;
+    }
+    p
+}
+
+pub fn decimal(out: &mut [u8], at: usize, n: u64) -> usize
+    ensures { λ r. ⌜ Put (now (out .entry)) at (decimalOf n) (now (out .exit)) r ⌝ }
+{
+    let mut digits = [0u8; 20];
+    let k = io::decimal(n, &mut digits);
+    put(out, at, &digits[..k])
+}
+
+// Lower case, zeros in front up to the width, from 1 to 16.
+pub fn hex(out: &mut [u8], at: usize, n: u64, width: usize) -> usize
+    ensures { λ r. ⌜ Put (now (out .entry)) at (hexOf (min (max width 1) 16) n) (now (out .exit)) r ⌝ }
+{
+    let mut digits = [0u8; 16];
+    let k = io::hex(n, width, &mut digits);
+    put(out, at, &digits[..k])
+}
+
+// The number -1 - n.
+pub fn negative(out: &mut [u8], at: usize, n: u64) -> usize
+    ensures { λ r. ⌜ Put (now (out .entry)) at (negativeOf n) (now (out .exit)) r ⌝ }
+{
+    if n == u64::MAX {
+        return put(out, at, b"-18446744073709551616");
+    }
+    let p = put_byte(out, at, b'-');
+    decimal(out, p, n + 1)
+}
+
+// A word and a number.
+pub fn numbered(out: &mut [u8], at: usize, word: &[u8], n: u64) -> usize
+    ensures { λ r. ⌜ Put (now (out .entry)) at (now (word .entry) ++ decimalOf n) (now (out .exit)) r ⌝ }
+{
+    let p = put(out, at, word);
+    decimal(out, p, n)
+}
+
+// A word and a float's bits.
+fn bits(out: &mut [u8], at: usize, word: &[u8], n: u64, width: usize) -> usize
+    ensures { λ r. ⌜ Put (now (out .entry)) at (now (word .entry) ++ hexOf (min (max width 1) 16) n) (now (out .exit)) r ⌝ }
+{
+    let p = put(out, at, word);
+    hex(out, p, n, width)
+}
+
+fn negated(out: &mut [u8], at: usize, word: &[u8], n: u64) -> usize
+    ensures { λ r. ⌜ Put (now (out .entry)) at (now (word .entry) ++ negativeOf n) (now (out .exit)) r ⌝ }
+{
+    let p = put(out, at, word);
+    negative(out, p, n)
+}
+
+fn simple(out: &mut [u8], at: usize, n: u64) -> usize
+    ensures { λ r. ⌜ Put (now (out .entry)) at (simpleOf n) (now (out .exit)) r ⌝ }
+{
+    match n {
+        20 => put(out, at, b"false"),
+        21 => put(out, at, b"true"),
+        22 => put(out, at, b"null"),
+        23 => put(out, at, b"undefined"),
+        _ => numbered(out, at, b"simple ", n),
+    }
+}
+
+fn literal(out: &mut [u8], at: usize, l: items::Literal) -> usize
+    ensures { λ r. ⌜ Put (now (out .entry)) at (literalOf l) (now (out .exit)) r ⌝ }
+{
+    match l {
+        items::Literal::Unsigned(n) => numbered(out, at, b"unsigned ", n),
+        items::Literal::Negative(n) => negated(out, at, b"negative ", n),
+        items::Literal::Bytes(n) => numbered(out, at, b"bytes ", n),
+        items::Literal::Text(n) => numbered(out, at, b"text ", n),
+        items::Literal::Simple(n) => simple(out, at, n),
+        items::Literal::Half(n) => bits(out, at, b"half ", n, 4),
+        items::Literal::Single(n) => bits(out, at, b"single ", n, 8),
+        items::Literal::Double(n) => bits(out, at, b"double ", n, 16),
+    }
+}
+
+fn container(out: &mut [u8], at: usize, c: items::Container) -> usize
+    ensures { λ r. ⌜ Put (now (out .entry)) at (containerOf c) (now (out .exit)) r ⌝ }
+{
+    match c {
+        items::Container::Array(n) => numbered(out, at, b"array ", n),
+        items::Container::Map(n) => numbered(out, at, b"map ", n),
+    }
+}
+
+// An item's kind and its data.
+pub fn kind(out: &mut [u8], at: usize, k: items::Kind) -> usize
+    ensures { λ r. ⌜ Put (now (out .entry)) at (kindOf k) (now (out .exit)) r ⌝ }
+{
+    match k {
+        items::Kind::Literal(l) => literal(out, at, l),
+        items::Kind::Container(c) => container(out, at, c),
+        items::Kind::Reference(n) => numbered(out, at, b"reference ", n),
+    }
+}
+
+// A number and a space.
+pub fn field(out: &mut [u8], at: usize, n: u64) -> usize
+    ensures { λ r. ⌜ Put (now (out .entry)) at (fieldOf n) (now (out .exit)) r ⌝ }
+{
+    let p = decimal(out, at, n);
+    put_byte(out, p, b' ')
+}
+
+// The numbers of an item's line.
+fn numbers(out: &mut [u8], at: usize, k: usize, x: items::Record) -> usize
+    ensures { λ r. ⌜ Put (now (out .entry)) at (numbersOf k x) (now (out .exit)) r ⌝ }
+{
+    let a = field(out, at, k as u64);
+    let b = field(out, a, x.first as u64);
+    let c = field(out, b, x.after as u64);
+    field(out, c, x.around as u64)
+}
+
+// An item's line: its number, first byte, byte after, containers around, kind. The indent stands before the kind, once for each
+// container around.
+pub fn item(out: &mut [u8], at: usize, k: usize, x: items::Record, indent: &[u8]) -> usize
+    ensures { λ r. ⌜ Put (now (out .entry)) at (lineOf k x (now (indent .entry))) (now (out .exit)) r ⌝ }
+{
+    let a = numbers(out, at, k, x);
+    let b = repeat(out, a, indent, x.around);
+    let g = x.kind;
+    let c = kind(out, b, g);
+    put_byte(out, c, b'\n')
+}
+
+// The line of a refusal.
+pub fn refused(out: &mut [u8], at: usize, number: u64, place: usize) -> usize
+    ensures { λ r. ⌜ Put (now (out .entry)) at (refusedOf number place) (now (out .exit)) r ⌝ }
+{
+    let a = put(out, at, b"refused ");
+    let b = field(out, a, number);
+    let c = decimal(out, b, place as u64);
+    put_byte(out, c, b'\n')
+}
+
+// The line of an acceptance.
+pub fn accepted(out: &mut [u8], at: usize, count: usize) -> usize
+    ensures { λ r. ⌜ Put (now (out .entry)) at (acceptedOf count) (now (out .exit)) r ⌝ }
+{
+    let a = numbered(out, at, b"accepted ", count as u64);
+    put_byte(out, a, b'\n')
+}
+
+// Writes the part of the buffer before a place to standard output.
+pub fn flush(out: &[u8], at: usize) -> bool {
+    if at < out.len() {
+        return io::write_all(1, &out[0..at]);
+    }
+    io::write_all(1, out)
+}
+
+// The most bytes that a line of an item or an answer has.
+const LINE: usize = 256;
+
+// How many bytes are left from a place on.
+fn left(out: &[u8], at: usize) -> usize
+    ensures { λ r. ⌜ r ≡ length (now (out .entry)) - at ⌝ }
+{
+    if at < out.len() {
+        return out.len() - at;
+    }
+    0
+}
+
+// A place with room for a line: where too little is left, what stands there is written out first.
+pub fn fresh_line(out: &[u8], at: usize) -> usize
+    ensures { λ r. ⌜ r ≡ freshOf at (length (now (out .entry))) ⌝ }
+{
+    if LINE <= left(out, at) {
+        return at;
+    }
+    flush(out, at);
+    0
+}
+
+// A single ARI or a message is checked.
+pub fn check(s: &[u8], single: bool) -> read::Answer
+    ensures { λ r. ⌜ r ≡ checkOf single (now (s .entry)) ⌝ }
+{
+    if single {
+        return read::check_single(s);
+    }
+    read::check_message(s)
+}
+
+fn find(s: &[u8], single: bool, k: usize) -> items::Found
+    ensures { λ r. ⌜ r ≡ foundOf single (now (s .entry)) k ⌝ }
+{
+    if single {
+        return items::item_single(s, k);
+    }
+    items::item_message(s, k)
+}
+
+fn item_line(out: &mut [u8], at: usize, s: &[u8], single: bool, k: usize, indent: &[u8]) -> usize
+    ensures { λ r. ⌜ Put (now (out .entry)) (freshOf at (length (now (out .entry)))) (foundLine k (now (indent .entry)) (foundOf single (now (s .entry)) k)) (now (out .exit)) r ⌝ }
+{
+    let p = fresh_line(out, at);
+    let f = find(s, single, k);
+    match f {
+        items::Found::Item { record, count: _ } => item(out, p, k, record, indent),
+        items::Found::Refused {
+            number: _,
+            place: _,
+        } => p,
+    }
+}
+
+// The lines of the first items of an input, so many.
+pub fn items(
+    out: &mut [u8],
+    at: usize,
+    s: &[u8],
+    single: bool,
+    count: usize,
+    indent: &[u8],
+) -> usize
+    ensures { λ r. ⌜ Listed single (now (s .entry)) (now (indent .entry)) (now (out .entry)) at count (now (out .exit)) r ⌝ }
+{
+    let mut p = at;
+    let mut k = 0;
+    while k < count {
+        p = item_line(out, p, s, single, k, indent);
+        k += 1;
+    }
+    p
+}
+
+// The line of an answer.
+pub fn answer(out: &mut [u8], at: usize, a: read::Answer) -> usize
+    ensures { λ r. ⌜ Put (now (out .entry)) (freshOf at (length (now (out .entry)))) (answerLine a) (now (out .exit)) r ⌝ }
+{
+    let p = fresh_line(out, at);
+    match a {
+        read::Answer::Accepted(n) => accepted(out, p, n),
+        read::Answer::Refused { number, place } => refused(out, p, number, place),
+    }
+}
