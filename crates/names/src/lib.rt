@@ -19,7 +19,7 @@ fn starts_name(b: u8) -> bool
     b <= b'z'
 }
 
-fn continues_name(b: u8) -> bool
+pub fn continues_name(b: u8) -> bool
     ensures { λ r. ⌜ r ≡ continuesName b ⌝ }
 {
     if b < b'-' {
