@@ -1,11 +1,15 @@
 // How one item is spelled: each function puts a text into lent room and answers the place behind it. Where the room ends, nothing is put.
 ghost use mathlib.Core.Path.{_≡_};
+ghost use mathlib.Core.Bool.{cond};
 ghost use mathlib.Core.List.{[], _∷_};
 ghost use Prim.Native.Nat.{_+_, _<_, _≤_, _^_};
 ghost use lib.ListN.{length};
 ghost use Rattle.spell.specs.Put.{Put, headOf};
 ghost use Rattle.text.specs.Chars.{digits, decimal, integer, hex, hexes, bare, escape, each, textString, byteString, simpleText, literalText, nameText};
 ghost use Rattle.text.specs.Text.{typeName};
+ghost use mathlib.Core.List.{_++_};
+ghost use Rattle.cbor.specs.Head.{isContainer};
+ghost use Rattle.spell.specs.Ways.{wayAt, ariText, opening, spaceText, beforeBy, closing, afterBy};
 
 // One byte.
 pub fn put(out: &mut [u8], at: usize, x: u8) -> usize
@@ -215,6 +219,198 @@ fn put_type(out: &mut [u8], at: usize, arg: u64) -> usize
         18 => put_all(out, at, b"AM"),
         20 => put_all(out, at, b"EXECSET"),
         21 => put_all(out, at, b"RPTSET"),
+        _ => at,
+    }
+}
+
+// The way in which a slot's heads are spelled.
+pub fn way_of(slot: u64) -> u8
+    requires { ⌜ slot < 72 ⌝ }
+    ensures { λ r. ⌜ r ≡ wayAt slot ⌝ }
+{
+    let ways = [
+        0u8,
+        1,
+        1,
+        1,
+        1,
+        2,
+        2,
+        2,
+        2,
+        5,
+        6,
+        6,
+        7,
+        7,
+        8,
+        8,
+        9,
+        10,
+        10,
+        1,
+        1,
+        0,
+        0,
+        0,
+        0,
+        0,
+        0,
+        0,
+        3,
+        3,
+        3,
+        3,
+        3,
+        3,
+        3,
+        3,
+        3,
+        3,
+        3,
+        3,
+        3,
+        3,
+        4,
+        3,
+        3,
+        3,
+        3,
+        3,
+        3,
+        3,
+        3,
+        3,
+        3,
+        3,
+        3,
+        3,
+        3,
+        3,
+        3,
+        3,
+        3,
+        3,
+        3,
+        3,
+        4,
+        3,
+        3,
+        3,
+        3,
+        3,
+        3,
+        3,
+    ];
+    ways[slot as usize]
+}
+
+fn is_container(kind: u8) -> bool
+    ensures { λ r. ⌜ r ≡ isContainer kind ⌝ }
+{
+    if kind < 4 {
+        return false;
+    }
+    kind <= 5
+}
+
+fn put_ari(out: &mut [u8], at: usize, kind: u8, arg: u64, s: &[u8]) -> usize
+    ensures { λ r. ⌜ Put (now (out .entry)) (now (out .exit)) at r (ariText kind arg (now (s .entry))) ⌝ }
+{
+    if kind == 4 {
+        if arg == 2 {
+            return put(out, at, b'/');
+        }
+        return at;
+    }
+    put_literal(out, at, kind, arg, s)
+}
+
+fn put_value(out: &mut [u8], at: usize, kind: u8, arg: u64, s: &[u8]) -> usize
+    ensures { λ r. ⌜ Put (now (out .entry)) (now (out .exit)) at r (opening kind (literalText (headOf kind arg) (now (s .entry)))) ⌝ }
+{
+    if is_container(kind) {
+        return put(out, at, b'(');
+    }
+    put_literal(out, at, kind, arg, s)
+}
+
+fn put_label(out: &mut [u8], at: usize, kind: u8, s: &[u8]) -> usize
+    ensures { λ r. ⌜ Put (now (out .entry)) (now (out .exit)) at r (opening kind (now (s .entry))) ⌝ }
+{
+    if is_container(kind) {
+        return put(out, at, b'(');
+    }
+    put_all(out, at, s)
+}
+
+fn put_absolute(out: &mut [u8], at: usize, kind: u8, arg: u64, s: &[u8]) -> usize
+    ensures { λ r. ⌜ Put (now (out .entry)) (now (out .exit)) at r (47 ∷ 47 ∷ [] ++ nameText (headOf kind arg) (now (s .entry))) ⌝ }
+{
+    let q = put_all(out, at, b"//");
+    put_name(out, q, kind, arg, s)
+}
+
+fn put_space(out: &mut [u8], at: usize, kind: u8, arg: u64, s: &[u8]) -> usize
+    ensures { λ r. ⌜ Put (now (out .entry)) (now (out .exit)) at r (spaceText kind arg (now (s .entry))) ⌝ }
+{
+    if kind == 6 {
+        return put(out, at, b'.');
+    }
+    put_absolute(out, at, kind, arg, s)
+}
+
+// What a head, with its string, writes before its members.
+pub fn put_before(out: &mut [u8], at: usize, way: u8, kind: u8, arg: u64, s: &[u8]) -> usize
+    ensures { λ r. ⌜ Put (now (out .entry)) (now (out .exit)) at r (beforeBy way kind arg (now (s .entry))) ⌝ }
+{
+    match way {
+        1 => put_ari(out, at, kind, arg, s),
+        2 => put_type(out, at, arg),
+        3 => put_value(out, at, kind, arg, s),
+        4 => put_label(out, at, kind, s),
+        5 => put_absolute(out, at, kind, arg, s),
+        6 => put_space(out, at, kind, arg, s),
+        7 => put_name(out, at, kind, arg, s),
+        8 => put_name(out, at, kind, arg, s),
+        9 => put(out, at, b'('),
+        10 => put_literal(out, at, kind, arg, s),
+        _ => at,
+    }
+}
+
+fn put_comma(out: &mut [u8], at: usize, more: bool) -> usize
+    ensures { λ r. ⌜ Put (now (out .entry)) (now (out .exit)) at r (cond more (44 ∷ []) []) ⌝ }
+{
+    if more {
+        return put(out, at, b',');
+    }
+    at
+}
+
+fn put_closing(out: &mut [u8], at: usize, kind: u8) -> usize
+    ensures { λ r. ⌜ Put (now (out .entry)) (now (out .exit)) at r (closing kind) ⌝ }
+{
+    if is_container(kind) {
+        return put(out, at, b')');
+    }
+    at
+}
+
+// What it writes after them; whether more is due beside it.
+pub fn put_after(out: &mut [u8], at: usize, way: u8, kind: u8, more: bool) -> usize
+    ensures { λ r. ⌜ Put (now (out .entry)) (now (out .exit)) at r (afterBy way kind more) ⌝ }
+{
+    match way {
+        1 => put_comma(out, at, more),
+        2 => put(out, at, b'/'),
+        3 => put_closing(out, at, kind),
+        4 => put_closing(out, at, kind),
+        5 => put(out, at, b'/'),
+        6 => put(out, at, b'/'),
+        7 => put(out, at, b'/'),
+        9 => put(out, at, b')'),
+        10 => put(out, at, b'='),
         _ => at,
     }
 }
