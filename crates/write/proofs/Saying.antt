@@ -64,7 +64,7 @@ unfolding members
 inside-is i l = refl
 
 -- the bytes behind a part
-behind : (b : List ℕ) (p : ℕ) (u z : List ℕ) → drop p b ≡ u ++ z → drop (p + length u) b ≡ z
+pub behind : (b : List ℕ) (p : ℕ) (u z : List ℕ) → drop p b ≡ u ++ z → drop (p + length u) b ≡ z
 behind b p u z e = sym (drop-drop (length u) p b) ∙ rw e (drop-append-seam u z)
 
 -- A turn: the head was taken, what it writes was put around its members.

@@ -26,12 +26,12 @@ use Rattle.write.specs.declared.Item.the-variants.{Taken, Nothing}
 use Rattle.write.specs.Said.{Inside, ItemAt}
 
 -- a head that may be written is found as it is
-found : (b : List ℕ) (p : ℕ) (l : Lead) (y : List ℕ) → Rattle.cbor.specs.Head.Sound l → drop p b ≡ leadBytes l ++ y → headAt b p ≡ heads.Good (l .kind) (l .arg) (p + size l)
+pub found : (b : List ℕ) (p : ℕ) (l : Lead) (y : List ℕ) → Rattle.cbor.specs.Head.Sound l → drop p b ≡ leadBytes l ++ y → headAt b p ≡ heads.Good (l .kind) (l .arg) (p + size l)
 unfolding headAt
 found b p l y h e = rw (e, getHead-back y h)
 
 -- the end of its string
-end-is : (b : List ℕ) (p : ℕ) (l : Lead) (str z : List ℕ) → length str ≡ stringSize l → drop p b ≡ leadBytes l ++ (str ++ z) → p ≤ length b
+pub end-is : (b : List ℕ) (p : ℕ) (l : Lead) (str z : List ℕ) → length str ≡ stringSize l → drop p b ≡ leadBytes l ++ (str ++ z) → p ≤ length b
     → stringEnd b (l .kind) (l .arg) (p + size l) ≡ At (p + (size l + length str))
 unfolding stringEnd stringSize
 end-is b p l str z e f h = go (within 2 3 (l .kind)) e
@@ -45,7 +45,7 @@ end-is b p l str z e f h = go (within 2 3 (l .kind)) e
     go false q = ap At (omega arith)
 
 -- where a string ends
-end-in : (b : List ℕ) (k a n : ℕ) {q : ℕ} → n ≤ length b → stringEnd b k a n ≡ At q → (n ≤ q) × (q ≤ length b)
+pub end-in : (b : List ℕ) (k a n : ℕ) {q : ℕ} → n ≤ length b → stringEnd b k a n ≡ At q → (n ≤ q) × (q ≤ length b)
 unfolding stringEnd
 end-in b k a n {q} h e = go (within 2 3 k) (ltb (length b - n) a) refl e
   where
