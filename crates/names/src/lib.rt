@@ -41,7 +41,7 @@ fn name_bits(x: u64) -> u64
     LETTERS
 }
 
-fn continues_name(b: u8) -> bool
+pub fn continues_name(b: u8) -> bool
     ensures { λ r. ⌜ r ≡ continuesName b ⌝ }
 {
     let x = wide(b);

@@ -94,7 +94,7 @@ fn end_of(s: &[u8], arg: u64, next: usize) -> End
 }
 
 // Test 9: where the string behind a head ends. What is no string has none.
-fn string_end(s: &[u8], kind: u8, arg: u64, next: usize) -> End
+pub fn string_end(s: &[u8], kind: u8, arg: u64, next: usize) -> End
     requires { ⌜ next ≤ length (now s) ⌝ }
     ensures { λ r. ⌜ r ≡ stringEnd (now (s .entry)) kind arg next ⌝ }
 {
@@ -211,7 +211,7 @@ fn late(
 }
 
 // A container that may not be opened.
-fn is_too_deep(kind: u8, depth: usize) -> bool
+pub fn is_too_deep(kind: u8, depth: usize) -> bool
     ensures { λ r. ⌜ r ≡ (isContainer kind && eqb depth 0) ⌝ }
 {
     if kind < 4 {

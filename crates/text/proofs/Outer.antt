@@ -72,7 +72,7 @@ inward-type k t e n =
     or-left true b e f = refl
     or-left false b e f = absurd (true≢false (sym f ∙ e))
 
-inward : {l : Lead} {s : List ℕ} {ms : Items} → Ari alone l s ms → isSet (item l s ms none) ≡ false → Ari inside l s ms
+pub inward : {l : Lead} {s : List ℕ} {ms : Items} → Ari alone l s ms → isSet (item l s ms none) ≡ false → Ari inside l s ms
 unfolding isSet
 inward (literal f p) n = literal refl p
 inward (namespace-ref f h p) n = namespace-ref refl h p
@@ -120,7 +120,7 @@ unschemed {l} {s} {ms} a = go (isRelative (item l s ms none)) refl
     go false e = refl
 
 -- An accepted ARI that has a text form, and its text.
-texted : (g : Items) → form g ≡ spelled → (isSet g ≡ false) × (floatIn (spots g false (due (ari alone) 0) 0 0) ≡ spelled)
+pub texted : (g : Items) → form g ≡ spelled → (isSet g ≡ false) × (floatIn (spots g false (due (ari alone) 0) 0 0) ≡ spelled)
 unfolding form
 texted g e = no-float (isSet g) 0 (floatIn (spots g false (due (ari alone) 0) 0 0)) e
 

@@ -1,0 +1,143 @@
+-- The text that was put is the one that the definition gives, and it is handed over or refused for want of room.
+use Prim.Native.Nat.{ℕ, _+_, _-_, _≤_, _<_}
+use mathlib.Core.Path.{_≡_, refl, sym, _∙_, ap}
+use mathlib.Core.Bool.{Bool, true, false, cond}
+use mathlib.Core.List.{List, [], _∷_, _++_}
+use native.Mathlib.Omega.{arith}
+use lib.ListN.{length, take, drop}
+use lib.Seq.{sets, sets-eq, length-take-le, take-append-seam}
+use lib.Dec.{ltb}
+use borrow.Author.Tests.{lt-ltb, le-ltb}
+use Rattle.cbor.specs.Byte.{all, isByte}
+use Rattle.ari.specs.Table.{rule, due, ari, inside}
+use Rattle.ari.specs.Reader.{single, end, push}
+use Rattle.ari.specs.Items.{Items, encode, depth}
+use Rattle.ari.specs.Decode.{decode}
+use Rattle.ari.specs.Rules.{Is, Stands, an-ari}
+use Rattle.ari.specs.Limits.{firstLimits}
+use Rattle.ari.proofs.Due.{Fit, Due, unsplit}
+use Rattle.ari.proofs.RulesFit.{here-ari}
+use Rattle.text.specs.Text.{texts, anAriDue, isRelative, isSet, textOf}
+use Rattle.text.specs.Answer.{Spelled, Output, refused, output, writeText, lent}
+use Rattle.text.proofs.Outer.{inward, texted}
+use Rattle.text.proofs.Round.{write-exactly, first-short}
+use Rattle.spell.specs.Put.{Put}
+use Rattle.write.specs.declared.Spelling.{Spelling}
+use Rattle.write.specs.declared.Spelling.the-variants.{Has, None}
+use Rattle.write.specs.declared.Written.{Written}
+use Rattle.write.specs.declared.Written.the-variants.{Text, Refused}
+use Rattle.write.specs.Written.{writtenOf, roomAfter, spellingBy, spellingOf, schemeOf, Whole, noneOf}
+
+-- a refusal is handed on
+pub none-refused : {f : Spelling} {r p : ℕ} → f ≡ None r p → Refused r p ≡ noneOf f
+none-refused e = rw e
+
+pub none-has : {f : Spelling} {x : Bool} {n : ℕ} → f ≡ Has x n → Refused 0 0 ≡ noneOf f
+none-has e = rw e
+
+module _ (b : List ℕ) {f : Spelling} (e : f ≡ spellingOf b) where
+  refused-output : (o : Output) {r p : ℕ} (x : Bool) → spellingBy x o ≡ None r p → o ≡ refused r p
+  refused-output (refused r p) x q = cc
+  refused-output (output u n) x q = absurd (let z : _≡_ {A = ℕ} 0 1 = cc in omega arith)
+
+  writes-none : {r p : ℕ} → f ≡ None r p → writeText firstLimits b ≡ refused r p
+  unfolding spellingOf
+  writes-none q = refused-output (writeText firstLimits b) (isRelative (decode b)) (sym e ∙ q)
+
+  pub answers-none : {r p : ℕ} (n : ℕ) {w : Written} → f ≡ None r p → w ≡ noneOf f → w ≡ writtenOf (lent n (writeText firstLimits b))
+  answers-none n q m = m ∙ rw (q, writes-none q)
+
+  pub keeps-room : {r p : ℕ} (room : List ℕ) (n : ℕ) → f ≡ None r p → room ≡ roomAfter room (lent n (writeText firstLimits b))
+  keeps-room room n q = rw (writes-none q)
+
+-- room for a text
+module _ (t : List ℕ) (size count : ℕ) (room : List ℕ) (h : size ≤ length t) where
+  sized : length (take size t) ≡ size
+  sized = length-take-le size t h
+
+  pub no-room : length room < size → Refused 16 size ≡ writtenOf (lent (length room) (output (take size t) count))
+  no-room g = rw (sized, lt-ltb (length room) size g)
+
+  pub no-room-kept : length room < size → room ≡ roomAfter room (lent (length room) (output (take size t) count))
+  no-room-kept g = rw (sized, lt-ltb (length room) size g)
+
+  module _ (g : size ≤ length room) {r : ℕ} {room′ : List ℕ} (p₀ : Put room room′ 0 r (take (size - 0) t)) where
+    p : Put room room′ 0 r (take size t)
+    p = let z : size - 0 ≡ size = omega arith in rw z at p₀
+
+    put-told : (r ≡ 0 + length (take size t)) × (room′ ≡ sets room 0 (take size t))
+    put-told = p .told (omega (arith, sized))
+
+    pub room-enough : Text r count ≡ writtenOf (lent (length room) (output (take size t) count))
+    room-enough = rw (sized, le-ltb (length room) size g) (ap (λ (x : ℕ). Text x count) (omega (arith, put-told .0, sized)))
+
+    pub room-filled : room′ ≡ roomAfter room (lent (length room) (output (take size t) count))
+    room-filled =
+        let z : 0 + length (take size t) ≡ length (take size t) = omega arith in
+        let y : room′ ≡ take size t ++ drop (length (take size t)) room = put-told .1 ∙ sets-eq (take size t) room 0 (omega (arith, sized)) ∙ rw z in
+        let q : ltb (length room) (length (take size t)) ≡ false = le-ltb (length room) (length (take size t)) (omega (arith, sized)) in
+        rw q y
+
+-- an ARI with a text form may stand inside another
+inside-fit : {g : Items} → Stands single g → isSet g ≡ false → Fit g false anAriDue []
+unfolding rule
+inside-fit (an-ari a) n = let h = here-ari [] (inward a n) in (h .good, h .holds, tt)
+
+record Text-of (b : List ℕ) (x : Bool) (n : ℕ) : Type 0 where
+  text : List ℕ
+  is-written : writeText firstLimits b ≡ output text n
+  relative-is : x ≡ isRelative (decode b)
+
+module _ (b : List ℕ) (bs : all isByte b ≡ true) {f : Spelling} (e : f ≡ spellingOf b) {x : Bool} {n : ℕ} (q : f ≡ Has x n) where
+  output-has : (o : Output) (y : Bool) → writeText firstLimits b ≡ o → y ≡ isRelative (decode b) → spellingBy y o ≡ Has x n → Text-of b x n
+  output-has (refused r p) y m k c = absurd (let z : _≡_ {A = ℕ} 0 1 = cc in omega arith)
+  output-has (output u i) y m k c =
+      let z : i ≡ n = cc in
+      let w : y ≡ x = cc in
+      record { text = u; is-written = m ∙ rw z; relative-is = sym w ∙ k }
+
+  the-text : Text-of b x n
+  unfolding spellingOf
+  the-text = output-has (writeText firstLimits b) (isRelative (decode b)) refl refl (sym e ∙ q)
+
+  abbrev t : List ℕ
+  t = the-text .text
+
+  facts : Spelled firstLimits t b n
+  facts = write-exactly firstLimits bs .0 (the-text .is-written)
+
+  stands-inside : Due (decode b) (push anAriDue [] 12 end)
+  stands-inside =
+      unsplit (decode b) false anAriDue [] 12 (inside-fit (facts .is .stands) (texted (decode b) (facts .has-text) .0)) (facts .is .shallow)
+
+  module _ {r : ℕ} {room room′ : List ℕ} (w : Whole b x r room room′) (h : 32768 ≤ length room) where
+    put-it : Put room room′ 0 r t
+    unfolding textOf
+    put-it = rw (facts .the-text) at (rw (the-text .relative-is) at (w .told (decode b) stands-inside (facts .is .bytes)))
+
+    short : length t ≤ 32768
+    short = first-short t b n bs (the-text .is-written)
+
+    told : (r ≡ 0 + length t) × (room′ ≡ sets room 0 t)
+    told = put-it .told (omega (arith, short))
+
+    pub in-scratch : r ≤ length room′
+    in-scratch = omega (arith, told .0, short, put-it .size)
+
+    taken : take r room′ ≡ t
+    taken =
+        let z : r ≡ length t = omega (arith, told .0) in
+        let y : 0 + length t ≡ length t = omega arith in
+        let c : room′ ≡ t ++ drop (length t) room = told .1 ∙ sets-eq t room 0 (omega (arith, short)) ∙ rw y in
+        rw (z, c) (take-append-seam t (drop (length t) room))
+
+    handed-is : output (take r room′) n ≡ writeText firstLimits b
+    handed-is = rw taken (sym (the-text .is-written))
+
+    pub answers-text : (m : ℕ) {a : Written} → a ≡ writtenOf (lent m (output (take r room′) n)) → a ≡ writtenOf (lent m (writeText firstLimits b))
+    answers-text m c = c ∙ ap (λ (o : Output). writtenOf (lent m o)) handed-is
+
+    pub fills-room : (m : ℕ) (z : List ℕ) {z′ : List ℕ} → z′ ≡ roomAfter z (lent m (output (take r room′) n)) → z′ ≡ roomAfter z (lent m (writeText firstLimits b))
+    fills-room m z c = c ∙ ap (λ (o : Output). roomAfter z (lent m o)) handed-is
+
+pub ruleset handing = (none-refused, none-has, answers-none, keeps-room, no-room, no-room-kept, room-enough, room-filled, in-scratch, answers-text, fills-room)

@@ -1,0 +1,4 @@
+pub mod Taking
+pub mod Saying
+pub mod Forming
+pub mod Handing
