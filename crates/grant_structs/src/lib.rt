@@ -1,8 +1,8 @@
 // The grant table as a lent slice of grant structs: what it grants, its check, and the release of listed entries.
 // A function over a slice of structs is proved by a walk by hand, so each is thin: what is decided is decided on plain numbers.
 ghost use mathlib.Core.Path.{_≡_};
-ghost use Prim.Native.Nat.{_+_, _-_, _*_, _/_, _<_, _≤_};
-ghost use lib.ListN.{length, take, getD};
+ghost use Prim.Native.Nat.{_/_, _<_, _≤_};
+ghost use lib.ListN.{length, take};
 ghost use Rattle.ari.specs.Listing.{number};
 ghost use Rattle.grants.specs.Grants.{some, clash, holds, granted, check, judgeFrom};
 ghost use Rattle.grants.specs.Bytes.{signed};
