@@ -197,7 +197,7 @@ pub fn flush(out: &[u8], at: usize) -> bool {
     io::write_all(1, out)
 }
 
-// The most bytes that a line of an item or an answer has.
+// The room that is kept for a line: no line of an item or an answer is longer.
 const LINE: usize = 256;
 
 // How many bytes are left from a place on.
