@@ -1,18 +1,18 @@
 -- Release: entries by rows.
-use Prim.Native.Nat.{ℕ, suc, _+_, _-_, _<_, _≤_}
+use Prim.Native.Nat.{ℕ, _+_, _-_, _<_, _≤_}
 use mathlib.Core.Path.{_≡_, refl, sym, _∙_, ap}
 use mathlib.Core.Bool.{Bool, true, false, cond}
-use mathlib.Core.List.{List, [], _∷_}
+use mathlib.Core.List.{List}
 use native.Mathlib.Omega.{arith}
 use native.Mathlib.Numerals.{add-one}
 use lib.ListN.{length, getD, drop}
 use Rattle.cbor.specs.Answer.{headAt}
-use Rattle.ari.specs.Listing.{Space, number, name, relative, Entry, listing}
+use Rattle.ari.specs.Listing.{Space, number, name, relative, listing}
 use Rattle.ari.proofs.Named.{InRange}
 use Rattle.grants.specs.Grants.{Grant, some, holds, granted, yes, no, judgeFrom}
 use Rattle.grants.specs.Bytes.{word, signed, rowOf, rows}
 use Rattle.grants.proofs.Signed.{signed-word}
-use Rattle.grants.proofs.Ways.{some-start, some-end, some-here, some-behind}
+use Rattle.grants.proofs.Ways.{some-end, some-here, some-behind}
 use Rattle.list.specs.declared.Inside.{Inside}
 use Rattle.list.specs.declared.Inside.the-variants.{Nothing, At}
 use Rattle.list.specs.declared.Namespace.{Namespace}

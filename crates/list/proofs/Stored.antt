@@ -1,10 +1,10 @@
 -- Big-endian numbers as they are stored.
-use Prim.Native.Nat.{ℕ, zero, suc, _+_, _*_, _/_, _%_, _^_, _<_, _≤_}
-use mathlib.Core.Path.{_≡_, refl, sym, _∙_, ap}
-use mathlib.Core.List.{List, [], _∷_, _++_}
+use Prim.Native.Nat.{ℕ, zero, suc, _+_, _*_, _/_, _%_, _^_, _<_}
+use mathlib.Core.Path.{_≡_, sym, _∙_, ap}
+use mathlib.Core.List.{List, _++_}
 use native.Mathlib.Omega.{arith}
 use native.Mathlib.Nat.{mod-lt, mod-eq-of-lt, mul-comm, div-div-eq-div-mul}
-use lib.ListN.{length, set}
+use lib.ListN.{set}
 use lib.Pow.{pow-add}
 use lib.Seq.{sets}
 use lib.Arith.{digits-div, digits-mod, mod-mul}

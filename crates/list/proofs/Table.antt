@@ -1,5 +1,5 @@
 -- Each entry of the table, and the listing.
-use Prim.Native.Nat.{ℕ, zero, suc, _+_, _-_, _*_, _/_, _%_, _<_, _≤_}
+use Prim.Native.Nat.{ℕ, zero, suc, _+_, _-_, _/_, _%_, _<_, _≤_}
 use mathlib.Core.Path.{_≡_, refl, sym, _∙_, ap}
 use mathlib.Core.Bool.{Bool, true, false, not, _&&_, cond}
 use mathlib.Core.List.{List, [], _∷_, _++_, append-assoc, map, List·Memᴰ, List·Memᴰ·head, List·Memᴰ·tail, Memᴰ·map}
@@ -19,7 +19,7 @@ use Rattle.ari.specs.Reader.{Limits, aMessage}
 use Rattle.ari.specs.Items.{Items, none, item, encode, Spot, insideAt, spotsOf}
 use Rattle.ari.specs.Decode.{decode}
 use Rattle.ari.specs.Rules.{Is}
-use Rattle.ari.specs.Listing.{Space, number, name, relative, Entry, spaceAt, spaceIn, referring, listing}
+use Rattle.ari.specs.Listing.{Space, number, name, relative, Entry, spaceIn, referring, listing}
 use Rattle.ari.specs.Listing as ari
 use Rattle.ari.proofs.Spots.{Covers, spot-covers, spot-count}
 use Rattle.ari.proofs.Referring.{placeOf, found-references}

@@ -1,13 +1,12 @@
 -- The entries as they are written.
 use Prim.Native.Nat.{ℕ, _+_, _*_, _/_, _%_, _<_, _≤_}
 use mathlib.Core.Path.{_≡_, refl, sym, _∙_, ap}
-use mathlib.Core.List.{List, [], _∷_, _++_, append-assoc, append-nil}
+use mathlib.Core.List.{List, [], _++_, append-assoc, append-nil}
 use native.Mathlib.Omega.{arith}
 use lib.ListN.{length, getD, take, drop, length-append, take-append-drop}
 use lib.Seq.{sets, sets-eq, length-sets, length-take-le, take-at, drop-at, drop-drop}
 use Rattle.cbor.specs.Byte.{be}
 use Rattle.cbor.specs.Answer.{headAt}
-use Rattle.cbor.proofs.ByteLaws.{length-be}
 use Rattle.ari.specs.Listing.{Space, number, name, relative, Entry, listing}
 use Rattle.grants.specs.Bytes.{spaceBytes, entryBytes}
 use Rattle.list.specs.declared.Inside.{Inside}

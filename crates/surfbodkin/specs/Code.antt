@@ -1,6 +1,6 @@
 -- An answer as one number: the top byte is 0 for an acceptance, the refusal's number, or 255 for release's no; the low 56 bits are the
 -- refusal's place or number, the entry of a no, or the item count (bits 32 to 55) with a length or a number of entries (bits 0 to 31).
-use Prim.Native.Nat.{ℕ, _+_, _-_, _*_, _^_, _<_, _≤_, min}
+use Prim.Native.Nat.{ℕ, _+_, _-_, _*_, _^_, _≤_, min}
 use Rattle.ari.specs.Reader.{refuse, accept}
 use Rattle.ari.specs.Reader as reader
 use Rattle.read.specs.declared.Answer.{Answer}
