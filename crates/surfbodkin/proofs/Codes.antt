@@ -1,5 +1,5 @@
 -- The codes of answers.
-use Prim.Native.Nat.{ℕ, suc, _/_, _<_}
+use Prim.Native.Nat.{ℕ, suc, _/_, _≤_, _<_}
 use mathlib.Core.Path.{_≡_, refl, _∙_}
 use mathlib.Core.Bool.{Bool, true, false, cond}
 use mathlib.Core.List.{List, [], _∷_}
@@ -29,7 +29,16 @@ use Rattle.list.specs.declared.Released.{Released}
 use Rattle.list.specs.declared.Released.the-variants as released
 use Rattle.list.specs.Answers.{listedOf, listOf, said}
 use Rattle.list.proofs.Table.{few-listed}
-use Rattle.surfbodkin.specs.Code.{refusalCode, countCode, checkCode, answerCode, Bounded, listCode, Few, tableCode, releaseCode, Small}
+use Rattle.ari.specs.Reader.{single}
+use Rattle.ari.specs.Items.{Items}
+use Rattle.text.specs.Text.{Form, spelled, none-at, form, textOf}
+use Rattle.text.specs.Answer.{Output, output, spellOut, writeText, lent}
+use Rattle.text.specs.Answer as answers
+use Rattle.text.proofs.Round.{first-short, write-exactly}
+use Rattle.write.specs.Written.{writtenOf}
+use Rattle.write.specs.declared.Written.{Written}
+use Rattle.write.specs.declared.Written.the-variants as writtens
+use Rattle.surfbodkin.specs.Code.{refusalCode, countCode, checkCode, answerCode, Bounded, listCode, Few, tableCode, releaseCode, Small, outputCode, writtenCode, Short}
 
 module _ {a : Answer} where
   pub few : Bounded a → {n : ℕ} → a ≡ Accepted n → n < 16777216
@@ -129,3 +138,65 @@ small-release b t s e = rw e (go (read firstLimits aMessage b) (numbered firstLi
     go : (x : reader.Answer) → Numbered firstLimits x → Small (whole x t (judge x (granted (rows t) s) (listing b)))
     go (refuse r p) h = omega (arith, h .bounds)
     go (accept n) h = rest (ragged t)
+
+-- a text's
+module _ {a : Written} where
+  pub short-items : Short a → {k n : ℕ} → a ≡ writtens.Text k n → n < 16777216
+  short-items h e = let z = rw e at h in omega arith
+
+  pub short-text : Short a → {k n : ℕ} → a ≡ writtens.Text k n → k < 4294967296
+  short-text h e = let z = rw e at h in omega arith
+
+  pub written-small : Short a → {r p : ℕ} → a ≡ writtens.Refused r p → r < 256
+  written-small h e = let z = rw e at h in omega arith
+
+  pub text-code : {k n : ℕ} → a ≡ writtens.Text k n → {c : ℕ} → c ≡ countCode n k → c ≡ writtenCode a
+  text-code e q = rw e q
+
+  pub written-refused-code : {r p : ℕ} → a ≡ writtens.Refused r p → {c : ℕ} → c ≡ refusalCode r p → c ≡ writtenCode a
+  written-refused-code e q = rw e q
+
+pub ruleset written-ways = (short-items, short-text, written-small, text-code, written-refused-code)
+
+output-coded-of : (x : Output) → writtenCode (writtenOf x) ≡ outputCode x
+output-coded-of (Output.refused r p) = refl
+output-coded-of (output u n) = refl
+
+pub output-coded : (x : Output) {a : Written} → a ≡ writtenOf x → {c : ℕ} → c ≡ writtenCode a → c ≡ outputCode x
+output-coded x e q = q ∙ rw e (output-coded-of x)
+
+-- what is written, before room is looked at
+abbrev Low : Output → Type 0
+Low (Output.refused r p) = r ≤ 14
+Low (output u n) = Unit {0}
+
+low-written : (y : reader.Answer) → Numbered firstLimits y → (g : Items) → Low (answers.written y g)
+low-written (refuse r p) h g = omega (arith, h .bounds)
+low-written (accept n) h g = go (form g)
+  where
+    go : (f : Form) → Low (spellOut f (textOf g) n)
+    go spelled = tt
+    go (none-at p) = omega arith
+
+low : (b : List ℕ) → Low (writeText firstLimits b)
+unfolding writeText
+low b = low-written (read firstLimits single b) (numbered firstLimits single b) (decode b)
+
+abbrev Brief : Output → Type 0
+Brief (Output.refused r p) = r ≤ 14
+Brief (output u n) = (length u ≤ 32768) × (n ≤ 1024)
+
+brief : (b : List ℕ) → all isByte b ≡ true → (x : Output) → writeText firstLimits b ≡ x → Brief x
+brief b bs (Output.refused r p) e = rw e at (low b)
+brief b bs (output u n) e = (first-short u b n bs e, write-exactly firstLimits bs .0 e .is .few)
+
+room-of : (room : ℕ) (x : Output) → Brief x → Short (writtenOf (lent room x))
+room-of room (Output.refused r p) h = omega (arith, h)
+room-of room (output u n) h = go (ltb room (length u))
+  where
+    go : (t : Bool) → Short (writtenOf (cond t (Output.refused 16 (length u)) (output u n)))
+    go true = omega arith
+    go false = h
+
+pub short-of : (b : List ℕ) (room : ℕ) → all isByte b ≡ true → {a : Written} → a ≡ writtenOf (lent room (writeText firstLimits b)) → Short a
+short-of b room bs e = rw e (room-of room (writeText firstLimits b) (brief b bs (writeText firstLimits b) refl))

@@ -8,6 +8,10 @@ use Rattle.read.specs.declared.Answer.the-variants.{Accepted, Refused}
 use Rattle.grants.specs.Grants.{Check, passes, Release, yes, no}
 use Rattle.list.specs.declared.Listed.{Listed}
 use Rattle.list.specs.declared.Listed.the-variants as listed
+use lib.ListN.{length}
+use Rattle.text.specs.Answer.{Output, output}
+use Rattle.write.specs.declared.Written.{Written}
+use Rattle.write.specs.declared.Written.the-variants as written
 
 -- what no machine can hold is the greatest number of 56 bits
 abbrev pub refusalCode : ℕ → ℕ → ℕ
@@ -51,3 +55,16 @@ abbrev pub Small : Release → Type 0
 Small yes = Unit {0}
 Small (no k) = Unit {0}
 Small (Release.refused r p) = r ≤ 18
+
+-- the item count and the text's length
+abbrev pub outputCode : Output → ℕ
+outputCode (Output.refused r p) = refusalCode r p
+outputCode (output u n) = countCode n (length u)
+
+abbrev pub writtenCode : Written → ℕ
+writtenCode (written.Refused r p) = refusalCode r p
+writtenCode (written.Text k n) = countCode n k
+
+abbrev pub Short : Written → Type 0
+Short (written.Refused r p) = r ≤ 16
+Short (written.Text k n) = (k ≤ 32768) × (n ≤ 1024)

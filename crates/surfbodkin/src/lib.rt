@@ -6,11 +6,15 @@ ghost use Rattle.ari.specs.Limits.{firstLimits};
 ghost use Rattle.grants.specs.Bytes.{checkBytes, releaseBytes};
 ghost use Rattle.grants.specs.Verdict as verdict;
 ghost use Rattle.list.specs.Answers.{listOf, writtenOf, said};
-ghost use Rattle.surfbodkin.specs.Code.{refusalCode, countCode, checkCode, answerCode, Bounded, listCode, Few, tableCode, releaseCode, Small};
+ghost use lib.ListN.{length};
+ghost use Rattle.text.specs.Answer.{writeText, lent};
+ghost use Rattle.write.specs.Written.{roomAfter};
+ghost use Rattle.surfbodkin.specs.Code.{refusalCode, countCode, checkCode, answerCode, Bounded, listCode, Few, tableCode, releaseCode, Small, outputCode, writtenCode, Short};
 use grants::Verdict;
 use list::Listed;
 use list::Released;
 use read::Answer;
+use write::Written;
 
 // The top byte is the refusal's number, the low 56 bits its place.
 fn refusal_code(number: u64, low: u64) -> u64
@@ -105,4 +109,22 @@ pub extern "C" fn surfbodkin_release(message: &[u8], table: &[u8], subscriber: u
     ensures { λ r. ⌜ r ≡ releaseCode (releaseBytes firstLimits (now (message .entry)) (now (table .entry)) subscriber) ⌝ }
 {
     release_code(list::release(message, table, subscriber))
+}
+
+fn written_code(a: Written) -> u64
+    requires { ⌜ Short a ⌝ }
+    ensures { λ r. ⌜ r ≡ writtenCode a ⌝ }
+{
+    match a {
+        Written::Text { length, count } => count_code(count, length),
+        Written::Refused { number, place } => refusal_code(number, place as u64),
+    }
+}
+
+#[no_mangle]
+pub extern "C" fn surfbodkin_write_text(ari: &[u8], out: &mut [u8]) -> u64
+    ensures { λ r. ⌜ r ≡ outputCode (lent (length (now (out .entry))) (writeText firstLimits (now (ari .entry)))) ⌝ }
+    ensures { λ r. ⌜ now (out .exit) ≡ roomAfter (now (out .entry)) (lent (length (now (out .entry))) (writeText firstLimits (now (ari .entry)))) ⌝ }
+{
+    written_code(write::write_text(ari, out))
 }
