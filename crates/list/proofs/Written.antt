@@ -5,6 +5,7 @@ use mathlib.Core.List.{List, [], _++_, append-assoc, append-nil}
 use native.Mathlib.Omega.{arith}
 use lib.ListN.{length, getD, take, drop, length-append, take-append-drop}
 use lib.Seq.{sets, sets-eq, length-sets, length-take-le, take-at, drop-at, drop-drop}
+use Rattle.cbor.proofs.ByteLaws.{be-join}
 use Rattle.cbor.specs.Byte.{be}
 use Rattle.cbor.specs.Answer.{headAt}
 use Rattle.ari.specs.Listing.{Space, number, name, relative, Entry, listing}
@@ -14,7 +15,6 @@ use Rattle.list.specs.declared.Inside.the-variants.{Nothing, At}
 use Rattle.list.specs.declared.Namespace.{Namespace}
 use Rattle.list.specs.Answers.{listingBytes}
 use Rattle.list.specs.Entries.{insideFrom, namespaceOf, Tabled, listingFrom}
-use Rattle.list.proofs.Stored.{be-join}
 use Rattle.list.proofs.Table.{spaceCode, Here, from-start, from-end, no-reference, here}
 
 space-bytes : (x : Space) → be 8 (spaceCode x .kind) ++ be 8 (spaceCode x .word) ≡ spaceBytes x
