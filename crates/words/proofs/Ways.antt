@@ -1,16 +1,16 @@
 -- The ways of reading are those of the slots; and what the head of a slot promises.
 use Prim.Native.Nat.{ℕ, zero, suc, _+_, _≤_, _<_}
 use mathlib.Core.Path.{_≡_, refl, sym, _∙_, ap}
-use mathlib.Core.Bool.{Bool, true, false, cond}
+use mathlib.Core.Bool.{Bool, true, false, _&&_, cond}
 use mathlib.Core.List.{List, [], _∷_, _++_}
 use native.Mathlib.Omega.{arith}
 use lib.ListN.{length, drop, List·getD-eq-default}
 use lib.Dec.{ltb, leb, eqb}
-use borrow.Author.Tests.{ltb-true, ltb-false, eqb-true, ne-eqb}
+use borrow.Author.Tests.{ltb-true, ltb-false, leb-true, eqb-true, ne-eqb}
 use mir.Val.{boolByte}
 use Rattle.cbor.specs.Byte.{within}
 use Rattle.cbor.specs.Head.{leadBytes, isContainer}
-use Rattle.cbor.proofs.ByteLaws.{within-true}
+use Rattle.cbor.proofs.ByteLaws.{and-true, within-true}
 use Rattle.cbor.proofs.Computed.{allFrom, all-at}
 use Rattle.ari.specs.Table.{Slot, version, ari, type, value, namespace, objectNamespace, objectType, objectId, params, key, entry, nonce, setTime, target, report, reportTime, reportSource}
 use Rattle.slots.specs.Code.{slots, slotOf}
@@ -19,7 +19,9 @@ use Rattle.spell.specs.Put.{Put}
 use Rattle.spell.specs.Ways.{ways, wayAt, closing, afterBy}
 use Rattle.spell.proofs.Puts.{put-both}
 use Rattle.spell.proofs.Spelled.{wayOf, way-is}
-use Rattle.text.specs.Parse.{leadOf, headOf, literalOf, nameOf, typeOf, typeNumber, Taken, takeWord, takeAt}
+use Rattle.text.specs.Chars.{ascii}
+use Rattle.text.specs.Text.{Name, name, names}
+use Rattle.text.specs.Parse.{front, leadOf, same, numberIn, typeOf, typeNumber, Taken, takeAt}
 use Rattle.words.specs.declared.Word.{Word}
 use Rattle.words.specs.declared.Item.{Item}
 use Rattle.words.specs.Words.{NextTo, strBy, Bounded, Found, groupOf, takeWay, Read}
@@ -92,6 +94,33 @@ module _ (i : ℕ) where
 
   pub group-map : (i ≡ 45 → ⊥) → (i ≡ 67 → ⊥) → 5 ≡ groupOf i
   group-map n m = rw (ne-eqb i 45 n, ne-eqb i 67 m)
+
+-- a type's number is one of the table's
+mostNumbers : List Name → Bool
+mostNumbers [] = true
+mostNumbers (name n s ∷ es) = leb n 21 && mostNumbers es
+
+number-most : (es : List Name) (u : List ℕ) → mostNumbers es ≡ true → numberIn es u ≤ 21
+unfolding mostNumbers
+number-most [] u e = omega arith
+number-most (name n s ∷ es) u e =
+    let (p, q) = and-true (leb n 21) (mostNumbers es) e in
+    go (same u (ascii s)) (leb-true n 21 p) (number-most es u q)
+  where
+    go : (t : Bool) → n ≤ 21 → numberIn es u ≤ 21 → cond t n (numberIn es u) ≤ 21
+    go true p q = p
+    go false p q = q
+
+type-most : (u : List ℕ) → typeNumber u ≤ 21
+unfolding typeNumber names mostNumbers
+type-most u = number-most names u refl
+
+pub type-arg : (i : ℕ) (u : List ℕ) → within 5 8 i ≡ true → takeAt (slotOf i) u .head .lead .arg ≤ 21
+unfolding takeWay typeOf leadOf
+type-arg i u h =
+    let (a, b) = within-true 5 8 i h in
+    let w : wayAt i ≡ 2 = eqb-true (wayAt i) 2 (all-at 4 5 (λ j. eqb (wayAt j) 2) refl i a (omega arith)) in
+    rw (taken-is i u, w) (type-most (front u))
 
 -- the bytes of a word
 pub word-put : {a b c : List ℕ} {at q r : ℕ} (t : List ℕ) (x : Word) → Put a b at q (leadBytes (leadOf (x .kind) (x .arg)))
