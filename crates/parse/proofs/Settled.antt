@@ -63,6 +63,15 @@ module _ (a b : List ℕ) where
     pub all-agree : length a ≤ i → true ≡ same a b
     all-agree h = rw (beyond a i h, beyond b i (omega arith)) at e
 
+-- bytes that were told, and bytes that were not
+module _ (b : List ℕ) (n : ℕ) (room : List ℕ) {y : Bool} where
+  pub told-given : {a : Written} → y ≡ true → a ≡ writtenOf (lent (length room) (output b n)) → a ≡ writtenOf (lent (length room) (cond y (output b n) (refused 15 0)))
+  told-given e o = rw e o
+
+  pub told-filled : {room′ : List ℕ} → y ≡ true → room′ ≡ roomAfter room (lent (length room) (output b n))
+      → room′ ≡ roomAfter room (lent (length room) (cond y (output b n) (refused 15 0)))
+  told-filled e o = rw e o
+
 -- too many bytes are no ARI
 overlong : (b : List ℕ) → 4096 < length b → writeText firstLimits b ≡ refused 1 0
 unfolding writeText read
@@ -117,18 +126,12 @@ module _ (t : List ℕ) where
         judged : readText firstLimits t ≡ cond y (output c n) (refused 15 0)
         judged = sym settled ∙ rw (← handed-is c cs e q w h, ← d)
 
-        pub other-text : (m : ℕ) → not y ≡ true → Refused 15 0 ≡ writtenOf (lent m (readText firstLimits t))
-        other-text m g = rw (judged, not-true y g)
+        pub text-answers : (m : ℕ) {a : Written} → a ≡ writtenOf (lent m (cond y (output c n) (refused 15 0))) → a ≡ writtenOf (lent m (readText firstLimits t))
+        text-answers m o = rw judged o
 
-        pub other-kept : (room : List ℕ) (m : ℕ) → not y ≡ true → room ≡ roomAfter room (lent m (readText firstLimits t))
-        other-kept room m g = rw (judged, not-true y g)
-
-        pub same-text : (m : ℕ) {a : Written} → not y ≡ false → a ≡ writtenOf (lent m (output c n)) → a ≡ writtenOf (lent m (readText firstLimits t))
-        same-text m g o = rw (judged, not-false y g) o
-
-        pub same-filled : (room : List ℕ) (m : ℕ) {room′ : List ℕ} → not y ≡ false → room′ ≡ roomAfter room (lent m (output c n))
+        pub text-fills : (room : List ℕ) (m : ℕ) {room′ : List ℕ} → room′ ≡ roomAfter room (lent m (cond y (output c n) (refused 15 0)))
             → room′ ≡ roomAfter room (lent m (readText firstLimits t))
-        same-filled room m g o = rw (judged, not-false y g) o
+        text-fills room m o = rw judged o
 
   -- a text that is too long; a candidate that is
   pub long-refused : (m : ℕ) → 32768 < length t → Refused 1 0 ≡ writtenOf (lent m (readText firstLimits t))

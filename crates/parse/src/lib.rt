@@ -1,5 +1,6 @@
 // An ARI's text is read: one walk along the slots puts a candidate's bytes, which count only if they are an accepted ARI whose own text is the text that was read.
 ghost use mathlib.Core.Path.{_≡_};
+ghost use mathlib.Core.Bool.{cond};
 ghost use Prim.Native.Nat.{_≤_};
 ghost use lib.ListN.{length, drop};
 ghost use Rattle.ari.specs.Table.{due};
@@ -10,7 +11,7 @@ ghost use Rattle.slots.proofs.Right.{IsSlot};
 ghost use Rattle.read.specs.Walks.{insideLevel};
 ghost use Rattle.spell.specs.Put.{Put};
 ghost use Rattle.text.specs.Parse.{same, level, parse, candidate};
-ghost use Rattle.text.specs.Answer.{readText, lent};
+ghost use Rattle.text.specs.Answer.{refused, output, readText, lent};
 ghost use Rattle.write.specs.Written.{writtenOf, roomAfter};
 ghost use Rattle.parse.specs.Parsed.{Parsed, Tried, Begins};
 use write::Spelling;
@@ -126,6 +127,20 @@ fn same(a: &[u8], b: &[u8]) -> bool
     true
 }
 
+// Bytes are handed over, if they are what was told; or they are refused.
+fn give(told: bool, b: &[u8], count: usize, out: &mut [u8]) -> Written
+    ensures { λ r. ⌜ r ≡ writtenOf (lent (length (now (out .entry))) (cond told (output (now (b .entry)) count) (refused 15 0))) ⌝ }
+    ensures { λ r. ⌜ now (out .exit) ≡ roomAfter (now (out .entry)) (lent (length (now (out .entry))) (cond told (output (now (b .entry)) count) (refused 15 0))) ⌝ }
+{
+    if told {
+        return write::hand_over(b, count, out);
+    }
+    Written::Refused {
+        number: 15,
+        place: 0,
+    }
+}
+
 // The candidate's bytes are handed over, if they are an ARI whose text is t.
 fn confirm(t: &[u8], b: &[u8], text: &mut [u8], out: &mut [u8]) -> Written
     requires { ⌜ (32768 ≤ length (now text)) × Tried (now t) (now b) ⌝ }
@@ -140,13 +155,8 @@ fn confirm(t: &[u8], b: &[u8], text: &mut [u8], out: &mut [u8]) -> Written
         };
     };
     let size = write::put_text(b, relative, text);
-    if !same(&text[0..size], t) {
-        return Written::Refused {
-            number: 15,
-            place: 0,
-        };
-    }
-    write::hand_over(b, count, out)
+    let told = same(&text[0..size], t);
+    give(told, b, count, out)
 }
 
 fn read_in(t: &[u8], bytes: &mut [u8], text: &mut [u8], out: &mut [u8]) -> Written

@@ -1,6 +1,6 @@
 use Rattle.read.proofs.Whole.{all-bytes}
 use Rattle.write.proofs.Handing.{in-scratch}
-use Rattle.parse.proofs.Settled.{none-confirmed, none-kept, other-text, other-kept, same-text, same-filled}
+use Rattle.parse.proofs.Settled.{none-confirmed, none-kept, text-answers, text-fills}
 use borrow.Author.Needs.{needs}
 use Rattle.parse.proofs.confirm.Statement.{statement}
 use Rattle.parse.proofs.confirm.Tie as tie
@@ -19,28 +19,15 @@ part-same-end c =
 
 returns-2 : tie.Need-returns-2
 returns-2 c =
-    let ts = all-bytes (c .before .before .before .before .before .before .before .before .before .before .before .before .before .before .before .before .args .t .now) (c .before .before .before .before .before .before .before .before .before .before .before .before .before .before .before .shared-slice-known .given) in
-    let cs = all-bytes (c .before .before .before .before .before .before .before .before .before .before .before .before .before .before .before .before .args .b .now) (c .before .before .before .before .before .before .before .before .before .before .before .before .before .before .shared-slice-known2 .given) in
-    let j = c .before .before .before .before .before .before .before .before .before .before .before .judge .ensures in
-    let k = c .before .before .before .before .before .before .before .before .before .before .before .before .before .before .before .before .pre in
-    let f = c .before .before .before .before .before .before .before .before .before .f .given .1 in
-    let w = c .before .before .before .before .before .before .put-text .ensures in
-    let d = c .before .same .ensures in
-    let g = c .if1 .taken in
-    (other-text _ ts _ cs (k .1) j f w (k .0) d _ g, other-kept _ ts _ cs (k .1) j f w (k .0) d _ _ g)
-
-returns-3 : tie.Need-returns-3
-returns-3 c =
-    let ts = all-bytes (c .before .before .before .before .before .before .before .before .before .before .before .before .before .before .before .before .before .before .before .before .args .t .now) (c .before .before .before .before .before .before .before .before .before .before .before .before .before .before .before .before .before .before .before .shared-slice-known .given) in
-    let cs = all-bytes (c .before .before .before .before .before .before .before .before .before .before .before .before .before .before .before .before .before .before .before .before .args .b .now) (c .before .before .before .before .before .before .before .before .before .before .before .before .before .before .before .before .before .before .shared-slice-known2 .given) in
-    let j = c .before .before .before .before .before .before .before .before .before .before .before .before .before .before .before .judge .ensures in
-    let k = c .before .before .before .before .before .before .before .before .before .before .before .before .before .before .before .before .before .before .before .before .pre in
-    let f = c .before .before .before .before .before .before .before .before .before .before .before .before .before .f .given .1 in
-    let w = c .before .before .before .before .before .before .before .before .before .before .put-text .ensures in
-    let d = c .before .before .before .before .before .same .ensures in
-    let g = c .before .before .before .before .if1 .left in
-    let o = c .before .before .hand-over .ensures in
-    (same-text _ ts _ cs (k .1) j f w (k .0) d _ g (o .0), same-filled _ ts _ cs (k .1) j f w (k .0) d _ _ g (o .1))
+    let ts = all-bytes (c .before .before .before .before .before .before .before .before .before .before .before .before .before .before .before .before .before .before .before .args .t .now) (c .before .before .before .before .before .before .before .before .before .before .before .before .before .before .before .before .before .before .shared-slice-known .given) in
+    let cs = all-bytes (c .before .before .before .before .before .before .before .before .before .before .before .before .before .before .before .before .before .before .before .args .b .now) (c .before .before .before .before .before .before .before .before .before .before .before .before .before .before .before .before .before .shared-slice-known2 .given) in
+    let j = c .before .before .before .before .before .before .before .before .before .before .before .before .before .before .judge .ensures in
+    let k = c .before .before .before .before .before .before .before .before .before .before .before .before .before .before .before .before .before .before .before .pre in
+    let f = c .before .before .before .before .before .before .before .before .before .before .before .before .f .given .1 in
+    let w = c .before .before .before .before .before .before .before .before .before .put-text .ensures in
+    let d = c .before .before .before .before .same .ensures in
+    let o = c .before .before .give .ensures in
+    (text-answers _ ts _ cs (k .1) j f w (k .0) d _ (o .0), text-fills _ ts _ cs (k .1) j f w (k .0) d _ _ (o .1))
 
 pub confirm-spec : {M : Type 1} → statement M
 confirm-spec =
@@ -55,9 +42,7 @@ confirm-spec =
     (λ c. search needs)
     part-same-end
     (λ c κs. search needs)
-    (λ c. search needs)
-    returns-2
     (λ c κs. search needs)
     (λ c. search needs)
     (λ c. search needs)
-    returns-3)
+    returns-2)
