@@ -202,6 +202,12 @@ module _ (s : List ℕ) (at : ℕ) where
     unfolding headAt getHead
     by-long q = rw (drop-cons s at 0 i, ← e, ← add-one at) q
 
+    pub by-tag : {r : Head} → 192 ≤ b → b < 224 → r ≡ answer at (getFrom 6 (b % 32) (drop (at + 1) s)) → r ≡ headAt s at
+    by-tag {r} h g q = let m : b / 32 ≡ 6 = omega arith in by-long (rw m q)
+
+    pub by-seven : {r : Head} → 224 ≤ b → b < 256 → r ≡ answer at (getFrom 7 (b % 32) (drop (at + 1) s)) → r ≡ headAt s at
+    by-seven {r} h g q = let m : b / 32 ≡ 7 = omega arith in by-long (rw m q)
+
     module _ (h : b % 32 < 24) where
       by-small : {r : Head} → r ≡ judged (b / 32) (b % 32) (b % 32) (at + 1) → r ≡ headAt s at
       unfolding getFrom argument judged
@@ -322,4 +328,4 @@ module _ (b : List ℕ) (at : ℕ) {r : Head} {k a n : ℕ} (p : Passed b at r) 
 
 pub ruleset bounds = (advances, reaches, stays-inside, kind-known)
 
-pub ruleset heads = (sized-1, sized-2, sized-4, sized-8, too-long, well, tag, bad-float, good-float, cut, long-judged, long-counted, byte-counted, one-byte-more, not-in-use, at-end, by-long, small-count, small-unused, small-simple, passed)
+pub ruleset heads = (sized-1, sized-2, sized-4, sized-8, too-long, well, tag, bad-float, good-float, cut, long-judged, long-counted, byte-counted, one-byte-more, not-in-use, at-end, by-long, by-tag, by-seven, small-count, small-unused, small-simple, passed)

@@ -208,7 +208,14 @@ pub fn head_at(s: &[u8], at: usize) -> Head
             next: at + 1,
         };
     }
-    long(s, at, (b / 32) as u8, info)
+    // Apart, so that `long` stays a function of its own and this one is small enough to stand in its callers.
+    if b < 192 {
+        return long(s, at, (b / 32) as u8, info);
+    }
+    if b < 224 {
+        return long(s, at, 6, info);
+    }
+    long(s, at, 7, info)
 }
 
 // A byte from lo to hi stands at a place.

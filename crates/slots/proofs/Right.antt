@@ -493,12 +493,22 @@ module _ (took stay add to a n : ℕ) (h : IsSlot to) (l : took < 2) where
   follows-value : (add ≡ 0 → ⊥) → a ≤ 21 → took ≡ 0 → stay ≡ 0 → (eqb to 28 || eqb to 50) ≡ true → Follows
   unfolding nextBits
   follows-value m g e f t =
-      let u : a % 32 ≡ a = omega arith in
-      rw (e, f, u, ne-eqb add 0 m) (go (eqb to 28) refl t)
+      rw (e, f, lt-ltb a 22 (omega arith), ne-eqb add 0 m) (go (eqb to 28) refl t)
     where
       go : (x : Bool) → eqb to 28 ≡ x → (x || eqb to 50) ≡ true → Stands (Due (to + a) 0) (cond x (due (value a inside) 0) (due (value a param) 0))
       go true q p = rw (eqb-true to 28 q) (record { level = ap (λ (x : Slot). due x 0) (value-at 22 a values (omega arith) .0); slotted = omega arith })
       go false q p = rw (eqb-true to 50 p) (record { level = ap (λ (x : Slot). due x 0) (value-at 22 a values (omega arith) .1); slotted = omega arith })
+
+  -- a slot follows, whatever the argument
+  follows-slotted : (add ≡ 0 → ⊥) → took ≡ 0 → stay ≡ 0 → (eqb to 28 || eqb to 50) ≡ true → Slotted (nextBits took stay add to a n)
+  unfolding nextBits
+  follows-slotted m e f t = rw (e, f, ne-eqb add 0 m) (go (eqb to 28) refl t (ltb a 22) refl)
+    where
+      go : (x : Bool) → eqb to 28 ≡ x → (x || eqb to 50) ≡ true → (y : Bool) → ltb a 22 ≡ y → to + cond y a 0 < 72
+      go true q p true z = omega (arith, eqb-true to 28 q, ltb-true a 22 z)
+      go true q p false z = omega (arith, eqb-true to 28 q)
+      go false q p true z = omega (arith, eqb-true to 50 p, ltb-true a 22 z)
+      go false q p false z = omega (arith, eqb-true to 50 p)
 
 -- what passed test 7 where a value follows is a type
 fits-small : (i k a : ℕ) → k ≤ 9 → isSmall (wordOf i / 2 ^ (k * 5) % 32) ≡ true → fitsCode i k a ≡ true → a ≤ 21
@@ -544,6 +554,25 @@ next-stands i a n h s =
         let (v₁, v₂) = and-true (eqb (field (wordOf i) 57 2) 0) _ v in
         let (v₃, v₄) = and-true (eqb (field (wordOf i) 58 2) 0) _ v₂ in
         follows-value _ _ _ _ a n l (omega arith) (eqb-false _ 0 q) (s q) (eqb-true _ 0 v₁) (eqb-true _ 0 v₃) v₄
+
+pub next-slotted : (i a n : ℕ) → IsSlot i → Slotted (nextCode i a n)
+unfolding nextCode
+next-slotted i a n h =
+    let r = right i h in
+    let w = wordOf i in
+    let (p, q) = and-true (valueAt w) (names w (insideOf i)) (r .7) in
+    let l : field w 50 128 < 72 = ltb-true _ 72 (and-true _ _ q .0) in
+    go l (eqb (field w 59 2) 0) refl p
+  where
+    go : field (wordOf i) 50 128 < 72 → (x : Bool) → eqb (field (wordOf i) 59 2) 0 ≡ x
+        → cond x true (allFrom 10 0 (smallAt (wordOf i)) && (eqb (field (wordOf i) 57 2) 0 && (eqb (field (wordOf i) 58 2) 0 && (eqb (field (wordOf i) 50 128) 28 || eqb (field (wordOf i) 50 128) 50)))) ≡ true
+        → Slotted (nextBits (field (wordOf i) 57 2) (field (wordOf i) 58 2) (field (wordOf i) 59 2) (field (wordOf i) 50 128) a n)
+    go l true q p = follows-plain (field (wordOf i) 57 2) (field (wordOf i) 58 2) (field (wordOf i) 59 2) (field (wordOf i) 50 128) a n l (omega arith) (eqb-true _ 0 q) .slotted
+    go l false q p =
+        let v = and-true (allFrom 10 0 (smallAt (wordOf i))) _ p .1 in
+        let (v₁, v₂) = and-true (eqb (field (wordOf i) 57 2) 0) _ v in
+        let (v₃, v₄) = and-true (eqb (field (wordOf i) 58 2) 0) _ v₂ in
+        follows-slotted (field (wordOf i) 57 2) (field (wordOf i) 58 2) (field (wordOf i) 59 2) (field (wordOf i) 50 128) a n l (omega arith) (eqb-false _ 0 q) (eqb-true _ 0 v₁) (eqb-true _ 0 v₃) v₄
 
 pub next-right : (i k a n : ℕ) → IsSlot i → k ≤ 9 → fitsCode i k a ≡ true → Stands (nextCode i a n) (rule (slotOf i) .next a n)
 next-right i k a n h g t = next-stands i a n h small

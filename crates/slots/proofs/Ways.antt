@@ -7,7 +7,7 @@ use lib.Dec.{leb, eqb}
 use borrow.Author.Tests.{lt-ltb, le-ltb, eq-eqb, ne-eqb}
 use Rattle.slots.specs.declared.Next.{Next}
 use Rattle.slots.specs.declared.Next.the-variants.{Done, Due}
-use Rattle.slots.specs.Code.{wordOf, insideOf, smallOf, topOf, rangeOf, fitsCode, manyCode, keptCode, nextBits, nextCode, inReferenceCode, inAriCode, arrayWay, inArrayCode, inMapCode, insideCode}
+use Rattle.slots.specs.Code.{wordOf, insideOf, smallOf, topOf, rangeOf, fitsCode, manyCode, keptCode, typeCode, nextBits, nextCode, inReferenceCode, inAriCode, arrayWay, inArrayCode, inMapCode, insideCode}
 
 module _ (i k a : ℕ) where
   pub bad-kind : 9 < k → false ≡ fitsCode i k a
@@ -37,16 +37,22 @@ gone b n e = simp (eq-eqb b 0 e)
 pub stays : (b n : ℕ) → (b ≡ 0 → ⊥) → n ≡ keptCode b n
 stays b n e = simp (ne-eqb b 0 e)
 
+pub a-type : (a : ℕ) → a < 22 → a ≡ typeCode a
+a-type a h = simp (lt-ltb a 22 h)
+
+pub no-type : (a : ℕ) → 22 ≤ a → 0 ≡ typeCode a
+no-type a h = simp (le-ltb a 22 h)
+
 -- the ways of `next_slot`
 module _ (i a n : ℕ) {w : ℕ} (e : w ≡ wordOf i) {r : ℕ} (q : (r ≡ keptCode (w / 2 ^ 58 % 2) n) × (r ≤ n)) where
   pub none-left : r < w / 2 ^ 57 % 2 → Done ≡ nextCode i a n
   unfolding nextCode nextBits
   none-left h = rw (← e, ← q .0, lt-ltb r (w / 2 ^ 57 % 2) h)
 
-  pub next-due : w / 2 ^ 57 % 2 ≤ r → {x : ℕ} → (x ≡ keptCode (w / 2 ^ 59 % 2) (a % 32)) × (x ≤ a % 32)
+  pub next-due : w / 2 ^ 57 % 2 ≤ r → {t x : ℕ} → (t ≡ typeCode a) × (t < 22) → (x ≡ keptCode (w / 2 ^ 59 % 2) t) × (x ≤ t)
       → Due (w / 2 ^ 50 % 128 + x) (r - w / 2 ^ 57 % 2) ≡ nextCode i a n
   unfolding nextCode nextBits
-  next-due h p = rw (← e, ← q .0, le-ltb r (w / 2 ^ 57 % 2) h, p .0)
+  next-due h t p = rw (← e, ← q .0, le-ltb r (w / 2 ^ 57 % 2) h, p .0, t .0)
 
 -- the ways of `in_array`
 module _ (w a : ℕ) where

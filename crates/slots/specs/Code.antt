@@ -127,9 +127,13 @@ manyCode s n = cond (eqb n 0) Done (Due s (n - 1))
 abbrev pub keptCode : ℕ → ℕ → ℕ
 keptCode b n = cond (eqb b 0) 0 n
 
+-- a type's number; 0 for what is none, so that a slot follows
+abbrev pub typeCode : ℕ → ℕ
+typeCode a = cond (ltb a 22) a 0
+
 -- what follows: so many are taken of those that are left, which stay or not, and the argument is added to the slot or not
 unfoldable pub nextBits : ℕ → ℕ → ℕ → ℕ → ℕ → ℕ → Next
-nextBits took stay add to a n = cond (ltb (keptCode stay n) took) Done (Due (to + keptCode add (a % 32)) (keptCode stay n - took))
+nextBits took stay add to a n = cond (ltb (keptCode stay n) took) Done (Due (to + keptCode add (typeCode a)) (keptCode stay n - took))
 
 unfoldable pub nextCode : ℕ → ℕ → ℕ → Next
 nextCode i a n = nextBits (field (wordOf i) 57 2) (field (wordOf i) 58 2) (field (wordOf i) 59 2) (field (wordOf i) 50 128) a n

@@ -5,8 +5,8 @@
 // those that are left, those that are left stay, the argument is added to it; at 60 the slot's own test (8, 11 or 12); at 62 how a text string
 // is spelled (10).
 ghost use mathlib.Core.Path.{_≡_};
-ghost use Rattle.slots.specs.Code.{wordOf, insideOf, smallOf, topOf, fitsCode, ownOf, spellingOf, asksOf, manyCode, keptCode, nextCode, inReferenceCode, inAriCode, inArrayCode, inMapCode, insideCode};
-ghost use Prim.Native.Nat.{_-_, _≤_};
+ghost use Rattle.slots.specs.Code.{wordOf, insideOf, smallOf, topOf, fitsCode, ownOf, spellingOf, asksOf, manyCode, keptCode, nextCode, inReferenceCode, inAriCode, inArrayCode, inMapCode, insideCode, typeCode};
+ghost use Prim.Native.Nat.{_-_, _≤_, _<_};
 
 // What is due next on a level: nothing more, or a slot and how often again.
 pub enum Next {
@@ -319,6 +319,16 @@ fn kept(bit: u64, n: u64) -> u64
     n
 }
 
+// A type's number; 0 for what is none, so that a slot follows.
+fn type_number(arg: u64) -> u64
+    ensures { λ r. ⌜ (r ≡ typeCode arg) × (r < 22) ⌝ }
+{
+    if arg < 22 {
+        return arg;
+    }
+    0
+}
+
 // What is due beside a head at the slot.
 pub fn next_slot(slot: u64, arg: u64, more: u64) -> Next
     ensures { λ r. ⌜ r ≡ nextCode slot arg more ⌝ }
@@ -330,7 +340,7 @@ pub fn next_slot(slot: u64, arg: u64, more: u64) -> Next
         return Next::Done;
     }
     Next::Due {
-        slot: (word >> 50) % 128 + kept((word >> 59) % 2, arg % 32),
+        slot: (word >> 50) % 128 + kept((word >> 59) % 2, type_number(arg)),
         more: rest - took,
     }
 }

@@ -1,12 +1,13 @@
 -- The ways through the functions that spell a head; and the ways of spelling are those of the slots.
-use Prim.Native.Nat.{ℕ, zero, suc, _≤_, _<_}
+use Prim.Native.Nat.{ℕ, zero, suc, _-_, _*_, _/_, _%_, _^_, _≤_, _<_}
 use mathlib.Core.Path.{_≡_, refl, sym, _∙_, ap}
-use mathlib.Core.Bool.{Bool, true, false, _&&_, cond}
+use mathlib.Core.Bool.{Bool, true, false, _&&_, _||_, cond, true≢false}
 use mathlib.Core.List.{List, [], _∷_, _++_, map}
 use native.Mathlib.Omega.{arith}
-use lib.ListN.{length, getD}
+use lib.ListN.{length, getD, List·getD-eq-default}
 use lib.Dec.{ltb, leb, eqb}
-use borrow.Author.Tests.{lt-leb, le-leb, eq-eqb, ne-eqb}
+use borrow.Author.Tests.{lt-leb, le-leb, eqb-true, eq-eqb, ne-eqb}
+use Rattle.cbor.proofs.Computed.{all-at}
 use Rattle.cbor.specs.Head.{Lead, isContainer}
 use Rattle.ari.specs.Table.{Slot, version, ari, type, value, namespace, objectNamespace, objectType, objectId, params, key, entry, nonce, setTime, target, report, reportTime, reportSource, Level, done, due}
 use Rattle.slots.specs.Code.{slots, slotOf}
@@ -183,5 +184,38 @@ before-is i l u = before-of (slotOf i) l u ∙ rw (way-is i)
 
 pub after-is : (i : ℕ) (l : Lead) (v : Level) → spell (slotOf i) .after l v ≡ afterBy (wayAt i) (l .kind) (isDue v)
 after-is i l v = after-of (slotOf i) l v ∙ rw (way-is i)
+
+-- the way of a slot, as the code finds it
+module _ (i : ℕ) where
+  pub low-way : i < 16 → 9833440814332711184 / 2 ^ (i * 4) % 16 ≡ wayAt i
+  low-way h =
+      eqb-true (9833440814332711184 / 2 ^ (i * 4) % 16) (wayAt i)
+      (all-at 16 0 (λ j. eqb (9833440814332711184 / 2 ^ (j * 4) % 16) (wayAt j)) refl i (omega arith) (omega arith))
+
+  pub next-way : 16 ≤ i → i < 28 → 72361 / 2 ^ ((i - 16) * 4) % 16 ≡ wayAt i
+  next-way h g =
+      eqb-true (72361 / 2 ^ ((i - 16) * 4) % 16) (wayAt i)
+      (all-at 12 16 (λ j. eqb (72361 / 2 ^ ((j - 16) * 4) % 16) (wayAt j)) refl i (omega arith) (omega arith))
+
+  pub no-way : 72 ≤ i → 0 ≡ wayAt i
+  no-way h = sym (List·getD-eq-default ways 0 h)
+
+  pub label-way : i ≡ 42 → 4 ≡ wayAt i
+  label-way e = rw e
+
+  pub label-way-param : i ≡ 64 → 4 ≡ wayAt i
+  label-way-param e = rw e
+
+  pub value-way : 28 ≤ i → i < 72 → (i ≡ 42 → ⊥) → (i ≡ 64 → ⊥) → 3 ≡ wayAt i
+  value-way h g n m =
+      go (eqb i 42) (ne-eqb i 42 n) (eqb i 64) (ne-eqb i 64 m)
+      (all-at 44 28 (λ j. eqb j 42 || (eqb j 64 || eqb (wayAt j) 3)) refl i (omega arith) (omega arith))
+    where
+      go : (x : Bool) → x ≡ false → (y : Bool) → y ≡ false → (x || (y || eqb (wayAt i) 3)) ≡ true → 3 ≡ wayAt i
+      go true e y f t = absurd (true≢false e)
+      go false e true f t = absurd (true≢false f)
+      go false e false f t = sym (eqb-true (wayAt i) 3 t)
+
+pub ruleset slot-ways = (low-way, next-way, no-way, label-way, label-way-param, value-way)
 
 pub ruleset ways-through = (no-container, a-container, typed-literal, untyped-literal, relative-space, absolute-space, a-reference, absolute-name, opens, leaves, closes, stays, a-comma, no-comma, nothing-before, nothing-after)

@@ -223,88 +223,32 @@ fn put_type(out: &mut [u8], at: usize, arg: u64) -> usize
     }
 }
 
-// The way in which a slot's heads are spelled.
+// The ways of the values of types: a LABEL is bare.
+fn value_way(slot: u64) -> u8
+    requires { ⌜ (28 ≤ slot) × (slot < 72) ⌝ }
+    ensures { λ r. ⌜ r ≡ wayAt slot ⌝ }
+{
+    match slot {
+        42 => 4,
+        64 => 4,
+        _ => 3,
+    }
+}
+
+// The way in which a slot's heads are spelled: four bits a slot, up to the values of types.
 pub fn way_of(slot: u64) -> u8
     ensures { λ r. ⌜ r ≡ wayAt slot ⌝ }
 {
-    if 71 < slot {
-        return 0;
+    if slot < 16 {
+        return ((0x8877665222211110u64 >> (slot * 4)) % 16) as u8;
     }
-    let ways = [
-        0u8,
-        1,
-        1,
-        1,
-        1,
-        2,
-        2,
-        2,
-        2,
-        5,
-        6,
-        6,
-        7,
-        7,
-        8,
-        8,
-        9,
-        10,
-        10,
-        1,
-        1,
-        0,
-        0,
-        0,
-        0,
-        0,
-        0,
-        0,
-        3,
-        3,
-        3,
-        3,
-        3,
-        3,
-        3,
-        3,
-        3,
-        3,
-        3,
-        3,
-        3,
-        3,
-        4,
-        3,
-        3,
-        3,
-        3,
-        3,
-        3,
-        3,
-        3,
-        3,
-        3,
-        3,
-        3,
-        3,
-        3,
-        3,
-        3,
-        3,
-        3,
-        3,
-        3,
-        3,
-        4,
-        3,
-        3,
-        3,
-        3,
-        3,
-        3,
-        3,
-    ];
-    ways[slot as usize]
+    if slot < 28 {
+        return ((0x11aa9u64 >> ((slot - 16) * 4)) % 16) as u8;
+    }
+    if slot < 72 {
+        return value_way(slot);
+    }
+    0
 }
 
 pub fn is_container(kind: u8) -> bool

@@ -8,7 +8,7 @@ use native.Mathlib.Numerals.{sub-one}
 use lib.ListN.{length, take, drop, length-append}
 use lib.Seq.{drop-drop, drop-append-seam, take-append-seam}
 use lib.Dec.{eqb}
-use Rattle.cbor.specs.Head.{Lead, size, leadBytes, isContainer}
+use Rattle.cbor.specs.Head.{Lead, size, leadBytes, isContainer, Sound, counted, a-simple, a-float}
 use Rattle.cbor.proofs.HeadLaws.{length-lead}
 use Rattle.ari.specs.Table.{Level, done, due, rule, members}
 use Rattle.ari.specs.Reader.{end, push}
@@ -17,8 +17,9 @@ use Rattle.ari.proofs.Due.{prevAfter}
 use Rattle.ari.proofs.Due as fit
 use Rattle.slots.specs.declared.Next.{Next}
 use Rattle.slots.specs.declared.Next.the-variants.{Done, Due}
-use Rattle.slots.specs.Code.{slotOf, levelOf, fitsCode, nextCode, insideCode}
-use Rattle.slots.proofs.Right.{IsSlot, next-right, inside-right}
+use Rattle.slots.specs.Code.{slotOf, levelOf, nextCode, insideCode}
+use Rattle.slots.proofs.Right.{IsSlot, fits-right, next-right, inside-right}
+use Rattle.slots.proofs.Right.{next-slotted as slotted}
 use Rattle.read.specs.Steps.{part}
 use Rattle.read.specs.Walks.{insideLevel}
 use Rattle.text.specs.Text.{spell, texts}
@@ -67,9 +68,14 @@ inside-is i l = refl
 pub behind : (b : List ℕ) (p : ℕ) (u z : List ℕ) → drop p b ≡ u ++ z → drop (p + length u) b ≡ z
 behind b p u z e = sym (drop-drop (length u) p b) ∙ rw e (drop-append-seam u z)
 
+sound-kind : {l : Lead} → Sound l → l .kind ≤ 9
+sound-kind (counted h g e) = omega arith
+sound-kind (a-simple e g h i) = omega arith
+sound-kind (a-float h g i a b) = omega arith
+
 -- A turn: the head was taken, what it writes was put around its members.
 module _ (b : List ℕ) (i n d p at : ℕ) {x : Item} (y : ItemAt b p i d x) {k a f t : ℕ} (e : x ≡ Taken k a f t) where
-  abbrev shown : Inside b p i d (Taken k a f t)
+  abbrev shown : Inside b p d (Taken k a f t)
   shown = rw e at (y .inside)
 
   pub taken-on : p < f
@@ -85,11 +91,14 @@ module _ (b : List ℕ) (i n d p at : ℕ) {x : Item} (y : ItemAt b p i d x) {k 
   taken-shallow = shown .3
 
   module _ (v : IsSlot i) {nx : Next} (nn : nx ≡ nextCode i a n) where
-    next-is : levelOf nx ≡ rule (slotOf i) .next a n
-    next-is = rw nn (next-right i k a n v (shown .4) (shown .5) .level)
+    -- of a head that may stand there
+    next-is : {l : Lead} {str prev : List ℕ} → fit.Good (slotOf i) prev l str → k ≡ l .kind → a ≡ l .arg → levelOf nx ≡ rule (slotOf i) .next (l .arg) n
+    next-is {l} g ek ea =
+        let h = sound-kind (g .head) in
+        rw (nn, ea) (next-right i (l .kind) (l .arg) n v h (fits-right i (l .kind) (l .arg) v h ∙ g .fitting) .level)
 
     pub next-slotted : {j m : ℕ} → nx ≡ Due j m → IsSlot j
-    next-slotted z = rw (← nn, z) at (next-right i k a n v (shown .4) (shown .5) .slotted)
+    next-slotted z = rw (← nn, z) at (slotted i a n v)
 
     module _ {room room₁ room₂ room₃ : List ℕ} {q q₃ : ℕ} {w : Pos} (before : Put room room₁ at q (beforeBy (wayAt i) k a (part b f t)))
         (m : Said b (insideLevel (slotOf i) k a) (pred d) t q w room₁ room₂) (after : Put room₂ room₃ (w .end) q₃ (afterBy (wayAt i) k (isDue (levelOf nx)))) where
@@ -112,7 +121,7 @@ module _ (b : List ℕ) (i n d p at : ℕ) {x : Item} (y : ItemAt b p i d x) {k 
           let ts : t - f ≡ length str = omega arith in
           let pt : part b f t ≡ str = rw (ts, df) (take-append-seam str rest) in
           let lv : insideLevel (slotOf i) k a ≡ members (slotOf i) l = rw (ek, ea) (inside-is i l) in
-          let nv : levelOf nx ≡ rule (slotOf i) .next (l .arg) n = rw (← ea) next-is in
+          let nv : levelOf nx ≡ rule (slotOf i) .next (l .arg) n = next-is (g .0) ek ea in
           let mi = m .told ms [] (encode rs ++ z) (rw lv (g .2)) dt in
           let dn : drop (w .next) b ≡ encode rs ++ z = rw (mi .0) (behind b t (encode ms) (encode rs ++ z) dt) in
           let si = s .told rs (prevAfter (slotOf i) prev l str) z (rw nv (g .3)) dn in

@@ -6,7 +6,7 @@ use mathlib.Core.List.{List, [], _∷_, _++_}
 use native.Mathlib.Omega.{arith}
 use lib.ListN.{length, drop, length-append, length-drop}
 use lib.Dec.{ltb, leb, eqb}
-use borrow.Author.Tests.{lt-ltb, le-ltb, ltb-true, ltb-false, not-true, not-false}
+use borrow.Author.Tests.{lt-ltb, le-ltb, ltb-true, ltb-false}
 use Rattle.cbor.specs.Byte.{within}
 use Rattle.cbor.specs.Head.{Lead, size, leadBytes, getHead, stringSize, isContainer}
 use Rattle.cbor.specs.Answer.{headAt, Passed}
@@ -16,8 +16,7 @@ use Rattle.cbor.specs.declared.Head.the-variants as heads
 use Rattle.cbor.proofs.HeadLaws.{getHead-back, length-lead}
 use Rattle.ari.specs.Table.{rule}
 use Rattle.ari.proofs.Due.{Good}
-use Rattle.slots.specs.Code.{slotOf, fitsCode}
-use Rattle.slots.proofs.Right.{IsSlot, fits-right}
+use Rattle.slots.specs.Code.{slotOf}
 use Rattle.read.specs.declared.End.{End}
 use Rattle.read.specs.declared.End.the-variants.{At, Short}
 use Rattle.read.specs.Steps.{stringEnd}
@@ -87,12 +86,6 @@ module _ (b : List ℕ) (p i d : ℕ) {x : Head} (e : x ≡ headAt b p) where
       pub head-in : n ≤ length b
       head-in = passed .1
 
-      pub misfit : IsSlot i → {y : Bool} → y ≡ fitsCode i k a → not y ≡ true → ItemAt b p i d Nothing
-      misfit v {y} m h = record {
-        inside = tt;
-        told = λ l str z prev g s f. absurd (true≢false (sym (rw (same-kind l (str ++ z) (g .head) f, same-arg l (str ++ z) (g .head) f) (g .fitting)) ∙ sym (fits-right i k a v (passed .2)) ∙ sym m ∙ not-true y h));
-      }
-
       ends : {u : End} → u ≡ stringEnd b k a n → (l : Lead) (str z prev : List ℕ) → Good (slotOf i) prev l str → drop p b ≡ leadBytes l ++ (str ++ z)
           → u ≡ At (p + (size l + length str))
       ends m l str z prev g f = m ∙ rw (same-kind l (str ++ z) (g .head) f, same-arg l (str ++ z) (g .head) f, same-next l (str ++ z) (g .head) f)
@@ -104,12 +97,12 @@ module _ (b : List ℕ) (p i d : ℕ) {x : Head} (e : x ≡ headAt b p) where
         told = λ l str z prev g s f. absurd (let y = sym h ∙ ends m l str z prev g f in let z : _≡_ {A = ℕ} 0 1 = cc in omega arith);
       }
 
-      pub is-taken : {t y : Bool} {u : End} {j : ℕ} → t ≡ (isContainer k && eqb d 0) → t ≡ false → y ≡ fitsCode i k a → not y ≡ false → u ≡ stringEnd b k a n → u ≡ At j
+      pub is-taken : {t : Bool} {u : End} {j : ℕ} → t ≡ (isContainer k && eqb d 0) → t ≡ false → u ≡ stringEnd b k a n → u ≡ At j
           → ItemAt b p i d (Taken k a n j)
-      is-taken {t} {y} {u} {j} mt ht my hy mu hu =
+      is-taken {t} {u} {j} mt ht mu hu =
           let w = end-in b k a n (passed .1) (sym mu ∙ hu) in
           record {
-            inside = (passed .0, w .0, w .1, sym mt ∙ ht, passed .2, sym my ∙ not-false y hy);
+            inside = (passed .0, w .0, w .1, sym mt ∙ ht);
             told = λ l str z prev g s f.
                 let q₁ = same-kind l (str ++ z) (g .head) f in
                 let q₂ = same-arg l (str ++ z) (g .head) f in
@@ -119,4 +112,4 @@ module _ (b : List ℕ) (p i d : ℕ) {x : Head} (e : x ≡ headAt b p) where
                 rw (q₁, q₂, q₃, q₅);
           }
 
-pub ruleset taking = (no-head, too-deep, head-in, misfit, too-short, is-taken)
+pub ruleset taking = (no-head, too-deep, head-in, too-short, is-taken)

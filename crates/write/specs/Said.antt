@@ -10,7 +10,7 @@ use Rattle.ari.specs.Table.{Level}
 use Rattle.ari.specs.Reader.{end, push}
 use Rattle.ari.specs.Items.{Items, encode}
 use Rattle.ari.proofs.Due.{Good, Due}
-use Rattle.slots.specs.Code.{slotOf, fitsCode}
+use Rattle.slots.specs.Code.{slotOf}
 use Rattle.text.specs.Text.{texts}
 use Rattle.spell.specs.Put.{Put}
 use Rattle.write.specs.declared.Item.{Item}
@@ -18,13 +18,13 @@ use Rattle.write.specs.declared.Item.the-variants.{Taken, Nothing}
 use Rattle.write.specs.declared.Pos.{Pos}
 
 -- what a head that was taken has shown
-abbrev pub Inside : List ℕ → ℕ → ℕ → ℕ → Item → Type 0
-Inside b p i d (Taken k a f t) = (p < f) × (f ≤ t) × (t ≤ length b) × ((isContainer k && eqb d 0) ≡ false) × (k ≤ 9) × (fitsCode i k a ≡ true)
-Inside b p i d Nothing = Unit {0}
+abbrev pub Inside : List ℕ → ℕ → ℕ → Item → Type 0
+Inside b p d (Taken k a f t) = (p < f) × (f ≤ t) × (t ≤ length b) × ((isContainer k && eqb d 0) ≡ false)
+Inside b p d Nothing = Unit {0}
 
 -- The head at p, at a slot where d containers may still be opened: each head that may stand there is taken as it is.
 pub record ItemAt (b : List ℕ) (p i d : ℕ) (x : Item) : Type 0 where
-  pub inside : Inside b p i d x
+  pub inside : Inside b p d x
   pub told : (l : Lead) (str z prev : List ℕ) → Good (slotOf i) prev l str → (isContainer (l .kind) && eqb d 0) ≡ false → drop p b ≡ leadBytes l ++ (str ++ z)
       → x ≡ Taken (l .kind) (l .arg) (p + size l) (p + (size l + length str))
 

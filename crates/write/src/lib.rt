@@ -43,7 +43,6 @@ pub struct Pos {
 }
 
 fn take_item(s: &[u8], at: usize, slot: u64, depth: usize) -> Item
-    requires { ⌜ IsSlot slot ⌝ }
     ensures { λ r. ⌜ ItemAt (now (s .entry)) at slot depth r ⌝ }
 {
     let h = cbor::head_at(s, at);
@@ -51,9 +50,6 @@ fn take_item(s: &[u8], at: usize, slot: u64, depth: usize) -> Item
         return Item::Nothing;
     };
     if read::is_too_deep(kind, depth) {
-        return Item::Nothing;
-    }
-    if !slots::fits(slot, kind, arg) {
         return Item::Nothing;
     }
     let e = read::string_end(s, kind, arg, next);

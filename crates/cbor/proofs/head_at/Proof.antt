@@ -18,4 +18,8 @@ head-at-spec =
     (λ c. search (heads, needs))
     (λ c. search needs)
     (λ c κs. search needs)
+    (λ c. search (heads, needs))
+    (λ c κs. search needs)
+    (λ c. search (heads, needs))
+    (λ c κs. search needs)
     (λ c. search (heads, needs)))

@@ -1,6 +1,5 @@
--- `slots::next_slot` meets its contract: something is left, or nothing.
-use borrow.Author.Needs.{needs}
 use Rattle.slots.proofs.Ways.{none-left, next-due}
+use borrow.Author.Needs.{needs}
 use Rattle.slots.proofs.next_slot.Statement.{statement}
 use Rattle.slots.proofs.next_slot.Tie as tie
 
@@ -12,5 +11,6 @@ next-slot-spec =
     (λ c κs. search needs)
     (λ c. search (none-left, needs))
     (λ c κs. search needs)
+    (λ c κs. search needs)
     (λ c. search needs)
-    (λ c. search (next-due, needs)))
+    (λ c. next-due (c .before .before .before .before .before .args .slot) (c .before .before .before .before .before .args .arg) (c .before .before .before .before .before .args .more) (c .before .before .before .before .rule-word .ensures) (c .before .before .before .kept .ensures) (search needs) (c .before .type-number .ensures) (c .kept2 .ensures)))

@@ -13,8 +13,6 @@ take-item-spec =
     (λ c. search (taking, needs))
     (λ c κs. search needs)
     (λ c. search (taking, needs))
-    (λ c κs. search needs)
-    (λ c. search (taking, needs))
     (λ c κs. search (taking, needs))
     (λ c. search needs)
     (λ c. search needs)
