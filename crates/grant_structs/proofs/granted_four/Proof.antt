@@ -48,7 +48,8 @@ use Rattle.grant_structs.specs.Structs.{grants}
 use Rattle.grant_structs.proofs.Grant as T
 use Rattle.grant_structs.proofs.Grant.Laws as T′
 use Rattle.grant_structs.proofs.Over.{R, slice, Own, own-word, own-int, own-bool, answered-κ}
-use Rattle.grant_structs.proofs.Lent.{AR, vals, mach, ref, lends, ends}
+use Rattle.grant_structs.proofs.Lending.{ref}
+use Rattle.grant_structs.proofs.Lent.{AR, vals, mach, lends, ends}
 use Rattle.grant_structs.proofs.granted as granted
 use Rattle.grant_structs.proofs.granted.Symbol as granted-def
 use Rattle.grant_structs.proofs.granted.Symbol.{name as #grant-structs·granted}
