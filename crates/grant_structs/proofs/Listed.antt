@@ -1,22 +1,21 @@
 -- Listed entries in words, and the search over them, turn by turn.
-use Prim.Native.Nat.{ℕ, zero, suc, _+_, _-_, _*_, _/_, _<_, _≤_, _^_}
+use Prim.Native.Nat.{ℕ, zero, suc, _-_, _<_, _≤_, _^_}
 use mathlib.Core.Path.{_≡_, refl, sym, _∙_, ap, subst}
 use mathlib.Core.Bool.{Bool, true, false, not, cond, true≢false}
-use mathlib.Core.List.{List, [], _∷_}
+use mathlib.Core.List.{List, []}
 use native.Mathlib.Nat.{zero-add}
 use native.Mathlib.Omega.{arith}
-use lib.ListN.{length, getD}
 use lib.IntN.{ℤ, pos, negsuc, _-ℤ_}
-use lib.Dec.{eqb, ltb}
+use lib.Dec.{eqb}
 use mir.Syntax.{w64}
 use mir.Val.{SFits, ofZ, toZ}
 use mir.ValLaws.{toZ-pos, toZ-ofZ}
 use borrow.Author.Tests.{lt-ltb, le-ltb, le-leb, lt-leb, eq-eqb, ne-eqb}
 use Rattle.ari.specs.Table.{max63, max64}
-use Rattle.ari.specs.Listing.{Space, number, name, relative, Entry}
-use Rattle.grants.specs.Grants.{Grant, some, holds, granted, Release, yes, no, judgeFrom}
+use Rattle.ari.specs.Listing.{Space, number, name, relative}
+use Rattle.grants.specs.Grants.{Grant, some, holds, granted, yes, no, judgeFrom}
 use Rattle.grants.specs.Bytes.{signed}
-use Rattle.grant_structs.specs.Structs.{spaceBy, kindAt, wordAt, entryAt, entriesFrom, wantedAt, heldBack, heldAt}
+use Rattle.grant_structs.specs.Structs.{kindAt, wordAt, entryAt, entriesFrom, wantedAt, heldBack, heldAt}
 
 -- a word as a number: the code's casts and its difference
 minus-one : (k : ℕ) → negsuc 0 -ℤ pos k ≡ negsuc k

@@ -20,7 +20,7 @@ use mir.Syntax.{Lifetime, Ty, named, imm, w64, tyRef}
 use mir.Val.{Val, vint, vbool, ofZ, hbits, hasTy, WT}
 use lib.Dec.{T as Holds}
 use base.Logic.{SProp, ent, sep, ex, emp}
-use base.Fml.{Lft, GName, Share, Fml, ftrue, flft, fobor, fshr-bor}
+use base.Fml.{Lft, Share, Fml, ftrue, flft, fobor, fshr-bor}
 use prog.Wp.{Heap}
 use ghost.Atoms.{Atoms, sem}
 use contract.Monad.{fact}
@@ -28,7 +28,7 @@ use types.Kit.{Given, Item, Goal, Soaks, Seq, Step, step, ‵, raw, _⊛_, some,
 use types.Share.{arr-parts}
 use denote.RattleType.{RattleType}
 use denote.Laws.{Is, shows}
-use denote.Memory.{cellAt, mem, pointee, shares}
+use denote.Memory.{cellAt, pointee, shares}
 use denote.Plain.{uint-makes, bool-makes}
 use denote.Signed.{sint-makes}
 use denote.Builtin.{u8, u64, i64, bool}

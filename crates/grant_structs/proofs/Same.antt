@@ -10,6 +10,7 @@ use lib.IntN.{ℤ, pos, negsuc}
 use borrow.Author.Tests.{eq-eqb}
 use Rattle.cbor.specs.Byte.{be, value}
 use Rattle.cbor.proofs.ByteLaws.{length-be, value-be}
+use Rattle.ari.specs.Limits.{firstLimits}
 use Rattle.ari.specs.Reader.{Limits, Answer, accept, refuse, aMessage, read}
 use Rattle.ari.specs.Listing.{Space, number, listing}
 use Rattle.ari.proofs.Named.{InRange}
@@ -19,7 +20,11 @@ use Rattle.grants.specs.Verdict.{said}
 use Rattle.grants.specs.declared.Verdict.{Verdict}
 use Rattle.grants.specs.declared.Verdict.the-variants.{Passes, Refused}
 use Rattle.grants.proofs.Signed.{signed-word}
+use Rattle.list.specs.declared.Released.{Released}
+use Rattle.list.specs.Answers.{said as saidOf}
 use Rattle.grant_structs.specs.declared.Grant.{Grant as Row}
+use Rattle.grant_structs.specs.declared.Release.{Release}
+use Rattle.grant_structs.specs.Told.{told}
 use Rattle.grant_structs.specs.Structs.{grantOf, grants}
 use Rattle.grant_structs.specs.Bytes.{tableBytes}
 
@@ -95,7 +100,11 @@ module _ (t : List Row) (f : Fit t) where
       go (refuse r p) = refl
       go (accept n) = rw (not-ragged t)
 
-  -- so what `check_table` answers of the bytes is what `check_grants` answers of the structs
+  -- so what `list::release` answers of the bytes, in document 01's terms, is what `release_grants` answers of the structs
+  pub same-answer : (b : List ℕ) (s : ℕ) (r : Released) (r′ : Release) → saidOf r ≡ releaseBytes firstLimits b (tableBytes t) s → told r′ ≡ release firstLimits b (grants t) s → saidOf r ≡ told r′
+  same-answer b s r r′ e e′ = e ∙ same-release firstLimits b s ∙ sym e′
+
+  -- and what `check_table` answers of the bytes is what `check_grants` answers of the structs
   pub same-verdict : (r r′ : Verdict) → said r ≡ checkBytes (tableBytes t) → said r′ ≡ check (grants t) → r ≡ r′
   same-verdict r r′ e e′ = told-apart r r′ (e ∙ same-check ∙ sym e′)
     where

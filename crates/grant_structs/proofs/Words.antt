@@ -22,7 +22,7 @@ use Rattle.list.specs.declared.Listed.{Listed}
 use Rattle.list.specs.declared.Listed.the-variants.{Entries, Refused}
 use Rattle.list.specs.Answers.{entryWords, wordsOf, listedOf, listIn, writtenBy, writtenIn}
 use Rattle.list.proofs.Table.{few-listed}
-use Rattle.grant_structs.specs.Structs.{spaceBy, kindAt, wordAt, entryBy, entryAt, entriesFrom, entriesOf, answerBy, Decides}
+use Rattle.grant_structs.specs.Structs.{spaceBy, kindAt, wordAt, entryBy, entryAt, entriesFrom, answerBy, Decides}
 
 module _ (a b : ℕ) (l : List ℕ) where
   shifted : (i : ℕ) → entryAt (a ∷ b ∷ l) (suc i) ≡ entryAt l i

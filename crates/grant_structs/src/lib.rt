@@ -1,4 +1,4 @@
-// The grant table as a lent slice of grant structs: what it grants, its check, and the release of listed entries.
+// The grant table as a lent slice of grant structs: what it grants, its check, and release.
 // A function over a slice of structs is proved by a walk by hand, so each is thin: what is decided is decided on plain numbers.
 ghost use mathlib.Core.Path.{_≡_};
 ghost use Prim.Native.Nat.{_/_, _<_, _≤_};

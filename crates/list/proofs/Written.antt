@@ -16,7 +16,7 @@ use Rattle.list.specs.declared.Namespace.{Namespace}
 use Rattle.list.specs.Answers.{each, entryWords}
 use Rattle.list.specs.Entries.{insideFrom, namespaceOf, Tabled, listingFrom}
 use Rattle.list.proofs.Stored.{be-join}
-use Rattle.list.proofs.Table.{spaceCode, Here, from-start, from-end, no-reference, here}
+use Rattle.list.proofs.Table.{Here, from-start, from-end, no-reference, here}
 
 -- an entry's ends as one number
 two-ends : (f a : ℕ) → f < 65536 → a < 65536 → be 8 (f * 4294967296 + a) ≡ be 4 f ++ be 4 a

@@ -1,7 +1,7 @@
 -- A walk of the MIR, by hand. Each turn passes the list on to `wanted` and `held_back`, and the table to `some_row`, of which the proof knows only their contracts.
 -- The invariant at i: the entries from i on decide. A turn whose entry is held back leaves by the label.
 use mathlib.Core.Path.{_≡_, refl, sym, _∙_, ap, subst}
-use Prim.Native.Nat.{ℕ, suc, _<_, _≤_, _+_, _-_, _/_, _^_}
+use Prim.Native.Nat.{ℕ, suc, _<_, _≤_, _+_, _/_, _^_}
 use native.Mathlib.Numerals.{add-one}
 use native.Mathlib.Omega.{arith}
 use mathlib.Core.Bool.{Bool, false}
@@ -20,14 +20,14 @@ use prog.Wp.{Heap, Out, Env, afterSeq, afterBlock, afterTurn, atReturn, Wp, WpFn
 use ghost.Atoms.{Atoms, sem}
 use contract.Monad.{Fun, fact}
 use contract.Running.{givenOf, tables, tablesOf}
-use types.Kit.{Given, Item, Sq, ‵, raw, _⊛_, ⋆, anyQ, atRet, runs, _$_, _∵_, !, qed, by, move, keep, drop, use0, use2, split, join, rewrite, fsplit, fjoin, suffices, frame, done}
+use types.Kit.{Given, Item, Sq, ‵, raw, _⊛_, ⋆, anyQ, atRet, runs, _$_, _∵_, !, qed, by, move, drop, use0, use2, split, join, rewrite, fsplit, fjoin, suffices, frame, done}
 use types.Part.{whole, sub, look-in}
 use types.Run.{look, store, init, forget, stop, fld, from, load, lit, false-lit, of-opd, bin, and-then, no-more, assigns, assigns-last, land, first, blocks, returns, enter, alloc1, alloc0, params1, pass1, pass0, free1, free0, exec, Below, again, loops}
 use sound.WpLaws.{fmOf, WpFn-mono}
 use denote.RattleType.{owns}
 use denote.Laws.{Is}
 use denote.Memory.{pointee}
-use denote.Plain.{uint-vals, uint-tells, uint-lawful, bool-lawful}
+use denote.Plain.{uint-vals, uint-tells, bool-lawful}
 use denote.Builtin.{u64, usize, bool}
 use denote.Ref.{RefT}
 use denote.Slice.{Room, sliceTy, sliceVal, ShrSlice, slice-vals, shr-slice-tells}
@@ -53,7 +53,7 @@ use Rattle.grant_structs.proofs.Grant as T
 use Rattle.grant_structs.proofs.Grant.Laws as T′
 use Rattle.grant_structs.proofs.Release as S
 use Rattle.grant_structs.proofs.Release.Laws as S′
-use Rattle.grant_structs.proofs.Over.{R, low, slice, Fine, Own, Words, own-word, own-bool, copies-rows, copies-words, answered, answered-κ}
+use Rattle.grant_structs.proofs.Over.{R, low, slice, Own, Words, own-word, own-bool, copies-rows, copies-words, answered, answered-κ}
 use Rattle.grant_structs.proofs.Turn.{tests, breaks, Upto, nearer, nearer-wf, is-true, is-false}
 use Rattle.grant_structs.proofs.Searched.{of-all}
 use Rattle.grant_structs.proofs.Listed.{Unjudged, at-first, passed, held, all-passed, not-granted, is-granted}
