@@ -5,8 +5,10 @@ use mathlib.Core.Bool.{Bool, true, false, cond}
 use mathlib.Core.List.{List, _++_}
 use native.Mathlib.Omega.{arith}
 use native.Mathlib.Nat.{le-trans, mul-le-mul-left, mul-div-le}
-use lib.ListN.{length, drop}
+use lib.ListN.{length, getD, drop}
 use lib.Dec.{ltb}
+use mir.Syntax.{w8}
+use mir.Val.{Fits}
 use borrow.Author.Tests.{lt-ltb, le-ltb, ltb-false, eq-eqb, ne-eqb}
 use Rattle.cbor.specs.Byte.{all, isByte}
 use Rattle.ari.specs.Reader.{aMessage, refuse, accept, read}
@@ -20,6 +22,7 @@ use Rattle.read.specs.declared.Answer.{Answer}
 use Rattle.read.specs.declared.Answer.the-variants.{Accepted}
 use Rattle.read.specs.declared.Answer.the-variants as answers
 use Rattle.read.specs.Answers.{answerOf, Kept}
+use Rattle.read.proofs.Whole.{all-bytes}
 use Rattle.grants.specs.Grants.{granted, Release, judgeFrom, release}
 use Rattle.grants.specs.Bytes.{rows, releaseBytes}
 use Rattle.items.specs.Records.{noSpot}
@@ -69,8 +72,9 @@ module _ (b : List ℕ) {a : Answer} (e : a ≡ answerOf (read firstLimits aMess
   pub refused : {r p : ℕ} → a ≡ answers.Refused r p → read firstLimits aMessage b ≡ refuse r p
   refused f = was-refused (read firstLimits aMessage b) (sym f ∙ e)
 
-  pub tabled : all isByte b ≡ true → (t t′ : List ℕ) → 1024 ≤ length t → length t ≡ length t′ → Kept aMessage b a t t′ → {n : ℕ} → a ≡ Accepted n → Tabled b n t′
-  tabled bs t t′ room l y {n} f =
+  pub tabled : {t t′ : List ℕ} → Kept aMessage b a t t′ → length t′ ≡ length t → ((i : ℕ) → Fits w8 (getD b i 0)) → 1024 ≤ length t → {n : ℕ} → a ≡ Accepted n → Tabled b n t′
+  tabled {t} y l bytes room {n} f =
+      let bs : all isByte b ≡ true = all-bytes b bytes in
       let c : Is firstLimits aMessage b (decode b) n = demand-two firstLimits aMessage b n bs .0 (accepted f) in
       let kept = rw f at y in
       record { is = c; room = omega (arith, c .few); kept = λ k h. entry-is aMessage b bs k t room noSpot c (kept .kept) h }
