@@ -108,12 +108,13 @@ module _ {b t : List ℕ} {n : ℕ} (c : Tabled b n t) {w : ℕ} {put : Entry �
             }
 
 -- the next entry
-module _ {b t : List ℕ} {n : ℕ} (c : Tabled b n t) {out₀ : List ℕ} {k at : ℕ} {out : List ℕ} (h : k < n) {r : Inside} (f : r ≡ insideFrom b (getD t k 0)) {q : ℕ} (g : r ≡ At q)
-    {v : Namespace} (e : v ≡ namespaceOf q (headAt b q)) {out′ : List ℕ} where
-  pub bytes-written : Written 24 entryBytes b out₀ k at out → out′ ≡ sets out at (stored (getD t k 0) v) → Written 24 entryBytes b out₀ (k + 1) (at + 24) out′
-  bytes-written i s = written-one c i h f g (stored (getD t k 0) v) refl (here-bytes (here c k h f g) e) s
+module _ {b t : List ℕ} {n : ℕ} {out₀ : List ℕ} {k at : ℕ} {out out′ : List ℕ} {v : Namespace} {r : Inside} {q : ℕ} where
+  pub bytes-written : out′ ≡ sets out at (stored (getD t k 0) v) → Written 24 entryBytes b out₀ k at out → v ≡ namespaceOf q (headAt b q) → r ≡ At q → r ≡ insideFrom b (getD t k 0) → k < n → Tabled b n t
+      → Written 24 entryBytes b out₀ (k + 1) (at + 24) out′
+  bytes-written s i e g f h c = written-one c i h f g (stored (getD t k 0) v) refl (here-bytes (here c k h f g) e) s
 
-  pub words-written : Written 2 entryWords b out₀ k at out → out′ ≡ sets out at (pair v) → Written 2 entryWords b out₀ (k + 1) (at + 2) out′
-  words-written i s = written-one c i h f g (pair v) refl (here-words (here c k h f g) e) s
+  pub words-written : out′ ≡ sets out at (pair v) → Written 2 entryWords b out₀ k at out → v ≡ namespaceOf q (headAt b q) → r ≡ At q → r ≡ insideFrom b (getD t k 0) → k < n → Tabled b n t
+      → Written 2 entryWords b out₀ (k + 1) (at + 2) out′
+  words-written s i e g f h c = written-one c i h f g (pair v) refl (here-words (here c k h f g) e) s
 
-pub ruleset writes = (written-start, written-end, written-none, entry-room)
+pub ruleset writes = (written-start, written-end, written-none, entry-room, bytes-written, words-written)
