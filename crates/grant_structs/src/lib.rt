@@ -126,8 +126,8 @@ fn number_of(w: u64) -> i64
     -1 - (18446744073709551615 - w) as i64
 }
 
-// A list of entries is two words each: the kind (0 number, 1 name, 2 relative), and the number in two's complement.
-// The row that grants entry i, if its namespace is a number.
+// A list of entries is as `list::list_words` writes it: kind (0 number, 1 name, 2 relative) and word, the number in two's complement.
+// Here is the row that grants entry i, if its namespace is a number.
 fn wanted(list: &[u64], i: usize, subscriber: u64) -> Grant
     requires { ⌜ i < length (now list) / 2 ⌝ }
     ensures { λ r. ⌜ r ≡ wantedAt (now (list .entry)) i subscriber ⌝ }
@@ -178,7 +178,7 @@ fn release_words(list: &[u64], n: usize, t: &[Grant], subscriber: u64) -> Releas
     judged(i, n)
 }
 
-// The words of a message's listing.
+// The words of a message's listing, and what is known of them: they decide as the message does.
 fn listed_in(message: &[u8], words: &mut [u64]) -> Listed
     requires { ⌜ 2048 ≤ length (now words) ⌝ }
     ensures { λ r. ⌜ Decides (now (message .entry)) r (now (words .exit)) ⌝ }

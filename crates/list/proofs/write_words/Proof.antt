@@ -1,4 +1,4 @@
--- `list::write_words` meets its contract: likewise.
+-- `list::write_words` meets its contract: the words of the entries before item k stand in front of `at`, and nothing else has changed.
 use Rattle.list.proofs.Written.{Written, writes}
 use borrow.Author.Needs.{needs}
 use Prim.Native.Nat.{_-_, _≤_}
