@@ -117,4 +117,4 @@ module _ {b t : List ℕ} {n : ℕ} {out₀ : List ℕ} {k at : ℕ} {out out′
       → Written 2 entryWords b out₀ (k + 1) (at + 2) out′
   words-written s i e g f h c = written-one c i h f g (pair v) refl (here-words (here c k h f g) e) s
 
-pub ruleset writes = (written-start, written-end, written-none, entry-room, bytes-written, words-written)
+pub ruleset writes = (written-start, written-end, written-none, entry-room, words-written)
