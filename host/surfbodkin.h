@@ -130,8 +130,7 @@ uint64_t surfbodkin_write_text(const uint8_t *ari, size_t length,
                                uint8_t *out, size_t out_length);
 
 /* Writes the binary form of the ARI that a text spells. Exactly the texts that
-   surfbodkin_write_text writes are read, no other spelling. This archive does not
-   have the function yet: a program that calls it does not link.
+   surfbodkin_write_text writes are read, no other spelling.
      accepted   count: the ARI's items; low: its bytes
      refused    1, the text is longer than SURFBODKIN_TEXT_BYTES
                 15

@@ -1,15 +1,16 @@
 -- Laws of Byte: a number and its bytes; tests taken apart.
-use Prim.Native.Nat.{ℕ, zero, suc, _%_, _^_, _<_, _≤_}
+use Prim.Native.Nat.{ℕ, zero, suc, _+_, _*_, _/_, _%_, _^_, _<_, _≤_}
 use mathlib.Core.Path.{_≡_, refl, sym, _∙_, ap}
 use mathlib.Core.Bool.{Bool, true, false, not, _&&_, _||_, cond}
-use mathlib.Core.List.{List, [], _∷_}
+use mathlib.Core.List.{List, [], _∷_, _++_}
 use mathlib.Core.Logic.{_⊎_, inl, inr}
 use native.Mathlib.Omega.{arith}
-use native.Mathlib.Nat.{mod-lt, div-add-mod', pow-suc, one-le-pow, mul-comm}
+use native.Mathlib.Nat.{mod-lt, mod-eq-of-lt, div-add-mod', div-div-eq-div-mul, pow-suc, one-le-pow, mul-comm}
 use lib.ListN.{length, take, drop}
 use lib.Seq.{length-take-le}
 use lib.Dec.{leb}
-use lib.Arith.{digits-div, digits-mod, digits-lt}
+use lib.Pow.{pow-add}
+use lib.Arith.{digits-div, digits-mod, digits-lt, mod-mul}
 use borrow.Author.Tests.{ltb-true, leb-true, le-leb}
 use Rattle.cbor.specs.Byte.{be, value, within, all, isByte}
 
@@ -75,6 +76,19 @@ be-value (x ∷ xs) e =
     let q : all isByte xs ≡ true = and-true (isByte x) (all isByte xs) e .1 in
     let v : value xs < 256 ^ length xs = value-lt xs q in
     rw (digits-div x v, digits-mod x v, be-value xs q)
+
+-- the higher bytes, and the lower
+pub be-join : (u v x : ℕ) → x < 256 ^ (u + v) → be (u + v) x ≡ be u (x / 256 ^ v) ++ be v (x % 256 ^ v)
+be-join zero v x h = let e : 0 + v ≡ v = omega arith in rw (e, mod-eq-of-lt (rw e at h))
+be-join (suc u) v x h =
+    let e : suc u + v ≡ suc (u + v) = omega arith in
+    let p : 256 ^ (u + v) ≡ 256 ^ u * 256 ^ v = pow-add 256 u v in
+    let r : x % 256 ^ v < 256 ^ v = mod-lt x (pow-pos v) in
+    let d : x % 256 ^ (u + v) ≡ (x / 256 ^ v % 256 ^ u) * 256 ^ v + x % 256 ^ v = rw p (mod-mul x (pow-pos u) (pow-pos v)) in
+    let q : x % 256 ^ (u + v) / 256 ^ v ≡ x / 256 ^ v % 256 ^ u = rw d (digits-div _ r) in
+    let s : x % 256 ^ (u + v) % 256 ^ v ≡ x % 256 ^ v = rw d (digits-mod _ r) in
+    let t : x / 256 ^ (u + v) ≡ x / 256 ^ v / 256 ^ u = rw (p, mul-comm (256 ^ u) (256 ^ v)) (sym (div-div-eq-div-mul x (256 ^ v) (256 ^ u))) in
+    rw (e, be-join u v (x % 256 ^ (u + v)) (mod-lt x (pow-pos (u + v))), q, s, t)
 
 pub all-take : (p : ℕ → Bool) (n : ℕ) (xs : List ℕ) → all p xs ≡ true → all p (take n xs) ≡ true
 all-take p zero xs e = refl

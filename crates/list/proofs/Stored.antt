@@ -1,29 +1,13 @@
 -- Big-endian numbers as they are stored.
-use Prim.Native.Nat.{ℕ, zero, suc, _+_, _*_, _/_, _%_, _^_, _<_}
+use Prim.Native.Nat.{ℕ, suc, _+_, _/_, _%_, _^_, _<_}
 use mathlib.Core.Path.{_≡_, sym, _∙_, ap}
 use mathlib.Core.List.{List, [], _∷_, _++_}
 use native.Mathlib.Omega.{arith}
-use native.Mathlib.Nat.{mod-lt, mod-eq-of-lt, mul-comm, div-div-eq-div-mul}
 use lib.ListN.{set}
-use lib.Pow.{pow-add}
 use lib.Seq.{sets}
-use lib.Arith.{digits-div, digits-mod, mod-mul}
 use Rattle.cbor.specs.Byte.{be}
-use Rattle.cbor.proofs.ByteLaws.{pow-pos, length-be}
+use Rattle.cbor.proofs.ByteLaws.{length-be, be-join}
 use Rattle.read.proofs.Tables.{sets-append}
-
--- the higher bytes, and the lower
-pub be-join : (u v x : ℕ) → x < 256 ^ (u + v) → be (u + v) x ≡ be u (x / 256 ^ v) ++ be v (x % 256 ^ v)
-be-join zero v x h = let e : 0 + v ≡ v = omega arith in rw (e, mod-eq-of-lt (rw e at h))
-be-join (suc u) v x h =
-    let e : suc u + v ≡ suc (u + v) = omega arith in
-    let p : 256 ^ (u + v) ≡ 256 ^ u * 256 ^ v = pow-add 256 u v in
-    let r : x % 256 ^ v < 256 ^ v = mod-lt x (pow-pos v) in
-    let d : x % 256 ^ (u + v) ≡ (x / 256 ^ v % 256 ^ u) * 256 ^ v + x % 256 ^ v = rw p (mod-mul x (pow-pos u) (pow-pos v)) in
-    let q : x % 256 ^ (u + v) / 256 ^ v ≡ x / 256 ^ v % 256 ^ u = rw d (digits-div _ r) in
-    let s : x % 256 ^ (u + v) % 256 ^ v ≡ x % 256 ^ v = rw d (digits-mod _ r) in
-    let t : x / 256 ^ (u + v) ≡ x / 256 ^ v / 256 ^ u = rw (p, mul-comm (256 ^ u) (256 ^ v)) (sym (div-div-eq-div-mul x (256 ^ v) (256 ^ u))) in
-    rw (e, be-join u v (x % 256 ^ (u + v)) (mod-lt x (pow-pos (u + v))), q, s, t)
 
 module _ (o : List ℕ) (at : ℕ) where
   pub pair-stored : (x y : ℕ) → set (set o at x) (at + 1) y ≡ sets o at (x ∷ y ∷ [])

@@ -6,6 +6,7 @@ use native.Mathlib.Omega.{arith}
 use native.Mathlib.Nat.{add-zero, zero-add, mul-zero, mul-suc}
 use lib.ListN.{length, getD, take, drop, length-append, take-append-drop}
 use lib.Seq.{sets, sets-eq, length-sets, length-take-le, take-at, drop-at, drop-drop}
+use Rattle.cbor.proofs.ByteLaws.{be-join}
 use Rattle.cbor.specs.Byte.{be}
 use Rattle.cbor.specs.Answer.{headAt}
 use Rattle.ari.specs.Listing.{Entry, listing}
@@ -15,7 +16,6 @@ use Rattle.list.specs.declared.Inside.the-variants.{Nothing, At}
 use Rattle.list.specs.declared.Namespace.{Namespace}
 use Rattle.list.specs.Answers.{each, entryWords}
 use Rattle.list.specs.Entries.{insideFrom, namespaceOf, Tabled, listingFrom}
-use Rattle.list.proofs.Stored.{be-join}
 use Rattle.list.proofs.Table.{Here, from-start, from-end, no-reference, here}
 
 -- an entry's ends as one number

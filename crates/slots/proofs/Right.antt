@@ -1,7 +1,7 @@
 -- The table says what document 01 says: one test over the whole table, and the laws that it gives for each slot.
 use Prim.Native.Nat.{ℕ, zero, suc, _+_, _-_, _*_, _/_, _%_, _^_, _<_, _≤_}
 use mathlib.Core.Path.{_≡_, refl, sym, _∙_, ap}
-use mathlib.Core.Bool.{Bool, true, false, not, _&&_, _||_, cond}
+use mathlib.Core.Bool.{Bool, true, false, not, _&&_, _||_, cond, true≢false}
 use mathlib.Core.List.{List, [], _∷_}
 use native.Mathlib.Omega.{arith}
 use lib.ListN.{length, getD}
@@ -524,9 +524,10 @@ fits-small i k a g t e = go (ltb a 32) refl (and-true _ _ t) (rw (le-ltb 9 k g) 
         let o : getD tops (wordOf i / 2 ^ (k * 5) % 32) 1 ≤ 31 = leb-true _ 31 v in
         absurd (omega arith)
 
-pub next-right : (i k a n : ℕ) → IsSlot i → k ≤ 9 → fitsCode i k a ≡ true → Stands (nextCode i a n) (rule (slotOf i) .next a n)
+-- what is due beside a slot, if an argument that is added to a slot's number is a type's
+pub next-stands : (i a n : ℕ) → IsSlot i → (eqb (field (wordOf i) 59 2) 0 ≡ false → a ≤ 21) → Stands (nextCode i a n) (rule (slotOf i) .next a n)
 unfolding nextCode
-next-right i k a n h g t =
+next-stands i a n h s =
     let r = right i h in
     let w = wordOf i in
     let (p, q) = and-true (valueAt w) (names w (insideOf i)) (r .7) in
@@ -542,8 +543,25 @@ next-right i k a n h g t =
         let (u, v) = and-true (allFrom 10 0 (smallAt (wordOf i))) _ p in
         let (v₁, v₂) = and-true (eqb (field (wordOf i) 57 2) 0) _ v in
         let (v₃, v₄) = and-true (eqb (field (wordOf i) 58 2) 0) _ v₂ in
-        follows-value _ _ _ _ a n l (omega arith) (eqb-false _ 0 q)
-        (fits-small i k a g (all-at 10 0 (smallAt (wordOf i)) u k (omega arith) (omega arith)) t) (eqb-true _ 0 v₁) (eqb-true _ 0 v₃) v₄
+        follows-value _ _ _ _ a n l (omega arith) (eqb-false _ 0 q) (s q) (eqb-true _ 0 v₁) (eqb-true _ 0 v₃) v₄
+
+pub next-right : (i k a n : ℕ) → IsSlot i → k ≤ 9 → fitsCode i k a ≡ true → Stands (nextCode i a n) (rule (slotOf i) .next a n)
+next-right i k a n h g t = next-stands i a n h small
+  where
+    small : eqb (field (wordOf i) 59 2) 0 ≡ false → a ≤ 21
+    small q =
+        let p = rw q at (and-true (valueAt (wordOf i)) (names (wordOf i) (insideOf i)) (right i h .7) .0) in
+        let u = and-true (allFrom 10 0 (smallAt (wordOf i))) _ p .0 in
+        fits-small i k a g (all-at 10 0 (smallAt (wordOf i)) u k (omega arith) (omega arith)) t
+
+-- the slots whose argument is so added: a type's
+pub adds-type : (i : ℕ) → IsSlot i → eqb (field (wordOf i) 59 2) 0 ≡ false → within 5 8 i ≡ true
+unfolding wordOf
+adds-type i h q = go (eqb (field (getD words i 0) 59 2) 0) q (all-at 72 0 (λ j. eqb (field (getD words j 0) 59 2) 0 || within 5 8 j) refl i (omega arith) (omega arith))
+  where
+    go : (x : Bool) → x ≡ false → (x || within 5 8 i) ≡ true → within 5 8 i ≡ true
+    go true e p = absurd (true≢false e)
+    go false e p = p
 
 stands-reference : (a : ℕ) → Stands (inReferenceCode a) (referenceLevel a)
 unfolding inReferenceCode

@@ -92,7 +92,7 @@ nothing-after room at w k m a b c d e f g h i =
     rw (ne-eqb w 1 a, ne-eqb w 2 b, ne-eqb w 3 c, ne-eqb w 4 d, ne-eqb w 5 e, ne-eqb w 6 f, ne-eqb w 7 g, ne-eqb w 9 h, ne-eqb w 10 i) (put-nothing room at)
 
 -- the way of a slot
-unfoldable wayOf : Slot → ℕ
+unfoldable pub wayOf : Slot → ℕ
 wayOf version = 0
 wayOf (ari w) = 1
 wayOf (type w) = 2
@@ -117,7 +117,7 @@ way-map [] i = refl
 way-map (s ∷ ss) zero = refl
 way-map (s ∷ ss) (suc i) = way-map ss i
 
-way-is : (i : ℕ) → wayAt i ≡ wayOf (slotOf i)
+pub way-is : (i : ℕ) → wayAt i ≡ wayOf (slotOf i)
 unfolding wayOf
 way-is i = sym (way-map slots i)
 

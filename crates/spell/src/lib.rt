@@ -307,7 +307,7 @@ pub fn way_of(slot: u64) -> u8
     ways[slot as usize]
 }
 
-fn is_container(kind: u8) -> bool
+pub fn is_container(kind: u8) -> bool
     ensures { λ r. ⌜ r ≡ isContainer kind ⌝ }
 {
     if kind < 4 {

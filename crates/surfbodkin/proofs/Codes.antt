@@ -1,6 +1,6 @@
 -- The codes of answers.
 use Prim.Native.Nat.{ℕ, suc, _/_, _≤_, _<_}
-use mathlib.Core.Path.{_≡_, refl, _∙_}
+use mathlib.Core.Path.{_≡_, refl, _∙_, sym}
 use mathlib.Core.Bool.{Bool, true, false, cond}
 use mathlib.Core.List.{List, [], _∷_}
 use native.Mathlib.Omega.{arith}
@@ -29,12 +29,15 @@ use Rattle.list.specs.declared.Released.{Released}
 use Rattle.list.specs.declared.Released.the-variants as released
 use Rattle.list.specs.Answers.{listedOf, listIn, listOf, said}
 use Rattle.list.proofs.Table.{few-listed}
+use borrow.Author.Tests.{ltb-true, ltb-false}
+use Rattle.ari.specs.Table.{max64}
 use Rattle.ari.specs.Reader.{single}
-use Rattle.ari.specs.Items.{Items}
+use Rattle.ari.specs.Items.{Items, encode}
 use Rattle.text.specs.Text.{Form, spelled, none-at, form, textOf}
-use Rattle.text.specs.Answer.{Output, output, spellOut, writeText, lent}
+use Rattle.text.specs.Answer.{Output, output, spellOut, writeText, checked, readText, lent}
+use Rattle.text.specs.Parse.{same, candidate}
 use Rattle.text.specs.Answer as answers
-use Rattle.text.proofs.Round.{first-short, write-exactly}
+use Rattle.text.proofs.Round.{first-short, write-exactly, read-exactly, read-too-long}
 use Rattle.write.specs.Written.{writtenOf}
 use Rattle.write.specs.declared.Written.{Written}
 use Rattle.write.specs.declared.Written.the-variants as writtens
@@ -141,16 +144,16 @@ small-release b t s e = rw e (go (read firstLimits aMessage b) (numbered firstLi
 
 -- a text's
 module _ {a : Written} where
-  pub short-items : Short a → {k n : ℕ} → a ≡ writtens.Text k n → n < 16777216
+  pub short-items : Short a → {k n : ℕ} → a ≡ writtens.Bytes k n → n < 16777216
   short-items h e = let z = rw e at h in omega arith
 
-  pub short-text : Short a → {k n : ℕ} → a ≡ writtens.Text k n → k < 4294967296
+  pub short-text : Short a → {k n : ℕ} → a ≡ writtens.Bytes k n → k < 4294967296
   short-text h e = let z = rw e at h in omega arith
 
   pub written-small : Short a → {r p : ℕ} → a ≡ writtens.Refused r p → r < 256
   written-small h e = let z = rw e at h in omega arith
 
-  pub text-code : {k n : ℕ} → a ≡ writtens.Text k n → {c : ℕ} → c ≡ countCode n k → c ≡ writtenCode a
+  pub text-code : {k n : ℕ} → a ≡ writtens.Bytes k n → {c : ℕ} → c ≡ countCode n k → c ≡ writtenCode a
   text-code e q = rw e q
 
   pub written-refused-code : {r p : ℕ} → a ≡ writtens.Refused r p → {c : ℕ} → c ≡ refusalCode r p → c ≡ writtenCode a
@@ -183,11 +186,11 @@ unfolding writeText
 low b = low-written (read firstLimits single b) (numbered firstLimits single b) (decode b)
 
 abbrev Brief : Output → Type 0
-Brief (Output.refused r p) = r ≤ 14
+Brief (Output.refused r p) = r ≤ 15
 Brief (output u n) = (length u ≤ 32768) × (n ≤ 1024)
 
 brief : (b : List ℕ) → all isByte b ≡ true → (x : Output) → writeText firstLimits b ≡ x → Brief x
-brief b bs (Output.refused r p) e = rw e at (low b)
+brief b bs (Output.refused r p) e = let h = rw e at (low b) in omega arith
 brief b bs (output u n) e = (first-short u b n bs e, write-exactly firstLimits bs .0 e .is .few)
 
 room-of : (room : ℕ) (x : Output) → Brief x → Short (writtenOf (lent room x))
@@ -200,3 +203,44 @@ room-of room (output u n) h = go (ltb room (length u))
 
 pub short-of : (b : List ℕ) (room : ℕ) → all isByte b ≡ true → {a : Written} → a ≡ writtenOf (lent room (writeText firstLimits b)) → Short a
 short-of b room bs e = rw e (room-of room (writeText firstLimits b) (brief b bs (writeText firstLimits b) refl))
+
+-- what is read
+module _ (t : List ℕ) where
+  abbrev Once : Output → Type 0
+  Once (Output.refused r p) = r ≤ 15
+  Once (output u n) = Unit {0}
+
+  once-checked : (b : List ℕ) (x : Output) → Once (checked t b x)
+  once-checked b (Output.refused r p) = omega arith
+  once-checked b (output u n) = go (same u t)
+    where
+      go : (y : Bool) → Once (cond y (output b n) (Output.refused 15 0))
+      go true = tt
+      go false = omega arith
+
+  once : Once (readText firstLimits t)
+  unfolding readText
+  once = go (ltb 32768 (length t))
+    where
+      go : (y : Bool) → Once (cond y (Output.refused 1 0) (checked t (encode (candidate firstLimits t)) (writeText firstLimits (encode (candidate firstLimits t)))))
+      go true = omega arith
+      go false = once-checked (encode (candidate firstLimits t)) (writeText firstLimits (encode (candidate firstLimits t)))
+
+  not-long : {b : List ℕ} {n : ℕ} → readText firstLimits t ≡ output b n → length t ≤ 32768
+  not-long {b} {n} e = go (ltb 32768 (length t)) refl
+    where
+      go : (y : Bool) → ltb 32768 (length t) ≡ y → length t ≤ 32768
+      go true q =
+          let z = sym (read-too-long firstLimits t .1 (ltb-true 32768 (length t) q)) ∙ e in
+          absurd (let w : _≡_ {A = ℕ} 0 1 = cc in omega arith)
+      go false q = ltb-false 32768 (length t) q
+
+  brief-read : all isByte t ≡ true → (x : Output) → readText firstLimits t ≡ x → Brief x
+  brief-read ts (Output.refused r p) e = rw e at once
+  brief-read ts (output b n) e =
+      let f : length t < max64 = omega (arith, not-long e) in
+      let s = read-exactly firstLimits ts f b n .0 e .2 in
+      (omega (arith, s .is .short), s .is .few)
+
+  pub short-read : (room : ℕ) → all isByte t ≡ true → {a : Written} → a ≡ writtenOf (lent room (readText firstLimits t)) → Short a
+  short-read room ts e = rw e (room-of room (readText firstLimits t) (brief-read ts (readText firstLimits t) refl))

@@ -63,8 +63,8 @@ outputCode (output u n) = countCode n (length u)
 
 abbrev pub writtenCode : Written → ℕ
 writtenCode (written.Refused r p) = refusalCode r p
-writtenCode (written.Text k n) = countCode n k
+writtenCode (written.Bytes k n) = countCode n k
 
 abbrev pub Short : Written → Type 0
 Short (written.Refused r p) = r ≤ 16
-Short (written.Text k n) = (k ≤ 32768) × (n ≤ 1024)
+Short (written.Bytes k n) = (k ≤ 32768) × (n ≤ 1024)

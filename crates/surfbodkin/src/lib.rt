@@ -7,7 +7,7 @@ ghost use Rattle.grants.specs.Bytes.{checkBytes, releaseBytes};
 ghost use Rattle.grants.specs.Verdict as verdict;
 ghost use Rattle.list.specs.Answers.{listOf, writtenOf, said};
 ghost use lib.ListN.{length};
-ghost use Rattle.text.specs.Answer.{writeText, lent};
+ghost use Rattle.text.specs.Answer.{writeText, readText, lent};
 ghost use Rattle.write.specs.Written.{roomAfter};
 ghost use Rattle.surfbodkin.specs.Code.{refusalCode, countCode, checkCode, answerCode, Bounded, listCode, Few, tableCode, releaseCode, Small, outputCode, writtenCode, Short};
 use grants::Verdict;
@@ -116,7 +116,7 @@ fn written_code(a: Written) -> u64
     ensures { λ r. ⌜ r ≡ writtenCode a ⌝ }
 {
     match a {
-        Written::Text { length, count } => count_code(count, length),
+        Written::Bytes { length, count } => count_code(count, length),
         Written::Refused { number, place } => refusal_code(number, place as u64),
     }
 }
@@ -127,4 +127,12 @@ pub extern "C" fn surfbodkin_write_text(ari: &[u8], out: &mut [u8]) -> u64
     ensures { λ r. ⌜ now (out .exit) ≡ roomAfter (now (out .entry)) (lent (length (now (out .entry))) (writeText firstLimits (now (ari .entry)))) ⌝ }
 {
     written_code(write::write_text(ari, out))
+}
+
+#[no_mangle]
+pub extern "C" fn surfbodkin_read_text(text: &[u8], out: &mut [u8]) -> u64
+    ensures { λ r. ⌜ r ≡ outputCode (lent (length (now (out .entry))) (readText firstLimits (now (text .entry)))) ⌝ }
+    ensures { λ r. ⌜ now (out .exit) ≡ roomAfter (now (out .entry)) (lent (length (now (out .entry))) (readText firstLimits (now (text .entry)))) ⌝ }
+{
+    written_code(parse::read_text(text, out))
 }

@@ -25,13 +25,13 @@ use Rattle.text.proofs.Bound.{text-most}
 use Rattle.text.proofs.Outer.{candidate-back}
 use Rattle.text.proofs.Octets.{candidate-bytes}
 
-same-is : (u v : List ℕ) → same u v ≡ true → u ≡ v
+pub same-is : (u v : List ℕ) → same u v ≡ true → u ≡ v
 same-is [] [] e = refl
 same-is [] (y ∷ v) e = absurd (true≢false (sym e))
 same-is (x ∷ u) [] e = absurd (true≢false (sym e))
 same-is (x ∷ u) (y ∷ v) e = let (p, q) = and-true (eqb x y) (same u v) e in rw (eqb-true x y p, same-is u v q)
 
-same-self : (u : List ℕ) → same u u ≡ true
+pub same-self : (u : List ℕ) → same u u ≡ true
 same-self [] = refl
 same-self (x ∷ u) = rw (eq-eqb x x refl, same-self u)
 

@@ -5,7 +5,7 @@ use mathlib.Core.Bool.{Bool, true, false, cond}
 use mathlib.Core.List.{List, [], _∷_, _++_}
 use native.Mathlib.Omega.{arith}
 use lib.ListN.{length, take, drop}
-use lib.Seq.{sets, sets-eq, length-take-le, take-append-seam}
+use lib.Seq.{sets, sets-eq, take-append-seam}
 use lib.Dec.{ltb}
 use borrow.Author.Tests.{lt-ltb, le-ltb}
 use Rattle.cbor.specs.Byte.{all, isByte}
@@ -25,7 +25,7 @@ use Rattle.spell.specs.Put.{Put}
 use Rattle.write.specs.declared.Spelling.{Spelling}
 use Rattle.write.specs.declared.Spelling.the-variants.{Has, None}
 use Rattle.write.specs.declared.Written.{Written}
-use Rattle.write.specs.declared.Written.the-variants.{Text, Refused}
+use Rattle.write.specs.declared.Written.the-variants.{Bytes, Refused}
 use Rattle.write.specs.Written.{writtenOf, roomAfter, spellingBy, spellingOf, schemeOf, Whole, noneOf}
 
 -- a refusal is handed on
@@ -40,7 +40,7 @@ module _ (b : List ℕ) {f : Spelling} (e : f ≡ spellingOf b) where
   refused-output (refused r p) x q = cc
   refused-output (output u n) x q = absurd (let z : _≡_ {A = ℕ} 0 1 = cc in omega arith)
 
-  writes-none : {r p : ℕ} → f ≡ None r p → writeText firstLimits b ≡ refused r p
+  pub writes-none : {r p : ℕ} → f ≡ None r p → writeText firstLimits b ≡ refused r p
   unfolding spellingOf
   writes-none q = refused-output (writeText firstLimits b) (isRelative (decode b)) (sym e ∙ q)
 
@@ -50,33 +50,26 @@ module _ (b : List ℕ) {f : Spelling} (e : f ≡ spellingOf b) where
   pub keeps-room : {r p : ℕ} (room : List ℕ) (n : ℕ) → f ≡ None r p → room ≡ roomAfter room (lent n (writeText firstLimits b))
   keeps-room room n q = rw (writes-none q)
 
--- room for a text
-module _ (t : List ℕ) (size count : ℕ) (room : List ℕ) (h : size ≤ length t) where
-  sized : length (take size t) ≡ size
-  sized = length-take-le size t h
+-- room for bytes
+module _ (b : List ℕ) (count : ℕ) (room : List ℕ) where
+  pub no-room : length room < length b → Refused 16 (length b) ≡ writtenOf (lent (length room) (output b count))
+  no-room g = rw (lt-ltb (length room) (length b) g)
 
-  pub no-room : length room < size → Refused 16 size ≡ writtenOf (lent (length room) (output (take size t) count))
-  no-room g = rw (sized, lt-ltb (length room) size g)
+  pub no-room-kept : length room < length b → room ≡ roomAfter room (lent (length room) (output b count))
+  no-room-kept g = rw (lt-ltb (length room) (length b) g)
 
-  pub no-room-kept : length room < size → room ≡ roomAfter room (lent (length room) (output (take size t) count))
-  no-room-kept g = rw (sized, lt-ltb (length room) size g)
+  module _ (g : length b ≤ length room) {r : ℕ} {room′ : List ℕ} (p : Put room room′ 0 r b) where
+    put-told : (r ≡ 0 + length b) × (room′ ≡ sets room 0 b)
+    put-told = p .told (omega arith)
 
-  module _ (g : size ≤ length room) {r : ℕ} {room′ : List ℕ} (p₀ : Put room room′ 0 r (take (size - 0) t)) where
-    p : Put room room′ 0 r (take size t)
-    p = let z : size - 0 ≡ size = omega arith in rw z at p₀
+    pub room-enough : Bytes r count ≡ writtenOf (lent (length room) (output b count))
+    room-enough = rw (le-ltb (length room) (length b) g) (ap (λ (x : ℕ). Bytes x count) (omega (arith, put-told .0)))
 
-    put-told : (r ≡ 0 + length (take size t)) × (room′ ≡ sets room 0 (take size t))
-    put-told = p .told (omega (arith, sized))
-
-    pub room-enough : Text r count ≡ writtenOf (lent (length room) (output (take size t) count))
-    room-enough = rw (sized, le-ltb (length room) size g) (ap (λ (x : ℕ). Text x count) (omega (arith, put-told .0, sized)))
-
-    pub room-filled : room′ ≡ roomAfter room (lent (length room) (output (take size t) count))
+    pub room-filled : room′ ≡ roomAfter room (lent (length room) (output b count))
     room-filled =
-        let z : 0 + length (take size t) ≡ length (take size t) = omega arith in
-        let y : room′ ≡ take size t ++ drop (length (take size t)) room = put-told .1 ∙ sets-eq (take size t) room 0 (omega (arith, sized)) ∙ rw z in
-        let q : ltb (length room) (length (take size t)) ≡ false = le-ltb (length room) (length (take size t)) (omega (arith, sized)) in
-        rw q y
+        let z : 0 + length b ≡ length b = omega arith in
+        let y : room′ ≡ b ++ drop (length b) room = put-told .1 ∙ sets-eq b room 0 (omega arith) ∙ rw z in
+        rw (le-ltb (length room) (length b) g) y
 
 -- an ARI with a text form may stand inside another
 inside-fit : {g : Items} → Stands single g → isSet g ≡ false → Fit g false anAriDue []
@@ -131,13 +124,13 @@ module _ (b : List ℕ) (bs : all isByte b ≡ true) {f : Spelling} (e : f ≡ s
         let c : room′ ≡ t ++ drop (length t) room = told .1 ∙ sets-eq t room 0 (omega (arith, short)) ∙ rw y in
         rw (z, c) (take-append-seam t (drop (length t) room))
 
-    handed-is : output (take r room′) n ≡ writeText firstLimits b
-    handed-is = rw taken (sym (the-text .is-written))
+    pub handed-is : output (take (r - 0) room′) n ≡ writeText firstLimits b
+    handed-is = let z : r - 0 ≡ r = omega arith in rw (z, taken) (sym (the-text .is-written))
 
-    pub answers-text : (m : ℕ) {a : Written} → a ≡ writtenOf (lent m (output (take r room′) n)) → a ≡ writtenOf (lent m (writeText firstLimits b))
+    pub answers-text : (m : ℕ) {a : Written} → a ≡ writtenOf (lent m (output (take (r - 0) room′) n)) → a ≡ writtenOf (lent m (writeText firstLimits b))
     answers-text m c = c ∙ ap (λ (o : Output). writtenOf (lent m o)) handed-is
 
-    pub fills-room : (m : ℕ) (z : List ℕ) {z′ : List ℕ} → z′ ≡ roomAfter z (lent m (output (take r room′) n)) → z′ ≡ roomAfter z (lent m (writeText firstLimits b))
+    pub fills-room : (m : ℕ) (z : List ℕ) {z′ : List ℕ} → z′ ≡ roomAfter z (lent m (output (take (r - 0) room′) n)) → z′ ≡ roomAfter z (lent m (writeText firstLimits b))
     fills-room m z c = c ∙ ap (λ (o : Output). roomAfter z (lent m o)) handed-is
 
 pub ruleset handing = (none-refused, none-has, answers-none, keeps-room, no-room, no-room-kept, room-enough, room-filled, in-scratch, answers-text, fills-room)

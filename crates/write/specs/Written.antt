@@ -1,4 +1,4 @@
--- What writing a text answers, and what the lent room holds then.
+-- What writing a text, or reading one, answers, and what the lent room holds then.
 use Prim.Native.Nat.{ℕ}
 use mathlib.Core.Path.{_≡_}
 use mathlib.Core.Bool.{Bool, cond}
@@ -17,14 +17,14 @@ use Rattle.spell.specs.Put.{Put}
 use Rattle.write.specs.declared.Spelling.{Spelling}
 use Rattle.write.specs.declared.Spelling.the-variants.{Has, None}
 use Rattle.write.specs.declared.Written.{Written}
-use Rattle.write.specs.declared.Written.the-variants.{Text, Refused}
+use Rattle.write.specs.declared.Written.the-variants.{Bytes, Refused}
 
--- a text by its length, with the item count; or a refusal's number and place
+-- the bytes written by their length, with the item count; or a refusal's number and place
 abbrev pub writtenOf : Output → Written
 writtenOf (refused r p) = Refused r p
-writtenOf (output u n) = Text (length u) n
+writtenOf (output u n) = Bytes (length u) n
 
--- a text stands at the front, and the rest is as it was; a refusal leaves all as it was
+-- the bytes stand at the front, and the rest is as it was; a refusal leaves all as it was
 abbrev pub roomAfter : List ℕ → Output → List ℕ
 roomAfter room (refused r p) = room
 roomAfter room (output u n) = u ++ drop (length u) room

@@ -268,7 +268,7 @@ fn form_of(s: &[u8], count: usize) -> Spelling
 }
 
 // The tests 1 to 14.
-fn judge(s: &[u8]) -> Spelling
+pub fn judge(s: &[u8]) -> Spelling
     ensures { λ r. ⌜ r ≡ spellingOf (now (s .entry)) ⌝ }
 {
     let a = read::check_single(s);
@@ -287,7 +287,8 @@ fn put_scheme(relative: bool, out: &mut [u8]) -> usize
     spell::put_all(out, 0, b"ari:")
 }
 
-fn put_text(s: &[u8], relative: bool, out: &mut [u8]) -> usize
+// The text of an ARI that has one.
+pub fn put_text(s: &[u8], relative: bool, out: &mut [u8]) -> usize
     ensures { λ r. ⌜ Whole (now (s .entry)) relative r (now (out .entry)) (now (out .exit)) ⌝ }
 {
     let q = put_scheme(relative, out);
@@ -295,9 +296,9 @@ fn put_text(s: &[u8], relative: bool, out: &mut [u8]) -> usize
     w.end
 }
 
-// A text was written, so long and of so many items; or a refusal.
+// So many bytes were written, of an ARI of so many items; or a refusal.
 pub enum Written {
-    Text { length: usize, count: usize },
+    Bytes { length: usize, count: usize },
     Refused { number: u64, place: usize },
 }
 
@@ -316,20 +317,19 @@ fn refused(f: Spelling) -> Written
     }
 }
 
-// A text is handed over, if the room holds it: test 16.
-fn hand_over(text: &[u8], size: usize, count: usize, out: &mut [u8]) -> Written
-    requires { ⌜ size ≤ length (now text) ⌝ }
-    ensures { λ r. ⌜ r ≡ writtenOf (lent (length (now (out .entry))) (output (take size (now (text .entry))) count)) ⌝ }
-    ensures { λ r. ⌜ now (out .exit) ≡ roomAfter (now (out .entry)) (lent (length (now (out .entry))) (output (take size (now (text .entry))) count)) ⌝ }
+// Bytes are handed over, if the room holds them: test 16.
+pub fn hand_over(b: &[u8], count: usize, out: &mut [u8]) -> Written
+    ensures { λ r. ⌜ r ≡ writtenOf (lent (length (now (out .entry))) (output (now (b .entry)) count)) ⌝ }
+    ensures { λ r. ⌜ now (out .exit) ≡ roomAfter (now (out .entry)) (lent (length (now (out .entry))) (output (now (b .entry)) count)) ⌝ }
 {
-    if out.len() < size {
+    if out.len() < b.len() {
         return Written::Refused {
             number: 16,
-            place: size,
+            place: b.len(),
         };
     }
-    let end = spell::put_all(out, 0, &text[0..size]);
-    Written::Text { length: end, count }
+    let end = spell::put_all(out, 0, b);
+    Written::Bytes { length: end, count }
 }
 
 fn write_in(s: &[u8], scratch: &mut [u8], out: &mut [u8]) -> Written
@@ -342,7 +342,7 @@ fn write_in(s: &[u8], scratch: &mut [u8], out: &mut [u8]) -> Written
         return refused(f);
     };
     let size = put_text(s, relative, scratch);
-    hand_over(scratch, size, count, out)
+    hand_over(&scratch[0..size], count, out)
 }
 
 // The text of a single ARI in binary form is written into lent room.

@@ -6,11 +6,4 @@ use Rattle.write.proofs.hand_over.Tie as tie
 pub hand-over-spec : {M : Type 1} → statement M
 hand-over-spec =
     tie.close
-    (tie.spec
-    (λ c. search (handing, needs))
-    (λ c. search needs)
-    (λ c. search needs)
-    (λ c. search needs)
-    (λ c κs. search needs)
-    (λ c. search needs)
-    (λ c. (search (room-enough, needs), search (room-filled, needs))))
+    (tie.spec (λ c. search (handing, needs)) (λ c κs. search needs) (λ c. search needs) (λ c. (search (room-enough, needs), search (room-filled, needs))))

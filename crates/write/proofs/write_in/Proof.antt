@@ -4,18 +4,20 @@ use borrow.Author.Needs.{needs}
 use Rattle.write.proofs.write_in.Statement.{statement}
 use Rattle.write.proofs.write_in.Tie as tie
 
-hand-over-requires : tie.Need-hand-over-requires
-hand-over-requires c κs =
-    in-scratch _ (all-bytes (c .before .before .before .before .before .before .before .before .before .before .before .before .before .args .s .now) (c .before .before .before .before .before .before .before .before .before .before .before .before .shared-slice-known .given)) (c .before .before .before .before .before .before .before .before .before .judge .ensures) (c .before .before .before .before .before .before .before .f .given .1) (c .before .before .before .before .put-text .ensures) (c .before .before .before .before .before .before .before .before .before .before .before .before .before .pre)
+part-hand-over-end : tie.Need-part-hand-over-end
+part-hand-over-end c =
+    let b = all-bytes (c .before .before .before .before .before .before .before .before .before .before .before .before .args .s .now) (c .before .before .before .before .before .before .before .before .before .before .before .shared-slice-known .given) in
+    let h = in-scratch _ b (c .before .before .before .before .before .before .before .before .judge .ensures) (c .before .before .before .before .before .before .f .given .1) (c .before .before .before .put-text .ensures) (c .before .before .before .before .before .before .before .before .before .before .before .before .pre) in
+    search (h, needs)
 
 returns-2 : tie.Need-returns-2
 returns-2 c =
-    let b = all-bytes (c .before .before .before .before .before .before .before .before .before .before .before .before .before .before .before .before .args .s .now) (c .before .before .before .before .before .before .before .before .before .before .before .before .before .before .before .shared-slice-known .given) in
-    let j = c .before .before .before .before .before .before .before .before .before .before .before .before .judge .ensures in
-    let h = c .before .before .before .before .before .before .before .before .before .before .f .given .1 in
-    let w = c .before .before .before .before .before .before .before .put-text .ensures in
+    let b = all-bytes (c .before .before .before .before .before .before .before .before .before .before .before .before .before .before .before .before .before .args .s .now) (c .before .before .before .before .before .before .before .before .before .before .before .before .before .before .before .before .shared-slice-known .given) in
+    let j = c .before .before .before .before .before .before .before .before .before .before .before .before .before .judge .ensures in
+    let h = c .before .before .before .before .before .before .before .before .before .before .before .f .given .1 in
+    let w = c .before .before .before .before .before .before .before .before .put-text .ensures in
     let o = c .before .before .hand-over .ensures in
-    (answers-text _ b j h w (c .before .before .before .before .before .before .before .before .before .before .before .before .before .before .before .before .pre) _ (o .0), fills-room _ b j h w (c .before .before .before .before .before .before .before .before .before .before .before .before .before .before .before .before .pre) _ _ (o .1))
+    (answers-text _ b j h w (c .before .before .before .before .before .before .before .before .before .before .before .before .before .before .before .before .before .pre) _ (o .0), fills-room _ b j h w (c .before .before .before .before .before .before .before .before .before .before .before .before .before .before .before .before .before .pre) _ _ (o .1))
 
 pub write-in-spec : {M : Type 1} → statement M
 write-in-spec =
@@ -27,7 +29,10 @@ write-in-spec =
     (λ c κs. search needs)
     (λ c. search (handing, needs))
     (λ c κs. search needs)
-    hand-over-requires
+    (λ c. search needs)
+    (λ c. search needs)
+    part-hand-over-end
+    (λ c κs. search needs)
     (λ c. search needs)
     (λ c. search needs)
     returns-2)

@@ -1,0 +1,191 @@
+// An ARI's text is read: one walk along the slots puts a candidate's bytes, which count only if they are an accepted ARI whose own text is the text that was read.
+ghost use mathlib.Core.Path.{_≡_};
+ghost use mathlib.Core.Bool.{cond};
+ghost use Prim.Native.Nat.{_≤_};
+ghost use lib.ListN.{length, drop};
+ghost use Rattle.ari.specs.Table.{due};
+ghost use Rattle.ari.specs.Limits.{firstLimits};
+ghost use Rattle.ari.specs.Items.{encode};
+ghost use Rattle.slots.specs.Code.{slotOf};
+ghost use Rattle.slots.proofs.Right.{IsSlot};
+ghost use Rattle.read.specs.Walks.{insideLevel};
+ghost use Rattle.spell.specs.Put.{Put};
+ghost use Rattle.text.specs.Parse.{same, level, parse, candidate};
+ghost use Rattle.text.specs.Answer.{refused, output, readText, lent};
+ghost use Rattle.write.specs.Written.{writtenOf, roomAfter};
+ghost use Rattle.parse.specs.Parsed.{Parsed, Tried, Begins};
+use write::Spelling;
+use write::Written;
+
+// Where a walk stands: in the text, and in the room that it puts bytes into.
+pub struct Pos {
+    pub next: usize,
+    pub end: usize,
+}
+
+// The members of a head at a slot.
+fn read_inside(
+    t: &[u8],
+    at: usize,
+    items: usize,
+    depth: usize,
+    slot: u64,
+    kind: u8,
+    arg: u64,
+    out: &mut [u8],
+    end: usize,
+) -> Pos
+    requires { ⌜ IsSlot slot × (at ≤ length (now t)) ⌝ }
+    ensures { λ r. ⌜ Parsed (now (t .entry)) (parse items depth (insideLevel (slotOf slot) kind arg) (drop at (now (t .entry)))) end (now (out .entry)) (now (out .exit)) r ⌝ }
+{
+    if depth == 0 {
+        return Pos { next: at, end };
+    }
+    let inner = slots::inside(slot, kind, arg);
+    match inner {
+        slots::Next::Done => Pos { next: at, end },
+        slots::Next::Due { slot: a, more: b } => read_level(t, at, items, depth - 1, a, b, out, end),
+    }
+}
+
+// The items of a level from the slot on. Each puts a byte at least, so a full room ends the walk.
+fn read_level(
+    t: &[u8],
+    at: usize,
+    items: usize,
+    depth: usize,
+    slot: u64,
+    more: u64,
+    out: &mut [u8],
+    end: usize,
+) -> Pos
+    requires { ⌜ IsSlot slot × (at ≤ length (now t)) ⌝ }
+    ensures { λ r. ⌜ Parsed (now (t .entry)) (level (parse items depth) items (due (slotOf slot) more) (drop at (now (t .entry)))) end (now (out .entry)) (now (out .exit)) r ⌝ }
+{
+    let mut p = at;
+    let mut r = end;
+    let mut place = slot;
+    let mut left = more;
+    let mut fuel = items;
+    while 0 < fuel {
+        if out.len() <= r {
+            return Pos { next: p, end: r };
+        }
+        let x = words::take_item(t, p, place, out, r);
+        let w = read_inside(t, x.next, items, depth, place, x.kind, x.arg, out, x.end);
+        let n = slots::next_slot(place, x.arg, left);
+        let slots::Next::Due { slot: a, more: b } = n else {
+            let e = words::skip(t, w.next, words::size_after(place, x.kind, false));
+            return Pos {
+                next: e,
+                end: w.end,
+            };
+        };
+        p = words::skip(t, w.next, words::size_after(place, x.kind, true));
+        r = w.end;
+        place = a;
+        left = b;
+        fuel -= 1;
+    }
+    Pos { next: p, end: r }
+}
+
+// Behind the scheme, which only a relative reference lacks.
+fn begin(t: &[u8]) -> usize
+    ensures { λ r. ⌜ Begins (now (t .entry)) r ⌝ }
+{
+    if t.len() == 0 {
+        return 0;
+    }
+    if t[0] == b'.' {
+        return 0;
+    }
+    words::skip(t, 0, 4)
+}
+
+fn put_candidate(t: &[u8], out: &mut [u8]) -> usize
+    ensures { λ r. ⌜ Put (now (out .entry)) (now (out .exit)) 0 r (encode (candidate firstLimits (now (t .entry)))) ⌝ }
+{
+    let p = begin(t);
+    let w = read_level(t, p, 1024, 12, 3, 0, out, 0);
+    w.end
+}
+
+fn same(a: &[u8], b: &[u8]) -> bool
+    ensures { λ r. ⌜ r ≡ same (now (a .entry)) (now (b .entry)) ⌝ }
+{
+    if a.len() != b.len() {
+        return false;
+    }
+    let mut i = 0;
+    while i < a.len() {
+        if a[i] != b[i] {
+            return false;
+        }
+        i += 1;
+    }
+    true
+}
+
+// Bytes are handed over, if they are what was told; or they are refused.
+fn give(told: bool, b: &[u8], count: usize, out: &mut [u8]) -> Written
+    ensures { λ r. ⌜ r ≡ writtenOf (lent (length (now (out .entry))) (cond told (output (now (b .entry)) count) (refused 15 0))) ⌝ }
+    ensures { λ r. ⌜ now (out .exit) ≡ roomAfter (now (out .entry)) (lent (length (now (out .entry))) (cond told (output (now (b .entry)) count) (refused 15 0))) ⌝ }
+{
+    if told {
+        return write::hand_over(b, count, out);
+    }
+    Written::Refused {
+        number: 15,
+        place: 0,
+    }
+}
+
+// The candidate's bytes are handed over, if they are an ARI whose text is t.
+fn confirm(t: &[u8], b: &[u8], text: &mut [u8], out: &mut [u8]) -> Written
+    requires { ⌜ (32768 ≤ length (now text)) × Tried (now t) (now b) ⌝ }
+    ensures { λ r. ⌜ r ≡ writtenOf (lent (length (now (out .entry))) (readText firstLimits (now (t .entry)))) ⌝ }
+    ensures { λ r. ⌜ now (out .exit) ≡ roomAfter (now (out .entry)) (lent (length (now (out .entry))) (readText firstLimits (now (t .entry)))) ⌝ }
+{
+    let f = write::judge(b);
+    let Spelling::Has { relative, count } = f else {
+        return Written::Refused {
+            number: 15,
+            place: 0,
+        };
+    };
+    let size = write::put_text(b, relative, text);
+    let told = same(&text[0..size], t);
+    give(told, b, count, out)
+}
+
+fn read_in(t: &[u8], bytes: &mut [u8], text: &mut [u8], out: &mut [u8]) -> Written
+    requires { ⌜ (4096 ≤ length (now bytes)) × (32768 ≤ length (now text)) ⌝ }
+    ensures { λ r. ⌜ r ≡ writtenOf (lent (length (now (out .entry))) (readText firstLimits (now (t .entry)))) ⌝ }
+    ensures { λ r. ⌜ now (out .exit) ≡ roomAfter (now (out .entry)) (lent (length (now (out .entry))) (readText firstLimits (now (t .entry)))) ⌝ }
+{
+    if 32768 < t.len() {
+        return Written::Refused {
+            number: 1,
+            place: 0,
+        };
+    }
+    let size = put_candidate(t, bytes);
+    if bytes.len() < size {
+        return Written::Refused {
+            number: 15,
+            place: 0,
+        };
+    }
+    confirm(t, &bytes[0..size], text, out)
+}
+
+// The binary form of the single ARI that a text is.
+pub fn read_text(t: &[u8], out: &mut [u8]) -> Written
+    ensures { λ r. ⌜ r ≡ writtenOf (lent (length (now (out .entry))) (readText firstLimits (now (t .entry)))) ⌝ }
+    ensures { λ r. ⌜ now (out .exit) ≡ roomAfter (now (out .entry)) (lent (length (now (out .entry))) (readText firstLimits (now (t .entry)))) ⌝ }
+{
+    let mut bytes = [0u8; 4096];
+    let mut text = [0u8; 32768];
+    read_in(t, &mut bytes, &mut text, out)
+}

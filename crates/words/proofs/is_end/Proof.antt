@@ -1,0 +1,14 @@
+use Rattle.words.proofs.Leaves.{leaves}
+use borrow.Author.Needs.{needs}
+use Rattle.words.proofs.is_end.Statement.{statement}
+use Rattle.words.proofs.is_end.Tie as tie
+
+pub is-end-spec : {M : Type 1} → statement M
+is-end-spec =
+    tie.close
+    (tie.spec
+    (λ c. search (leaves, needs))
+    (λ c. search (leaves, needs))
+    (λ c. search (leaves, needs))
+    (λ c. search (leaves, needs))
+    (λ c. search (leaves, needs)))

@@ -1,0 +1,16 @@
+use Rattle.words.proofs.Found.{found}
+use borrow.Author.Needs.{needs}
+use Rattle.words.proofs.parts.Statement.{statement}
+use Rattle.words.proofs.parts.Tie as tie
+
+pub parts-spec : {M : Type 1} → statement M
+parts-spec =
+    tie.close
+    (tie.spec
+    (λ c. search (found, needs))
+    (λ c. search needs)
+    (λ c κs. search needs)
+    (λ c. search (found, needs))
+    (λ c κs. search needs)
+    (λ c. search (found, needs))
+    (λ c. search (found, needs)))

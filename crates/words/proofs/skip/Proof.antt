@@ -1,0 +1,14 @@
+use Rattle.words.proofs.Leaves.{leaves}
+use borrow.Author.Needs.{needs}
+use Rattle.words.proofs.skip.Statement.{statement}
+use Rattle.words.proofs.skip.Tie as tie
+
+pub skip-spec : {M : Type 1} → statement M
+skip-spec =
+    tie.close
+    (tie.spec
+    (λ c. search (leaves, needs))
+    (λ c. search needs)
+    (λ c. search (leaves, needs))
+    (λ c. search needs)
+    (λ c. search (leaves, needs)))
