@@ -1,8 +1,10 @@
 pub mod Asking
 pub mod Decided
+pub mod Lending
 pub mod Lent
 pub mod Listed
 pub mod Over
 pub mod Same
 pub mod Searched
 pub mod Turn
+pub mod Words

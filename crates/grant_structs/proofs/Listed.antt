@@ -1,22 +1,21 @@
 -- Listed entries in words, and the search over them, turn by turn.
-use Prim.Native.Nat.{ℕ, zero, suc, _+_, _-_, _*_, _/_, _<_, _≤_, _^_}
+use Prim.Native.Nat.{ℕ, zero, suc, _-_, _<_, _≤_, _^_}
 use mathlib.Core.Path.{_≡_, refl, sym, _∙_, ap, subst}
 use mathlib.Core.Bool.{Bool, true, false, not, cond, true≢false}
-use mathlib.Core.List.{List, [], _∷_}
+use mathlib.Core.List.{List, []}
 use native.Mathlib.Nat.{zero-add}
 use native.Mathlib.Omega.{arith}
-use lib.ListN.{length, getD}
 use lib.IntN.{ℤ, pos, negsuc, _-ℤ_}
-use lib.Dec.{eqb, ltb}
+use lib.Dec.{eqb}
 use mir.Syntax.{w64}
 use mir.Val.{SFits, ofZ, toZ}
 use mir.ValLaws.{toZ-pos, toZ-ofZ}
 use borrow.Author.Tests.{lt-ltb, le-ltb, le-leb, lt-leb, eq-eqb, ne-eqb}
 use Rattle.ari.specs.Table.{max63, max64}
-use Rattle.ari.specs.Listing.{Space, number, name, relative, Entry}
-use Rattle.grants.specs.Grants.{Grant, some, holds, granted, Release, yes, no, judgeFrom}
+use Rattle.ari.specs.Listing.{Space, number, name, relative}
+use Rattle.grants.specs.Grants.{Grant, some, holds, granted, yes, no, judgeFrom}
 use Rattle.grants.specs.Bytes.{signed}
-use Rattle.grant_structs.specs.Structs.{spaceBy, kindAt, wordAt, entryAt, entriesFrom, entriesIn, wantedAt, heldBack, heldAt}
+use Rattle.grant_structs.specs.Structs.{kindAt, wordAt, entryAt, entriesFrom, wantedAt, heldBack, heldAt}
 
 -- a word as a number: the code's casts and its difference
 minus-one : (k : ℕ) → negsuc 0 -ℤ pos k ≡ negsuc k
@@ -77,32 +76,30 @@ module _ (t : List Grant) (s : ℕ) (l : List ℕ) where
         go true b false q e = absurd (true≢false e)
         go false b y q e = absurd (true≢false e)
 
-  abbrev n : ℕ
-  n = length l / 2
-
+-- what is left from entry i on decides
+module _ (t : List Grant) (s : ℕ) (l : List ℕ) (n : ℕ) where
   abbrev ok : Space → Bool
   ok = granted t s
 
-  -- what is left from entry i on decides
-  abbrev pub Listed : ℕ → Type 0
-  Listed i = judgeFrom ok 0 (entriesIn l) ≡ judgeFrom ok i (entriesFrom l i (n - i))
+  abbrev pub Unjudged : ℕ → Type 0
+  Unjudged i = judgeFrom ok 0 (entriesFrom l 0 n) ≡ judgeFrom ok i (entriesFrom l i (n - i))
 
-  pub at-first : Listed 0
+  pub at-first : Unjudged 0
   at-first = let e : n - 0 ≡ n = omega arith in rw e
 
   here : (i : ℕ) → i < n → n - i ≡ suc (n - suc i)
   here i h = omega arith
 
-  pub passed : (i : ℕ) → i < n → Listed i → ok (entryAt l i .space) ≡ true → Listed (suc i)
+  pub passed : (i : ℕ) → i < n → Unjudged i → ok (entryAt l i .space) ≡ true → Unjudged (suc i)
   passed i h q e = q ∙ rw (here i h, e)
 
-  pub held : (i : ℕ) → i < n → Listed i → ok (entryAt l i .space) ≡ false → heldAt i n ≡ judgeFrom ok 0 (entriesIn l)
+  pub held : (i : ℕ) → i < n → Unjudged i → ok (entryAt l i .space) ≡ false → heldAt i n ≡ judgeFrom ok 0 (entriesFrom l 0 n)
   held i h q e = lt ∙ sym (q ∙ rw (here i h, e))
     where
       lt : heldAt i n ≡ no i
       lt = rw (lt-ltb i n h)
 
-  pub all-passed : (i : ℕ) → i ≡ n → Listed i → heldAt i n ≡ judgeFrom ok 0 (entriesIn l)
+  pub all-passed : (i : ℕ) → i ≡ n → Unjudged i → heldAt i n ≡ judgeFrom ok 0 (entriesFrom l 0 n)
   all-passed i e q = ge ∙ sym (q ∙ rw none)
     where
       ge : heldAt i n ≡ yes

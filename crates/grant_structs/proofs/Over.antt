@@ -3,7 +3,7 @@
 --     slice ℓ, Own, Shr    the MIR type of a `&ℓ [Grant]`; what one owns; and the fractured borrow in it
 --     own-word, own-int, own-bool, own-grant      what a number, a bool or a row owns is had for nothing, where its relation holds
 --     opens-rows       at entry: the slice's `own` and the token.        A `&` is Copy: Own is kept whole, for the exit and for a callee, and Shr beside it
---     copies-rows, copies-words     what a slice owns, twice
+--     copies-rows, copies-words, copies-bytes     what a slice owns, twice
 --     looks-row, shuts-row     row i is taken out, with its cell at its place, and put back
 --     at-row           what the code's `16 * i` past the pointer is
 --     answered         what a callee that has no lifetime left: its result's machine value is in hand with what its `ensures` says.        answered-κ, answered-κκ     the same of a callee at κ, or at two, whose tokens come back
@@ -20,7 +20,7 @@ use mir.Syntax.{Lifetime, Ty, named, imm, w64, tyRef}
 use mir.Val.{Val, vint, vbool, ofZ, hbits, hasTy, WT}
 use lib.Dec.{T as Holds}
 use base.Logic.{SProp, ent, sep, ex, emp}
-use base.Fml.{Lft, GName, Share, Fml, ftrue, flft, fobor, fshr-bor}
+use base.Fml.{Lft, Share, Fml, ftrue, flft, fobor, fshr-bor}
 use prog.Wp.{Heap}
 use ghost.Atoms.{Atoms, sem}
 use contract.Monad.{fact}
@@ -28,10 +28,10 @@ use types.Kit.{Given, Item, Goal, Soaks, Seq, Step, step, ‵, raw, _⊛_, some,
 use types.Share.{arr-parts}
 use denote.RattleType.{RattleType}
 use denote.Laws.{Is, shows}
-use denote.Memory.{cellAt, mem, pointee, shares}
+use denote.Memory.{cellAt, pointee, shares}
 use denote.Plain.{uint-makes, bool-makes}
 use denote.Signed.{sint-makes}
-use denote.Builtin.{u64, i64, bool}
+use denote.Builtin.{u8, u64, i64, bool}
 use denote.Ref.{RefT}
 use denote.Slice.{sliceTy, sliceVal, ShrSlice, shr-slice-copy}
 use denote.Index.{place, place-is, others, elem-out, elem-back, looks-slice, shuts-slice}
@@ -61,9 +61,12 @@ fine s z gs gz = LL.owes T.the-type T′.the-laws (record { subscriber = s; name
 abbrev pub Own : Lft → RefT (List Grant) → Fml
 Own κ a = ShrSlice (named 0) κ R .own a (sliceVal (a .ptr) (length (a .now)) ∷ [])
 
--- the same of a lent list of words
+-- the same of a lent list of words, or of bytes
 abbrev pub Words : Lft → RefT (List ℕ) → Fml
 Words κ a = ShrSlice (named 0) κ u64 .own a (sliceVal (a .ptr) (length (a .now)) ∷ [])
+
+abbrev pub Bytes : Lft → RefT (List ℕ) → Fml
+Bytes κ a = ShrSlice (named 0) κ u8 .own a (sliceVal (a .ptr) (length (a .now)) ∷ [])
 
 abbrev pub Shr : Lft → List Grant → ℕ → ℕ → Fml
 Shr κ ys b o = fshr-bor κ (λ p. arr-parts (shares R) (length ys) .part p ys b o)
@@ -101,6 +104,9 @@ module _ {M : Type 1} {𝓤 : URA M} {H : Heap 𝓤} {A : Atoms 𝓤} {K : Type 
 
   pub copies-words : K → {κ : Lft} (a : RefT (List ℕ)) → Step K W (‵ (Words κ a) ∷ ‵ (Words κ a) ∷ Γ) G (‵ (Words κ a) ∷ Γ) G
   copies-words t a = copies t u64 a
+
+  pub copies-bytes : K → {κ : Lft} (a : RefT (List ℕ)) → Step K W (‵ (Bytes κ a) ∷ ‵ (Bytes κ a) ∷ Γ) G (‵ (Bytes κ a) ∷ Γ) G
+  copies-bytes t a = copies t u8 a
 
   pub looks-row : K → Soaks G → {κ : Lft} {q : Share} (ys : List Grant) (i b o : ℕ) → i < length ys
       → ((q′ : Share) → Fine (rowAt ys i) → Seq K W (‵ (cellAt q′ (R .mir) (low (rowAt ys i) ∷ []) b (place 16 o i)) ∷ ‵ (R .own (rowAt ys i) (low (rowAt ys i) ∷ [])) ∷ ‵ (others (shares R) q′ ys i b o)

@@ -1,29 +1,32 @@
--- The byte form and the struct form of a table give the same answers; and so do entries in words and the entries themselves.
-use Prim.Native.Nat.{ℕ, zero, suc, _+_, _-_, _*_, _/_, _%_, _^_, _<_, _≤_}
+-- The byte form and the struct form of a table give the same answers.
+use Prim.Native.Nat.{ℕ, _+_, _*_, _/_, _%_, _^_, _<_}
 use mathlib.Core.Path.{_≡_, refl, sym, _∙_, ap}
-use mathlib.Core.Bool.{Bool, true, false, cond}
-use mathlib.Core.List.{List, [], _∷_, _++_, List·Memᴰ, List·Memᴰ·head, List·Memᴰ·tail}
+use mathlib.Core.Bool.{false}
+use mathlib.Core.List.{List, [], _∷_, _++_}
 use native.Mathlib.Omega.{arith}
-use lib.ListN.{length, take, drop, getD, length-append}
+use lib.ListN.{length, take, drop, length-append}
 use lib.Seq.{take-at, drop-at, drop-drop}
 use lib.IntN.{ℤ, pos, negsuc}
-use lib.Dec.{eqb}
 use borrow.Author.Tests.{eq-eqb}
 use Rattle.cbor.specs.Byte.{be, value}
 use Rattle.cbor.proofs.ByteLaws.{length-be, value-be}
-use Rattle.ari.specs.Table.{max63, max64}
+use Rattle.ari.specs.Limits.{firstLimits}
 use Rattle.ari.specs.Reader.{Limits, Answer, accept, refuse, aMessage, read}
-use Rattle.ari.specs.Listing.{Space, number, name, relative, Entry, listing}
+use Rattle.ari.specs.Listing.{Space, number, listing}
 use Rattle.ari.proofs.Named.{InRange}
-use Rattle.grants.specs.Grants.{Grant, granted, Check, passes, refused, check, Release, no, judgeFrom, judge, release}
+use Rattle.grants.specs.Grants.{Grant, granted, check, judge, release}
 use Rattle.grants.specs.Bytes.{word, rowBy, rowOf, rowsOf, rows, ragged, checkBytes, whole, releaseBytes}
 use Rattle.grants.specs.Verdict.{said}
 use Rattle.grants.specs.declared.Verdict.{Verdict}
 use Rattle.grants.specs.declared.Verdict.the-variants.{Passes, Refused}
 use Rattle.grants.proofs.Signed.{signed-word}
+use Rattle.list.specs.declared.Released.{Released}
+use Rattle.list.specs.Answers.{said as saidOf}
 use Rattle.grant_structs.specs.declared.Grant.{Grant as Row}
-use Rattle.grant_structs.specs.Structs.{grantOf, grants, spaceBy, kindAt, wordAt, entryBy, entryAt, entriesFrom, entriesIn}
-use Rattle.grant_structs.specs.Bytes.{tableBytes, kindOf, wordOf, wordsOf}
+use Rattle.grant_structs.specs.declared.Release.{Release}
+use Rattle.grant_structs.specs.Told.{told}
+use Rattle.grant_structs.specs.Structs.{grantOf, grants}
+use Rattle.grant_structs.specs.Bytes.{tableBytes}
 
 -- the numbers of a struct: a u64 and an i64
 abbrev pub Fit : List Row → Type 0
@@ -97,7 +100,11 @@ module _ (t : List Row) (f : Fit t) where
       go (refuse r p) = refl
       go (accept n) = rw (not-ragged t)
 
-  -- so what `check_table` answers of the bytes is what `check_grants` answers of the structs
+  -- so what `list::release` answers of the bytes, in document 01's terms, is what `release_grants` answers of the structs
+  pub same-answer : (b : List ℕ) (s : ℕ) (r : Released) (r′ : Release) → saidOf r ≡ releaseBytes firstLimits b (tableBytes t) s → told r′ ≡ release firstLimits b (grants t) s → saidOf r ≡ told r′
+  same-answer b s r r′ e e′ = e ∙ same-release firstLimits b s ∙ sym e′
+
+  -- and what `check_table` answers of the bytes is what `check_grants` answers of the structs
   pub same-verdict : (r r′ : Verdict) → said r ≡ checkBytes (tableBytes t) → said r′ ≡ check (grants t) → r ≡ r′
   same-verdict r r′ e e′ = told-apart r r′ (e ∙ same-check ∙ sym e′)
     where
@@ -106,40 +113,3 @@ module _ (t : List Row) (f : Fit t) where
       told-apart Passes (Refused i) q = absurd (let z : _≡_ {A = ℕ} 0 1 = cc in omega arith)
       told-apart (Refused i) Passes q = absurd (let z : _≡_ {A = ℕ} 0 1 = cc in omega arith)
       told-apart (Refused i) (Refused j) q = ap Refused (let z : i ≡ j = cc in z)
-
--- ---- entries in words
-module _ (a b : ℕ) (l : List ℕ) where
-  shifted : (i : ℕ) → entryAt (a ∷ b ∷ l) (suc i) ≡ entryAt l i
-  shifted i =
-      let e : 2 * suc i ≡ suc (suc (2 * i)) = omega arith in
-      let f : 2 * suc i + 1 ≡ suc (suc (2 * i + 1)) = omega arith in
-      ap (λ (k : ℕ). entryBy (getD (a ∷ b ∷ l) k 0) (wordAt (a ∷ b ∷ l) (suc i))) e ∙ ap (λ (k : ℕ). entryBy (kindAt l i) (getD (a ∷ b ∷ l) k 0)) f
-
-  all-shifted : (i n : ℕ) → entriesFrom (a ∷ b ∷ l) (suc i) n ≡ entriesFrom l i n
-  all-shifted i zero = refl
-  all-shifted i (suc n) = ap (λ (e : Entry). e ∷ entriesFrom (a ∷ b ∷ l) (suc (suc i)) n) (shifted i) ∙ ap (λ (es : List Entry). entryAt l i ∷ es) (all-shifted (suc i) n)
-
-  one-more : entriesIn (a ∷ b ∷ l) ≡ entryBy a b ∷ entriesIn l
-  one-more =
-      let e : length (a ∷ b ∷ l) / 2 ≡ suc (length l / 2) = omega arith in
-      ap (entriesFrom (a ∷ b ∷ l) 0) e ∙ ap (λ (es : List Entry). entryBy a b ∷ es) (all-shifted 0 (length l / 2))
-
-module _ (t : List Grant) (s : ℕ) where
-  same-space : (x : Space) → InRange x → granted t s (spaceBy (kindOf x) (wordOf x)) ≡ granted t s x
-  same-space (number z) h = ap (λ (y : ℤ). granted t s (number y)) (signed-word z h)
-  same-space (name p n) h = refl
-  same-space relative h = refl
-
-  -- the words decide as the entries do
-  pub same-words : (i : ℕ) (es : List Entry) → ((e : Entry) → List·Memᴰ e es → InRange (e .space)) → judgeFrom (granted t s) i (entriesIn (wordsOf es)) ≡ judgeFrom (granted t s) i es
-  same-words i [] h = refl
-  same-words i (e ∷ es) h =
-      ap (judgeFrom (granted t s) i) (one-more (kindOf (e .space)) (wordOf (e .space)) (wordsOf es))
-      ∙ ap (λ (y : Bool). cond y (judgeFrom (granted t s) (suc i) (entriesIn (wordsOf es))) (no i)) (same-space (e .space) (h e (List·Memᴰ·head refl)))
-      ∙ ap (λ (r : Release). cond (granted t s (e .space)) r (no i)) (same-words (suc i) es (λ x k. h x (List·Memᴰ·tail k)))
-
-  -- so `release_words` on an accepted message's listing in words is release
-  pub words-release : (m : Limits) (b : List ℕ) (n : ℕ) → read m aMessage b ≡ accept n → ((e : Entry) → List·Memᴰ e (listing b) → InRange (e .space))
-      → judgeFrom (granted t s) 0 (entriesIn (wordsOf (listing b))) ≡ release m b t s
-  unfolding release
-  words-release m b n a h = same-words 0 (listing b) h ∙ sym (ap (λ (x : Answer). judge x (granted t s) (listing b)) a)

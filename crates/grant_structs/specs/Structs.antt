@@ -1,13 +1,17 @@
 -- Grant structs as document 01's grants, and what the functions on plain numbers decide.
-use Prim.Native.Nat.{ℕ, zero, suc, _+_, _*_, _/_}
-use mathlib.Core.Bool.{Bool, true, false, not, _||_, cond}
+use Prim.Native.Nat.{ℕ, zero, suc, _+_, _*_, _/_, _≤_}
+use mathlib.Core.Path.{_≡_}
+use mathlib.Core.Bool.{Bool, true, false, not, cond}
 use mathlib.Core.List.{List, [], _∷_, map}
 use lib.IntN.{ℤ, pos}
 use lib.ListN.{length, getD}
 use lib.Dec.{eqb, ltb}
 use Rattle.ari.specs.Listing.{Space, number, name, relative, Entry}
-use Rattle.grants.specs.Grants.{Grant, clash, holds, Check, passes, refused, Release, yes, no}
+use Rattle.ari.specs.Limits.{firstLimits}
+use Rattle.grants.specs.Grants.{Grant, clash, holds, granted, Check, passes, refused, Release, yes, no, judgeFrom, release}
 use Rattle.grants.specs.Bytes.{signed}
+use Rattle.list.specs.declared.Listed.{Listed}
+use Rattle.list.specs.declared.Listed.the-variants.{Entries, Refused}
 use Rattle.grant_structs.specs.declared.Grant.{Grant as Row}
 
 abbrev pub rowBy : ℕ → ℤ → Grant
@@ -58,9 +62,6 @@ abbrev pub entriesFrom : List ℕ → ℕ → ℕ → List Entry
 entriesFrom l i zero = []
 entriesFrom l i (suc n) = entryAt l i ∷ entriesFrom l (suc i) n
 
-abbrev pub entriesIn : List ℕ → List Entry
-entriesIn l = entriesFrom l 0 (length l / 2)
-
 -- the row that grants entry i to s, if its namespace is a number
 abbrev pub wantedAt : List ℕ → ℕ → ℕ → Row
 wantedAt l i s = record { subscriber = s; namespace = signed (wordAt l i) }
@@ -68,3 +69,17 @@ wantedAt l i s = record { subscriber = s; namespace = signed (wordAt l i) }
 -- entry i isn't granted, where `found` says whether that row stands in the table
 abbrev pub heldBack : List ℕ → ℕ → Bool → Bool
 heldBack l i found = cond (eqb (kindAt l i) 0) (not found) true
+
+-- how many entries are judged, and the answer from what they gave
+abbrev pub entriesOf : Listed → ℕ
+entriesOf (Entries k n) = k
+entriesOf (Refused r p) = 0
+
+abbrev pub answerBy : Listed → Release → Release
+answerBy (Entries k n) x = x
+answerBy (Refused r p) x = Release.refused r p
+
+-- The listing's answer and its words decide as the message does, whatever the table.
+pub record Decides (b : List ℕ) (l : Listed) (ws : List ℕ) : Type 0 where
+  pub most : entriesOf l ≤ length ws / 2
+  pub decides : (t : List Grant) (s : ℕ) → answerBy l (judgeFrom (granted t s) 0 (entriesFrom ws 0 (entriesOf l))) ≡ release firstLimits b t s

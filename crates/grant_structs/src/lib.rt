@@ -1,15 +1,17 @@
-// The grant table as a lent slice of grant structs: what it grants, its check, and the release of listed entries.
+// The grant table as a lent slice of grant structs: what it grants, its check, and release.
 // A function over a slice of structs is proved by a walk by hand, so each is thin: what is decided is decided on plain numbers.
 ghost use mathlib.Core.Path.{_≡_};
 ghost use Prim.Native.Nat.{_/_, _<_, _≤_};
 ghost use lib.ListN.{length, take};
+ghost use Rattle.ari.specs.Limits.{firstLimits};
 ghost use Rattle.ari.specs.Listing.{number};
-ghost use Rattle.grants.specs.Grants.{some, clash, holds, granted, check, judgeFrom};
+ghost use Rattle.grants.specs.Grants.{some, clash, holds, granted, check, judgeFrom, release};
 ghost use Rattle.grants.specs.Bytes.{signed};
 ghost use Rattle.grants.specs.Verdict.{said};
-ghost use Rattle.grant_structs.specs.Structs.{rowBy, grantOf, grants, meetsBy, foundAt, heldAt, entriesIn, wantedAt, heldBack};
+ghost use Rattle.grant_structs.specs.Structs.{rowBy, grantOf, grants, meetsBy, foundAt, heldAt, entriesFrom, wantedAt, heldBack, entriesOf, answerBy, Decides};
 ghost use Rattle.grant_structs.specs.Told.{told};
 use grants::Verdict;
+use list::Listed;
 
 // A grant: a subscriber and a namespace number.
 pub struct Grant {
@@ -124,14 +126,8 @@ fn number_of(w: u64) -> i64
     -1 - (18446744073709551615 - w) as i64
 }
 
-// A list of entries is two words each: the kind (0 number, 1 name, 2 relative), and the number in two's complement.
-fn entries(list: &[u64]) -> usize
-    ensures { λ r. ⌜ r ≡ length (now (list .entry)) / 2 ⌝ }
-{
-    list.len() / 2
-}
-
-// The row that grants entry i, if its namespace is a number.
+// A list of entries is as `list::list_words` writes it: kind (0 number, 1 name, 2 relative) and word, the number in two's complement.
+// Here is the row that grants entry i, if its namespace is a number.
 fn wanted(list: &[u64], i: usize, subscriber: u64) -> Grant
     requires { ⌜ i < length (now list) / 2 ⌝ }
     ensures { λ r. ⌜ r ≡ wantedAt (now (list .entry)) i subscriber ⌝ }
@@ -165,11 +161,11 @@ fn judged(i: usize, n: usize) -> Release
     }
 }
 
-// Entries by rows: the search is left at the first entry that isn't granted.
-pub fn release_words(list: &[u64], t: &[Grant], subscriber: u64) -> Release
-    ensures { λ r. ⌜ told r ≡ judgeFrom (granted (grants (now (t .entry))) subscriber) 0 (entriesIn (now (list .entry))) ⌝ }
+// The first n entries by rows: the search is left at the first that isn't granted.
+fn release_words(list: &[u64], n: usize, t: &[Grant], subscriber: u64) -> Release
+    requires { ⌜ n ≤ length (now list) / 2 ⌝ }
+    ensures { λ r. ⌜ told r ≡ judgeFrom (granted (grants (now (t .entry))) subscriber) 0 (entriesFrom (now (list .entry)) 0 n) ⌝ }
 {
-    let n = entries(list);
     let rows = t.len();
     let mut i = 0;
     'entries: while i < n {
@@ -180,6 +176,50 @@ pub fn release_words(list: &[u64], t: &[Grant], subscriber: u64) -> Release
         i += 1;
     }
     judged(i, n)
+}
+
+// The words of a message's listing, and what is known of them: they decide as the message does.
+fn listed_in(message: &[u8], words: &mut [u64]) -> Listed
+    requires { ⌜ 2048 ≤ length (now words) ⌝ }
+    ensures { λ r. ⌜ Decides (now (message .entry)) r (now (words .exit)) ⌝ }
+{
+    list::list_words(message, words)
+}
+
+// How many entries a listing has: of a refused message none.
+fn entries_of(listed: Listed) -> usize
+    ensures { λ r. ⌜ r ≡ entriesOf listed ⌝ }
+{
+    match listed {
+        Listed::Entries { listed, count: _ } => listed,
+        Listed::Refused {
+            number: _,
+            place: _,
+        } => 0,
+    }
+}
+
+// The message's refusal, or what its entries gave.
+fn answered(listed: Listed, given: Release) -> Release
+    ensures { λ r. ⌜ told r ≡ answerBy listed (told given) ⌝ }
+{
+    match listed {
+        Listed::Entries {
+            listed: _,
+            count: _,
+        } => given,
+        Listed::Refused { number, place } => Release::Refused { number, place },
+    }
+}
+
+// Release. 2,048 words have room for the entries of every message: it has at most 1,024 items.
+pub fn release_grants(message: &[u8], t: &[Grant], subscriber: u64) -> Release
+    ensures { λ r. ⌜ told r ≡ release firstLimits (now (message .entry)) (grants (now (t .entry))) subscriber ⌝ }
+{
+    let mut words = [0u64; 2048];
+    let listed = listed_in(message, &mut words);
+    let given = release_words(&words, entries_of(listed), t, subscriber);
+    answered(listed, given)
 }
 
 // A table of four rows by value, for a caller that is covered, as a program's main: the array is lent. A shorter table repeats a row.
@@ -195,8 +235,8 @@ pub fn check_four(t: [Grant; 4]) -> Verdict
     check_grants(&t)
 }
 
-pub fn release_four(list: &[u64], t: [Grant; 4], subscriber: u64) -> Release
-    ensures { λ r. ⌜ told r ≡ judgeFrom (granted (grants t) subscriber) 0 (entriesIn (now (list .entry))) ⌝ }
+pub fn release_grants_four(message: &[u8], t: [Grant; 4], subscriber: u64) -> Release
+    ensures { λ r. ⌜ told r ≡ release firstLimits (now (message .entry)) (grants t) subscriber ⌝ }
 {
-    release_words(list, &t, subscriber)
+    release_grants(message, &t, subscriber)
 }

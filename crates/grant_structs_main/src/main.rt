@@ -1,7 +1,9 @@
 // Document 01's grants, asked of both forms of a table: as bytes and as structs. Each line has the bytes' answer, then the structs'.
+// C is document 01's message of that name, whose entries are 65536 and -20; `02` is refused.
 use grant_structs::Grant;
 use grant_structs::Release;
 use grants::Verdict;
+use list::Released;
 
 fn text(b: &[u8]) {
     io::write_all(1, b);
@@ -27,21 +29,49 @@ fn yes_or_no(y: bool) {
     }
 }
 
-// The release of case C's entries, 65536 and -20, to 7.
-fn release(r: Release) {
+fn no(entry: u64) {
+    text(b" no ");
+    io::print_decimal(1, entry);
+}
+
+fn refused(number: u64, place: u64) {
+    text(b" refused ");
+    io::print_decimal(1, number);
+    text(b" ");
+    io::print_decimal(1, place);
+}
+
+fn of_bytes(r: Released) {
+    match r {
+        Released::Yes => {
+            text(b" yes");
+        }
+        Released::No(entry) => {
+            no(entry as u64);
+        }
+        Released::Refused { number, place } => {
+            refused(number, place as u64);
+        }
+    }
+}
+
+fn of_structs(r: Release) {
     match r {
         Release::Yes => {
             text(b" yes");
         }
-        Release::No(i) => {
-            text(b" no ");
-            io::print_decimal(1, i);
+        Release::No(entry) => {
+            no(entry);
         }
-        Release::Refused { number, place: _ } => {
-            text(b" refused ");
-            io::print_decimal(1, number);
+        Release::Refused { number, place } => {
+            refused(number, place as u64);
         }
     }
+}
+
+fn releases(message: &[u8], bytes: &[u8], t: [Grant; 4], subscriber: u64) {
+    of_bytes(list::release(message, bytes, subscriber));
+    of_structs(grant_structs::release_grants_four(message, t, subscriber));
 }
 
 fn asks(bytes: &[u8], t: [Grant; 4]) {
@@ -58,8 +88,12 @@ fn asks(bytes: &[u8], t: [Grant; 4]) {
     yes_or_no(grants::granted(bytes, 9, 18446744073709551596));
     yes_or_no(grant_structs::granted_four(t, 9, -20));
     text(b"; C to 7");
-    let list = [0, 65536, 0, 18446744073709551596];
-    release(grant_structs::release_four(&list, t, 7));
+    let c = b"\x01\x82\x14\x82\xf6\x84\x1a\0\x01\0\0\x22\0\x81\x83\x33\x2a\x05";
+    releases(c, bytes, t, 7);
+    text(b"; C to 9");
+    releases(c, bytes, t, 9);
+    text(b"; 02 to 7");
+    releases(b"\x02", bytes, t, 7);
     text(b"\n");
 }
 

@@ -52,10 +52,18 @@ releaseBytes m b t s = whole (read m aMessage b) t (release m b (rows t) s)
 
 -- "24 an entry, big-endian: first byte (4), byte after (4), kind (8: 0 number, 1 name, 2 relative), namespace number or place of the name's
 -- head (two's complement, 8; 0 if relative)"
+abbrev pub kindOf : Space → ℕ
+kindOf (number z) = 0
+kindOf (name p s) = 1
+kindOf relative = 2
+
+abbrev pub wordOf : Space → ℕ
+wordOf (number z) = word z
+wordOf (name p s) = p
+wordOf relative = 0
+
 abbrev pub spaceBytes : Space → List ℕ
-spaceBytes (number z) = be 8 0 ++ be 8 (word z)
-spaceBytes (name p s) = be 8 1 ++ be 8 p
-spaceBytes relative = be 8 2 ++ be 8 0
+spaceBytes x = be 8 (kindOf x) ++ be 8 (wordOf x)
 
 abbrev pub entryBytes : Entry → List ℕ
 entryBytes e = be 4 (e .first) ++ (be 4 (e .after) ++ spaceBytes (e .space))

@@ -1,11 +1,15 @@
 -- From the message's answer and table to the answers.
-use Prim.Native.Nat.{ℕ, _/_, _%_, _<_, _≤_}
-use mathlib.Core.Path.{_≡_, sym, _∙_}
-use mathlib.Core.Bool.{true}
-use mathlib.Core.List.{List}
+use Prim.Native.Nat.{ℕ, _*_, _/_, _%_, _<_, _≤_}
+use mathlib.Core.Path.{_≡_, refl, sym, _∙_}
+use mathlib.Core.Bool.{Bool, true, false, cond}
+use mathlib.Core.List.{List, _++_}
 use native.Mathlib.Omega.{arith}
-use lib.ListN.{length}
-use borrow.Author.Tests.{lt-ltb, le-ltb, eq-eqb, ne-eqb}
+use native.Mathlib.Nat.{le-trans, mul-le-mul-left, mul-div-le}
+use lib.ListN.{length, getD, drop}
+use lib.Dec.{ltb}
+use mir.Syntax.{w8}
+use mir.Val.{Fits}
+use borrow.Author.Tests.{lt-ltb, le-ltb, ltb-false, eq-eqb, ne-eqb}
 use Rattle.cbor.specs.Byte.{all, isByte}
 use Rattle.ari.specs.Reader.{aMessage, refuse, accept, read}
 use Rattle.ari.specs.Reader as reader
@@ -18,13 +22,14 @@ use Rattle.read.specs.declared.Answer.{Answer}
 use Rattle.read.specs.declared.Answer.the-variants.{Accepted}
 use Rattle.read.specs.declared.Answer.the-variants as answers
 use Rattle.read.specs.Answers.{answerOf, Kept}
+use Rattle.read.proofs.Whole.{all-bytes}
 use Rattle.grants.specs.Grants.{granted, Release, judgeFrom, release}
 use Rattle.grants.specs.Bytes.{rows, releaseBytes}
 use Rattle.items.specs.Records.{noSpot}
 use Rattle.items.proofs.Entries.{entry-is}
 use Rattle.list.specs.declared.Listed.{Listed}
 use Rattle.list.specs.declared.Listed.the-variants.{Entries, Refused}
-use Rattle.list.specs.Answers.{listedOf, listOf, writtenBy, writtenOf}
+use Rattle.list.specs.Answers.{each, listedOf, listIn, writtenBy, writtenIn}
 use Rattle.list.specs.Entries.{Tabled}
 
 module _ (es : List Entry) (n room : ℕ) {r : ℕ} (e : r ≡ length es) where
@@ -34,7 +39,23 @@ module _ (es : List Entry) (n room : ℕ) {r : ℕ} (e : r ≡ length es) where
   pub room-enough : r ≤ room → Entries r n ≡ listedOf (accept n) es room
   room-enough h = let k : length es ≤ room = omega arith in rw (le-ltb room (length es) k, e)
 
-pub ruleset rooms = (room-short, room-enough)
+module _ (es : List Entry) (n m w : ℕ) {r : Listed} (e : r ≡ listedOf (accept n) es (m / w)) {k j : ℕ} (f : r ≡ Entries k j) where
+  pub room-for : w * length es ≤ m
+  room-for = go (ltb (m / w) (length es)) refl (sym e ∙ f)
+    where
+      go : (t : Bool) → ltb (m / w) (length es) ≡ t → cond t (Refused 16 (length es)) (Entries (length es) n) ≡ Entries k j → w * length es ≤ m
+      go true h q = absurd (let z : _≡_ {A = ℕ} 0 1 = cc in omega arith)
+      go false h q = le-trans (mul-le-mul-left w (ltb-false (m / w) (length es) h)) (mul-div-le m w)
+
+-- what is answered tells what is written
+module _ (w : ℕ) (put : Entry → List ℕ) (es : List Entry) (out : List ℕ) {r : Listed} {k j : ℕ} where
+  pub answer-written : r ≡ Entries k j → {out′ : List ℕ} → out′ ≡ each put es ++ drop (w * length es) out → out′ ≡ writtenBy w put r es out
+  answer-written f h = h ∙ rw f
+
+  pub answer-unwritten : r ≡ Refused k j → out ≡ writtenBy w put r es out
+  answer-unwritten f = rw f
+
+pub ruleset rooms = (room-short, room-enough, room-for, answer-written, answer-unwritten)
 
 was-accepted : (x : reader.Answer) {n : ℕ} → Accepted n ≡ answerOf x → x ≡ accept n
 was-accepted (refuse r p) e = absurd (let z : _≡_ {A = ℕ} 0 1 = cc in omega arith)
@@ -51,29 +72,30 @@ module _ (b : List ℕ) {a : Answer} (e : a ≡ answerOf (read firstLimits aMess
   pub refused : {r p : ℕ} → a ≡ answers.Refused r p → read firstLimits aMessage b ≡ refuse r p
   refused f = was-refused (read firstLimits aMessage b) (sym f ∙ e)
 
-  pub tabled : all isByte b ≡ true → (t t′ : List ℕ) → 1024 ≤ length t → length t ≡ length t′ → Kept aMessage b a t t′ → {n : ℕ} → a ≡ Accepted n → Tabled b n t′
-  tabled bs t t′ room l y {n} f =
+  pub tabled : {t t′ : List ℕ} → Kept aMessage b a t t′ → length t′ ≡ length t → ((i : ℕ) → Fits w8 (getD b i 0)) → 1024 ≤ length t → {n : ℕ} → a ≡ Accepted n → Tabled b n t′
+  tabled {t} y l bytes room {n} f =
+      let bs : all isByte b ≡ true = all-bytes b bytes in
       let c : Is firstLimits aMessage b (decode b) n = demand-two firstLimits aMessage b n bs .0 (accepted f) in
       let kept = rw f at y in
       record { is = c; room = omega (arith, c .few); kept = λ k h. entry-is aMessage b bs k t room noSpot c (kept .kept) h }
 
-  module _ (out : List ℕ) where
-    pub list-refused : {r p : ℕ} → a ≡ answers.Refused r p → Refused r p ≡ listOf firstLimits b out
-    unfolding listOf
+  module _ (out : List ℕ) (w : ℕ) where
+    pub list-refused : {r p : ℕ} → a ≡ answers.Refused r p → Refused r p ≡ listIn w firstLimits b out
+    unfolding listIn
     list-refused f = rw (refused f)
 
-    pub none-written : {r p : ℕ} → a ≡ answers.Refused r p → out ≡ writtenOf firstLimits b out
-    unfolding writtenOf listOf
-    none-written f = rw (refused f)
+    pub none-written : (put : Entry → List ℕ) {r p : ℕ} → a ≡ answers.Refused r p → out ≡ writtenIn w put firstLimits b out
+    unfolding writtenIn listIn
+    none-written put f = rw (refused f)
 
-    module _ {n : ℕ} (f : a ≡ Accepted n) {r : Listed} (g : r ≡ listedOf (accept n) (listing b) (length out / 24)) where
-      pub list-accepted : r ≡ listOf firstLimits b out
-      unfolding listOf
+    module _ {n : ℕ} (f : a ≡ Accepted n) {r : Listed} (g : r ≡ listedOf (accept n) (listing b) (length out / w)) where
+      pub list-accepted : r ≡ listIn w firstLimits b out
+      unfolding listIn
       list-accepted = rw (accepted f) g
 
-      pub list-written : {out′ : List ℕ} → out′ ≡ writtenBy r (listing b) out → out′ ≡ writtenOf firstLimits b out
-      unfolding writtenOf
-      list-written h = h ∙ rw list-accepted
+      pub list-written : (put : Entry → List ℕ) {out′ : List ℕ} → out′ ≡ writtenBy w put r (listing b) out → out′ ≡ writtenIn w put firstLimits b out
+      unfolding writtenIn
+      list-written put h = h ∙ rw list-accepted
 
   module _ (t : List ℕ) (s : ℕ) where
     pub release-refused : {r p : ℕ} → a ≡ answers.Refused r p → Release.refused r p ≡ releaseBytes firstLimits b t s

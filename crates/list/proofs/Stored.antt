@@ -1,7 +1,7 @@
 -- Big-endian numbers as they are stored.
 use Prim.Native.Nat.{ℕ, suc, _+_, _/_, _%_, _^_, _<_}
 use mathlib.Core.Path.{_≡_, sym, _∙_, ap}
-use mathlib.Core.List.{List, _++_}
+use mathlib.Core.List.{List, [], _∷_, _++_}
 use native.Mathlib.Omega.{arith}
 use lib.ListN.{set}
 use lib.Seq.{sets}
@@ -10,8 +10,11 @@ use Rattle.cbor.proofs.ByteLaws.{length-be, be-join}
 use Rattle.read.proofs.Tables.{sets-append}
 
 module _ (o : List ℕ) (at : ℕ) where
+  pub pair-stored : (x y : ℕ) → set (set o at x) (at + 1) y ≡ sets o at (x ∷ y ∷ [])
+  pair-stored x y = let e : at + 1 ≡ suc at = omega arith in rw e
+
   pub two-stored : (x : ℕ) → set (set o at (x / 256)) (at + 1) (x % 256) ≡ sets o at (be 2 x)
-  two-stored x = let e : at + 1 ≡ suc at = omega arith in let f : x % 256 / 1 ≡ x % 256 = omega arith in rw (e, f)
+  two-stored x = let f : x % 256 / 1 ≡ x % 256 = omega arith in rw f (pair-stored (x / 256) (x % 256))
 
   joined : (w x : ℕ) (ys : List ℕ) → sets (sets o at (be w x)) (at + w) ys ≡ sets o at (be w x ++ ys)
   joined w x ys = ap (λ (n : ℕ). sets (sets o at (be w x)) (at + n) ys) (sym (length-be w x)) ∙ sym (sets-append o at (be w x) ys)
@@ -36,4 +39,4 @@ pub entry-stored : (o : List ℕ) (at x y z : ℕ) {o₁ o₂ o₃ : List ℕ} �
 entry-stored o at x y z e f g =
     g ∙ ap (λ (l : List ℕ). sets l (at + 16) (be 8 z)) (f ∙ ap (λ (l : List ℕ). sets l (at + 8) (be 8 y)) e) ∙ three-stored o at 8 x y z
 
-pub ruleset stores = (two-stored, four-stored, eight-stored)
+pub ruleset stores = (pair-stored, two-stored, four-stored, eight-stored)

@@ -28,7 +28,7 @@ use Rattle.slots.specs.Code.{asksOf}
 use Rattle.read.specs.Walks.{codeOf, entryOf}
 use Rattle.items.specs.Records.{noSpot, spotNumber}
 use Rattle.items.proofs.Entries.{Fine, all-fine, at-all, head-is, inside, entry-first, entry-after, entry-slot, entry-head, entry-reference}
-use Rattle.grants.specs.Bytes.{word}
+use Rattle.grants.specs.Bytes.{kindOf, wordOf}
 use Rattle.list.specs.declared.Inside.{Inside}
 use Rattle.list.specs.declared.Inside.the-variants.{Nothing, At}
 use Rattle.list.specs.declared.Namespace.{Namespace}
@@ -36,9 +36,7 @@ use Rattle.list.specs.Entries.{insideFrom, namespaceBy, namespaceOf, Tab
 
 -- a namespace's two numbers
 abbrev pub spaceCode : Space → Namespace
-spaceCode (number z) = namespaceBy 0 (word z)
-spaceCode (name p s) = namespaceBy 1 p
-spaceCode relative = namespaceBy 2 0
+spaceCode x = namespaceBy (kindOf x) (wordOf x)
 
 -- the first member's head stands where the members begin
 member-space : (b : List ℕ) (p : ℕ) (g : Items) (r : List ℕ) → drop p b ≡ encode g ++ r → Named g → namespaceOf p (headAt b p) ≡ spaceCode (spaceIn p g)

@@ -1,6 +1,6 @@
 // The listing of a message, and its release, read off the walk's table and the message's bytes.
 ghost use mathlib.Core.Path.{_≡_};
-ghost use mathlib.Core.List.{_++_};
+ghost use mathlib.Core.List.{[], _∷_, _++_};
 ghost use Prim.Native.Nat.{_+_, _*_, _/_, _^_, _<_, _≤_};
 ghost use lib.ListN.{length, drop};
 ghost use lib.Seq.{sets};
@@ -10,8 +10,8 @@ ghost use Rattle.ari.specs.Reader.{accept};
 ghost use Rattle.ari.specs.Limits.{firstLimits};
 ghost use Rattle.ari.specs.Listing.{listing};
 ghost use Rattle.grants.specs.Grants.{granted, judgeFrom};
-ghost use Rattle.grants.specs.Bytes.{rows, releaseBytes};
-ghost use Rattle.list.specs.Answers.{listingBytes, listedOf, listOf, writtenBy, writtenOf, said};
+ghost use Rattle.grants.specs.Bytes.{rows, entryBytes, releaseBytes};
+ghost use Rattle.list.specs.Answers.{listingBytes, entryWords, wordsOf, listedOf, listIn, listOf, writtenBy, writtenIn, writtenOf, said};
 ghost use Rattle.list.specs.Entries.{insideFrom, namespaceOf, Tabled};
 use read::Answer;
 
@@ -164,20 +164,34 @@ fn write_entries(s: &[u8], count: usize, table: &[u64], out: &mut [u8])
     }
 }
 
-fn list_table(s: &[u8], count: usize, table: &[u64], out: &mut [u8]) -> Listed
+// What a table's message answers where there is room for so many entries.
+fn answer_in(s: &[u8], count: usize, table: &[u64], room: usize) -> Listed
     requires { ⌜ Tabled (now s) count (now table) ⌝ }
-    ensures { λ r. ⌜ r ≡ listedOf (accept count) (listing (now (s .entry))) (length (now (out .entry)) / 24) ⌝ }
-    ensures { λ r. ⌜ now (out .exit) ≡ writtenBy r (listing (now (s .entry))) (now (out .entry)) ⌝ }
+    ensures { λ r. ⌜ r ≡ listedOf (accept count) (listing (now (s .entry))) room ⌝ }
 {
     let listed = count_references(s, count, table);
-    if out.len() / 24 < listed {
+    if room < listed {
         return Listed::Refused {
             number: 16,
             place: listed,
         };
     }
-    write_entries(s, count, table, out);
     Listed::Entries { listed, count }
+}
+
+fn list_table(s: &[u8], count: usize, table: &[u64], out: &mut [u8]) -> Listed
+    requires { ⌜ Tabled (now s) count (now table) ⌝ }
+    ensures { λ r. ⌜ r ≡ listedOf (accept count) (listing (now (s .entry))) (length (now (out .entry)) / 24) ⌝ }
+    ensures { λ r. ⌜ now (out .exit) ≡ writtenBy 24 entryBytes r (listing (now (s .entry))) (now (out .entry)) ⌝ }
+{
+    let r = answer_in(s, count, table, out.len() / 24);
+    if let Listed::Entries {
+        listed: _,
+        count: _,
+    } = r {
+        write_entries(s, count, table, out);
+    }
+    r
 }
 
 fn list_in(s: &[u8], out: &mut [u8], table: &mut [u64]) -> Listed
@@ -198,6 +212,72 @@ pub fn list_message(s: &[u8], out: &mut [u8]) -> Listed
 {
     let mut table = [0u64; 1024];
     list_in(s, out, &mut table)
+}
+
+// The two words of an entry.
+fn put_words(out: &mut [u64], at: usize, kind: u64, word: u64)
+    requires { ⌜ at + 2 ≤ length (now out) ⌝ }
+    ensures { λ _. ⌜ now (out .exit) ≡ sets (now (out .entry)) at (kind ∷ word ∷ []) ⌝ }
+{
+    out[at] = kind;
+    out[at + 1] = word;
+}
+
+// The same as `write_entries`, of the namespaces alone.
+fn write_words(s: &[u8], count: usize, table: &[u64], out: &mut [u64])
+    requires { ⌜ Tabled (now s) count (now table) ⌝ }
+    requires { ⌜ 2 * length (listing (now s)) ≤ length (now out) ⌝ }
+    ensures { λ _. ⌜ now (out .exit) ≡ wordsOf (listing (now (s .entry))) ++ drop (2 * length (listing (now (s .entry)))) (now (out .entry)) ⌝ }
+{
+    let mut at = 0;
+    let mut k = 0;
+    while k < count {
+        let inside = inside_at(s, table[k]);
+        k += 1;
+        match inside {
+            Inside::Nothing => {}
+            Inside::At(next) => {
+                let n = namespace_at(s, next);
+                put_words(out, at, n.kind, n.word);
+                at += 2;
+            }
+        }
+    }
+}
+
+fn words_table(s: &[u8], count: usize, table: &[u64], out: &mut [u64]) -> Listed
+    requires { ⌜ Tabled (now s) count (now table) ⌝ }
+    ensures { λ r. ⌜ r ≡ listedOf (accept count) (listing (now (s .entry))) (length (now (out .entry)) / 2) ⌝ }
+    ensures { λ r. ⌜ now (out .exit) ≡ writtenBy 2 entryWords r (listing (now (s .entry))) (now (out .entry)) ⌝ }
+{
+    let r = answer_in(s, count, table, out.len() / 2);
+    if let Listed::Entries {
+        listed: _,
+        count: _,
+    } = r {
+        write_words(s, count, table, out);
+    }
+    r
+}
+
+fn words_in(s: &[u8], out: &mut [u64], table: &mut [u64]) -> Listed
+    requires { ⌜ 1024 ≤ length (now table) ⌝ }
+    ensures { λ r. ⌜ r ≡ listIn 2 firstLimits (now (s .entry)) (now (out .entry)) ⌝ }
+    ensures { λ r. ⌜ now (out .exit) ≡ writtenIn 2 entryWords firstLimits (now (s .entry)) (now (out .entry)) ⌝ }
+{
+    match read::keep_message(s, table) {
+        Answer::Refused { number, place } => Listed::Refused { number, place },
+        Answer::Accepted(count) => words_table(s, count, table, out),
+    }
+}
+
+// The namespaces of a message's listing, two words each in the lent room.
+pub fn list_words(s: &[u8], out: &mut [u64]) -> Listed
+    ensures { λ r. ⌜ r ≡ listIn 2 firstLimits (now (s .entry)) (now (out .entry)) ⌝ }
+    ensures { λ r. ⌜ now (out .exit) ≡ writtenIn 2 entryWords firstLimits (now (s .entry)) (now (out .entry)) ⌝ }
+{
+    let mut table = [0u64; 1024];
+    words_in(s, out, &mut table)
 }
 
 // Entries by rows. The search is left at the first entry that no row grants: a number to the subscriber, a name or a relative one to nobody.

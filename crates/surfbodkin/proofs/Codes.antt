@@ -27,7 +27,7 @@ use Rattle.list.specs.declared.Listed.{Listed}
 use Rattle.list.specs.declared.Listed.the-variants as listed
 use Rattle.list.specs.declared.Released.{Released}
 use Rattle.list.specs.declared.Released.the-variants as released
-use Rattle.list.specs.Answers.{listedOf, listOf, said}
+use Rattle.list.specs.Answers.{listedOf, listIn, listOf, said}
 use Rattle.list.proofs.Table.{few-listed}
 use borrow.Author.Tests.{ltb-true, ltb-false}
 use Rattle.ari.specs.Table.{max64}
@@ -101,7 +101,7 @@ few-of b out bs (accept n) e = go (ltb (length out / 24) (length (listing b)))
     go false = (omega (arith, few-listed c, c .few), c .few)
 
 pub few-listed-of : (b out : List ℕ) → all isByte b ≡ true → {a : Listed} → a ≡ listOf firstLimits b out → Few a
-unfolding listOf
+unfolding listIn
 few-listed-of b out bs e = rw e (few-of b out bs (read firstLimits aMessage b) refl)
 
 -- the table's

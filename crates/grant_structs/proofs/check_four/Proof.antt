@@ -45,7 +45,8 @@ use Rattle.grant_structs.specs.Structs.{grants}
 use Rattle.grant_structs.proofs.Grant as T
 use Rattle.grant_structs.proofs.Grant.Laws as T′
 use Rattle.grant_structs.proofs.Over.{R, slice, Own, answered-κ}
-use Rattle.grant_structs.proofs.Lent.{AR, vals, mach, ref, lends, ends}
+use Rattle.grant_structs.proofs.Lending.{ref}
+use Rattle.grant_structs.proofs.Lent.{AR, vals, mach, lends, ends}
 use Rattle.grant_structs.proofs.check_grants as check-grants
 use Rattle.grant_structs.proofs.check_grants.Symbol as check-def
 use Rattle.grant_structs.proofs.check_grants.Symbol.{name as #grant-structs·check-grants}

@@ -1,4 +1,4 @@
--- `list::list_table` meets its contract: by the room.
+-- `list::list_table` meets its contract: what is answered tells what is written.
 use Rattle.list.proofs.Outcome.{rooms}
 use borrow.Author.Needs.{needs}
 use Rattle.list.proofs.list_table.Statement.{statement}
@@ -7,4 +7,11 @@ use Rattle.list.proofs.list_table.Tie as tie
 pub list-table-spec : {M : Type 1} → statement M
 list-table-spec =
     tie.close
-    (tie.spec (λ c κs. search needs) (λ c. search (rooms, needs)) (λ c κs. search needs) (λ c. search needs) (λ c. search (rooms, needs)))
+    (tie.spec
+    (λ c κs. search needs)
+    (λ c. search needs)
+    (λ c κs. search (rooms, needs))
+    (λ c. search needs)
+    (λ c. search needs)
+    (λ c. search (rooms, needs))
+    (λ c. search (rooms, needs)))

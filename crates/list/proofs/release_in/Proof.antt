@@ -1,18 +1,8 @@
 -- `list::release_in` meets its contract: the message's refusal, 18, or what the search says.
 use Rattle.list.proofs.Outcome.{tabled, outcomes}
-use Rattle.read.proofs.Whole.{all-bytes}
-use native.Mathlib.Omega.{arith}
 use borrow.Author.Needs.{needs}
 use Rattle.list.proofs.release_in.Statement.{statement}
 use Rattle.list.proofs.release_in.Tie as tie
-
-release-table-requires : tie.Need-release-table-requires
-release-table-requires c κs =
-    let told = c .before .before .before .before .before .before .before in
-    let known = told .before .before .before .before in
-    let a = known .before .args in
-    tabled (a .s .now) (told .keep-message .ensures .0) (all-bytes (a .s .now) (known .shared-slice-known .given)) (a .table .now) _ (known .before .pre)
-    (omega (arith, told .keep-message .kept .1 .0)) (told .keep-message .ensures .1) (search needs)
 
 pub release-in-spec : {M : Type 1} → statement M
 release-in-spec =
@@ -23,7 +13,7 @@ release-in-spec =
     (λ c. search needs)
     (λ c. search needs)
     (λ c. search (outcomes, needs))
-    release-table-requires
+    (λ c κs. search (tabled, needs))
     (λ c. search needs)
     (λ c. search (outcomes, needs))
     (λ c. search needs)

@@ -1,12 +1,13 @@
 -- `list::write_entries` meets its contract: the entries before item k stand in front of `at`, and nothing else has changed.
-use Rattle.list.proofs.Written.{Written, written-one, writes}
+use Rattle.list.proofs.Written.{Written, bytes-written, writes}
 use borrow.Author.Needs.{needs}
 use Prim.Native.Nat.{_-_, _≤_}
+use Rattle.grants.specs.Bytes.{entryBytes}
 use Rattle.list.proofs.write_entries.Statement.{statement}
 use Rattle.list.proofs.write_entries.Tie as tie
 
 abbrev Inv-loop : tie.InvT-loop
-Inv-loop s count table out₀ at₀ k₀ out at k = (k ≤ count) × Written s out₀ k at out
+Inv-loop s count table out₀ at₀ k₀ out at k = (k ≤ count) × Written 24 entryBytes s out₀ k at out
 
 abbrev μ-loop : tie.MeasureT-loop
 μ-loop s count table out₀ at₀ k₀ out at k = count - k
@@ -19,7 +20,7 @@ loop-again-2 c =
     let turn = found .before .before in
     let start = turn .before .before .before .before .before in (
       search needs,
-      written-one (start .pre .0) (turn .before .loop .inv .1) (turn .loop-test .taken) (found .inside-at .ensures) {q = named .before .before .inside .given .0 .0} (search needs) (named .namespace-at .ensures) (put .put-entry .ensures),
+      bytes-written (put .put-entry .ensures) (turn .before .loop .inv .1) (named .namespace-at .ensures) (search needs) (found .inside-at .ensures) (turn .loop-test .taken) (start .pre .0),
     )
 
 pub write-entries-spec : {M : Type 1} → statement M

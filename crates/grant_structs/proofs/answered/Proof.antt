@@ -1,0 +1,7 @@
+use borrow.Author.Needs.{needs}
+use Rattle.grant_structs.proofs.Words.{answers}
+use Rattle.grant_structs.proofs.answered.Statement.{statement}
+use Rattle.grant_structs.proofs.answered.Tie as tie
+
+pub answered-spec : {M : Type 1} → statement M
+answered-spec = tie.close (tie.spec (λ c. search needs) (λ c. search needs) (λ c. search (answers, needs)) (λ c. search (answers, needs)))
