@@ -44,7 +44,16 @@ fn read_inside(
     let inner = slots::inside(slot, kind, arg);
     match inner {
         slots::Next::Done => Pos { next: at, end },
-        slots::Next::Due { slot: a, more: b } => read_level(t, at, items, depth - 1, a, b, out, end),
+        slots::Next::Due { slot: a, more: b } => read_level(
+            t,
+            at,
+            items,
+            depth - 1,
+            a,
+            b,
+            out,
+            end,
+        ),
     }
 }
 
