@@ -202,42 +202,35 @@ module _ (s : List ℕ) (at : ℕ) where
     unfolding headAt getHead
     by-long q = rw (drop-cons s at 0 i, ← e, ← add-one at) q
 
-    pub by-tag : {r : Head} → 192 ≤ b → b < 224 → r ≡ answer at (getFrom 6 (b % 32) (drop (at + 1) s)) → r ≡ headAt s at
-    by-tag {r} h g q = let m : b / 32 ≡ 6 = omega arith in by-long (rw m q)
+    pub by-small : {r : Head} → b % 32 < 24 → r ≡ judged (b / 32) (b % 32) (b % 32) (at + 1) → r ≡ headAt s at
+    unfolding getFrom argument judged
+    by-small h q =
+        let w = width-small (b % 32) h in
+        by-long (rw (w, le-ltb (length (drop (at + 1) s)) 0 zero-le, lt-ltb (b % 32) 24 h, answer-judged, w) q)
 
-    pub by-seven : {r : Head} → 224 ≤ b → b < 256 → r ≡ answer at (getFrom 7 (b % 32) (drop (at + 1) s)) → r ≡ headAt s at
-    by-seven {r} h g q = let m : b / 32 ≡ 7 = omega arith in by-long (rw m q)
+module _ (b n : ℕ) (h : b % 32 < 24) where
+  pub small-count : b < 192 → Good (b / 32) (b % 32) n ≡ judged (b / 32) (b % 32) (b % 32) n
+  unfolding judged shortest
+  small-count k =
+      let c : b / 32 < 6 = omega arith in
+      rw (kind-counts c (b % 32), counts-used c (b % 32) (omega arith), counts-shortest c (b % 32) (b % 32), lt-ltb (b % 32) 24 h, eq-eqb (b % 32) (b % 32) refl)
 
-    module _ (h : b % 32 < 24) where
-      by-small : {r : Head} → r ≡ judged (b / 32) (b % 32) (b % 32) (at + 1) → r ≡ headAt s at
-      unfolding getFrom argument judged
-      by-small q =
-          let w = width-small (b % 32) h in
-          by-long (rw (w, le-ltb (length (drop (at + 1) s)) 0 zero-le, lt-ltb (b % 32) 24 h, answer-judged, w) q)
-
-      pub small-count : b < 192 → Good (b / 32) (b % 32) (at + 1) ≡ headAt s at
-      unfolding judged shortest
-      small-count k =
-          let c : b / 32 < 6 = omega arith in
-          by-small (rw (kind-counts c (b % 32), counts-used c (b % 32) (omega arith), counts-shortest c (b % 32) (b % 32), lt-ltb (b % 32) 24 h, eq-eqb (b % 32) (b % 32) refl))
-
-      pub small-unused : 192 ≤ b → b < 244 → Bad 3 ≡ headAt s at
-      unfolding judged unused
-      small-unused k l = by-small (go (ltb b 224) refl)
-        where
-          go : (t : Bool) → ltb b 224 ≡ t → Bad 3 ≡ judged (b / 32) (b % 32) (b % 32) (at + 1)
-          go true f = let m : b / 32 ≡ 6 = omega (arith, ltb-true b 224 f) in rw (m, lt-leb 28 (b % 32) (omega arith))
-          go false f =
-              let g : 224 ≤ b = ltb-false b 224 f in
-              let m : b / 32 ≡ 7 = omega arith in
-              rw (m, lt-leb 28 (b % 32) (omega arith), lt-ltb (b % 32) 20 (omega arith))
-
-      pub small-simple : 244 ≤ b → b < 256 → Good 6 (b % 32) (at + 1) ≡ headAt s at
-      unfolding judged unused kindOf notShortest
-      small-simple k l =
+  pub small-unused : 192 ≤ b → b < 244 → Bad 3 ≡ judged (b / 32) (b % 32) (b % 32) n
+  unfolding judged unused
+  small-unused k l = go (ltb b 224) refl
+    where
+      go : (t : Bool) → ltb b 224 ≡ t → Bad 3 ≡ judged (b / 32) (b % 32) (b % 32) n
+      go true f = let m : b / 32 ≡ 6 = omega (arith, ltb-true b 224 f) in rw (m, lt-leb 28 (b % 32) (omega arith))
+      go false f =
+          let g : 224 ≤ b = ltb-false b 224 f in
           let m : b / 32 ≡ 7 = omega arith in
-          by-small
-          (rw (m, lt-leb 28 (b % 32) (omega arith), le-ltb (b % 32) 20 (omega arith), ne-eqb (b % 32) 24 (λ q. omega arith), lt-ltb (b % 32) 24 h, no-float 6 (b % 32) (omega arith)))
+          rw (m, lt-leb 28 (b % 32) (omega arith), lt-ltb (b % 32) 20 (omega arith))
+
+  pub small-simple : 244 ≤ b → b < 256 → Good 6 (b % 32) n ≡ judged (b / 32) (b % 32) (b % 32) n
+  unfolding judged unused kindOf notShortest
+  small-simple k l =
+      let m : b / 32 ≡ 7 = omega arith in
+      rw (m, lt-leb 28 (b % 32) (omega arith), le-ltb (b % 32) 20 (omega arith), ne-eqb (b % 32) 24 (λ q. omega arith), lt-ltb (b % 32) 24 h, no-float 6 (b % 32) (omega arith))
 
 -- What a head that was read has shown.
 skip : (t : Bool) (r : ℕ) (x : Got) {l : Lead} → cond t (bad r) x ≡ got l → (t ≡ false) × (x ≡ got l)
@@ -328,4 +321,4 @@ module _ (b : List ℕ) (at : ℕ) {r : Head} {k a n : ℕ} (p : Passed b at r) 
 
 pub ruleset bounds = (advances, reaches, stays-inside, kind-known)
 
-pub ruleset heads = (sized-1, sized-2, sized-4, sized-8, too-long, well, tag, bad-float, good-float, cut, long-judged, long-counted, byte-counted, one-byte-more, not-in-use, at-end, by-long, by-tag, by-seven, small-count, small-unused, small-simple, passed)
+pub ruleset heads = (sized-1, sized-2, sized-4, sized-8, too-long, well, tag, bad-float, good-float, cut, long-judged, long-counted, byte-counted, one-byte-more, not-in-use, at-end, by-long, by-small, small-count, small-unused, small-simple, passed)

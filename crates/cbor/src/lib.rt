@@ -1,6 +1,6 @@
 // CBOR item heads and UTF-8, as document 01 narrows RFC 8949 and RFC 3629.
 ghost use mathlib.Core.Path.{_≡_};
-ghost use Prim.Native.Nat.{_+_, _^_, _<_, _≤_};
+ghost use Prim.Native.Nat.{_+_, _^_, _<_, _≤_, _%_, _/_};
 ghost use lib.ListN.{length, take, drop, getD};
 ghost use Rattle.cbor.specs.Byte.{below, value};
 ghost use Rattle.cbor.specs.Head.{divides, badHalf, badFloat, getFrom};
@@ -181,6 +181,28 @@ fn long(s: &[u8], at: usize, major: u8, info: u64) -> Head
     Head::Bad(3)
 }
 
+// A head of one byte.
+fn short(b: u64, at: usize) -> Head
+    requires { ⌜ (b < 256) × (b % 32 < 24) × (at + 1 < 2 ^ 64) ⌝ }
+    ensures { λ r. ⌜ r ≡ judged (b / 32) (b % 32) (b % 32) (at + 1) ⌝ }
+{
+    if b < 192 {
+        return Head::Good {
+            kind: (b / 32) as u8,
+            arg: b % 32,
+            next: at + 1,
+        };
+    }
+    if b < 244 {
+        return Head::Bad(3);
+    }
+    Head::Good {
+        kind: 6,
+        arg: b % 32,
+        next: at + 1,
+    }
+}
+
 // The head at a place of the input. Most heads are one byte: they come first.
 pub fn head_at(s: &[u8], at: usize) -> Head
     ensures { λ r. ⌜ r ≡ headAt (now (s .entry)) at ⌝ }
@@ -190,32 +212,25 @@ pub fn head_at(s: &[u8], at: usize) -> Head
         return Head::Bad(2);
     }
     let b = wide(s[at]);
-    let info = b % 32;
-    if info < 24 {
-        if b < 192 {
-            return Head::Good {
-                kind: (b / 32) as u8,
-                arg: info,
-                next: at + 1,
-            };
-        }
-        if b < 244 {
-            return Head::Bad(3);
-        }
-        return Head::Good {
-            kind: 6,
-            arg: info,
-            next: at + 1,
-        };
+    if b % 32 < 24 {
+        return short(b, at);
     }
-    // Apart, so that `long` stays a function of its own and this one is small enough to stand in its callers.
-    if b < 192 {
-        return long(s, at, (b / 32) as u8, info);
+    long(s, at, (b / 32) as u8, b % 32)
+}
+
+// The same, for those who read an input again: `head_at` keeps one caller, the walk, and stands in its loop.
+pub fn head_again(s: &[u8], at: usize) -> Head
+    ensures { λ r. ⌜ r ≡ headAt (now (s .entry)) at ⌝ }
+    ensures { λ r. ⌜ Passed (now (s .entry)) at r ⌝ }
+{
+    if s.len() <= at {
+        return Head::Bad(2);
     }
-    if b < 224 {
-        return long(s, at, 6, info);
+    let b = wide(s[at]);
+    if b % 32 < 24 {
+        return short(b, at);
     }
-    long(s, at, 7, info)
+    long(s, at, (b / 32) as u8, b % 32)
 }
 
 // A byte from lo to hi stands at a place.

@@ -47,7 +47,7 @@ fn inside_at(s: &[u8], entry: u64) -> Inside
     if !slots::asks(entry / 1099511627776 % 256) {
         return Inside::Nothing;
     }
-    let h = cbor::head_at(s, (entry % 65536) as usize);
+    let h = cbor::head_again(s, (entry % 65536) as usize);
     let cbor::Head::Good { kind, arg, next } = h else {
         return Inside::Nothing;
     };
@@ -64,7 +64,7 @@ fn inside_at(s: &[u8], entry: u64) -> Inside
 fn namespace_at(s: &[u8], at: usize) -> Namespace
     ensures { λ r. ⌜ r ≡ namespaceOf at (headAt (now (s .entry)) at) ⌝ }
 {
-    let h = cbor::head_at(s, at);
+    let h = cbor::head_again(s, at);
     let cbor::Head::Good { kind, arg, next: _ } = h else {
         return Namespace { kind: 2, word: 0 };
     };

@@ -45,7 +45,7 @@ pub struct Pos {
 fn take_item(s: &[u8], at: usize, slot: u64, depth: usize) -> Item
     ensures { λ r. ⌜ ItemAt (now (s .entry)) at slot depth r ⌝ }
 {
-    let h = cbor::head_at(s, at);
+    let h = cbor::head_again(s, at);
     let cbor::Head::Good { kind, arg, next } = h else {
         return Item::Nothing;
     };
@@ -192,7 +192,7 @@ fn outer_by(length: u64, h: cbor::Head) -> Outer
 fn outermost(s: &[u8]) -> Outer
     ensures { λ r. ⌜ r ≡ outerOf (now (s .entry)) ⌝ }
 {
-    let h = cbor::head_at(s, 0);
+    let h = cbor::head_again(s, 0);
     let cbor::Head::Good { kind, arg, next } = h else {
         return Outer {
             set: false,
@@ -200,7 +200,7 @@ fn outermost(s: &[u8]) -> Outer
         };
     };
     if kind == 4 {
-        return outer_by(arg, cbor::head_at(s, next));
+        return outer_by(arg, cbor::head_again(s, next));
     }
     Outer {
         set: false,
@@ -219,7 +219,7 @@ fn first_float(s: &[u8]) -> Float
 {
     let mut p = 0;
     while p < s.len() {
-        let h = cbor::head_at(s, p);
+        let h = cbor::head_again(s, p);
         let cbor::Head::Good { kind, arg, next } = h else {
             return Float::Nowhere;
         };
