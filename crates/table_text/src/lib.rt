@@ -1,10 +1,14 @@
 // The text of a grant table: on each line a subscriber and a namespace in plain decimal, with blanks (spaces, tabs) between and
 // around; `#` starts a comment, and a line with nothing before it is skipped.
 ghost use mathlib.Core.Path.{_≡_};
-ghost use Prim.Native.Nat.{_+_, _*_, _/_, _≤_};
-ghost use lib.ListN.{length, drop};
+ghost use mathlib.Core.List.{_++_};
+ghost use Prim.Native.Nat.{_+_, _/_, _≤_, _<_};
+ghost use lib.ListN.{length};
+ghost use lib.Seq.{sets};
+ghost use Rattle.cbor.specs.Byte.{be};
 ghost use Rattle.table_text.specs.Numbers.{pushOf, digitsOf, unsignedOf, positiveOf, negativeOf, signedOf};
 ghost use Rattle.table_text.specs.Rows.{blank, isOf, RunTo, grantOf, fieldsOf, rowOf};
+ghost use Rattle.table_text.specs.Table.{TakenAt, tableOf, Filled};
 
 // A number of 64 bits.
 pub enum Number {
@@ -193,4 +197,74 @@ pub fn row(line: &[u8]) -> Line
 {
     let end = behind(line, 0, 0);
     fields(&line[0..end])
+}
+
+// A line's content, and the place where the next line starts.
+struct Taken {
+    content: Line,
+    next: usize,
+}
+
+fn take_line(t: &[u8], from: usize) -> Taken
+    requires { ⌜ from < length (now t) ⌝ }
+    ensures { λ r. ⌜ TakenAt (now (t .entry)) from r ⌝ }
+{
+    let end = behind(t, from, 3);
+    let content = row(&t[from..end]);
+    if end < t.len() {
+        return Taken {
+            content,
+            next: end + 1,
+        };
+    }
+    Taken { content, next: end }
+}
+
+// The 16 bytes of a row.
+fn put_row(out: &mut [u8], at: usize, subscriber: u64, namespace: u64)
+    requires { ⌜ at + 16 ≤ length (now out) ⌝ }
+    ensures { λ _. ⌜ now (out .exit) ≡ sets (now (out .entry)) at (be 8 subscriber ++ be 8 namespace) ⌝ }
+{
+    list::put8(out, at, subscriber);
+    list::put8(out, at + 8, namespace);
+}
+
+// What a text gives: so many rows; a line that is no row; a line whose row has no room. Lines are counted from 1.
+pub enum Table {
+    Rows(usize),
+    Bad(usize),
+    Full(usize),
+}
+
+// The rows of a text, 16 bytes each, in the lent room.
+pub fn rows(text: &[u8], out: &mut [u8]) -> Table
+    ensures { λ r. ⌜ r ≡ tableOf (now (text .entry)) (length (now (out .entry)) / 16) ⌝ }
+    ensures { λ r. ⌜ Filled r (now (text .entry)) (now (out .entry)) (now (out .exit)) ⌝ }
+{
+    let mut from = 0;
+    let mut lines = 0;
+    let mut n = 0;
+    while from < text.len() {
+        let taken = take_line(text, from);
+        let content = taken.content;
+        from = taken.next;
+        lines += 1;
+        match content {
+            Line::Blank => {}
+            Line::Grant {
+                subscriber,
+                namespace,
+            } => {
+                if out.len() / 16 <= n {
+                    return Table::Full(lines);
+                }
+                put_row(out, n * 16, subscriber, namespace);
+                n += 1;
+            }
+            Line::Bad => {
+                return Table::Bad(lines);
+            }
+        }
+    }
+    Table::Rows(n)
 }
