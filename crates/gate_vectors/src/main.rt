@@ -1,13 +1,16 @@
-// Reads inputs from standard input, one a line, and writes the answers to them. A line is `single`, `message`, `items-single` or
-// `items-message`, a space and the input in hex; blank lines and those that start with `#` are skipped.
+// Reads inputs from standard input, one a line, and writes the answers to them. A line is `single`, `message`, `items-single`,
+// `items-message`, `write` (of an ARI) or `read` (of a text), a space and the input in hex; blank lines and those that start with
+// `#` are skipped.
 ghost use Prim.Native.Nat.{_+_, _≤_};
 ghost use lib.ListN.{length};
 ghost use Rattle.gate_vectors.specs.Within.{Roomy};
 
-// What a line asks for, of a single ARI or of a message.
+// What a line asks for: the check or the items, of a single ARI or of a message; an ARI's text; a text's ARI.
 enum Call {
     Check { single: bool },
     Items { single: bool },
+    Write,
+    Read,
     Unknown,
 }
 
@@ -23,6 +26,12 @@ fn call_of(word: &[u8]) -> Call {
     }
     if check::same(word, b"items-message") {
         return Call::Items { single: false };
+    }
+    if check::same(word, b"write") {
+        return Call::Write;
+    }
+    if check::same(word, b"read") {
+        return Call::Read;
     }
     Call::Unknown
 }
@@ -84,6 +93,68 @@ fn list_input(s: &[u8], single: bool, out: &mut [u8], at: usize) -> usize {
     show::answer(out, p, a)
 }
 
+fn refused_line(out: &mut [u8], at: usize, number: u64, place: usize) -> usize {
+    let p = show::fresh_line(out, at);
+    show::refused(out, p, number, place)
+}
+
+// The start of an acceptance's line: a word and the item count.
+fn started(out: &mut [u8], at: usize, word: &[u8], count: usize) -> usize {
+    let p = show::fresh_line(out, at);
+    let q = show::numbered(out, p, word, count as u64);
+    show::put_byte(out, q, b' ')
+}
+
+fn wide(x: u8) -> u64 {
+    x as u64
+}
+
+// Up to so many bytes of a buffer, in hex.
+fn digits_of(room: &[u8], length: usize, out: &mut [u8], at: usize) -> usize {
+    let mut p = at;
+    let mut i = 0;
+    while i < length && i < room.len() {
+        p = show::fresh_line(out, p);
+        p = show::hex(out, p, wide(room[i]), 2);
+        i += 1;
+    }
+    p
+}
+
+// A text may be longer than the room that is kept for a line: it goes out by itself.
+fn write_in(s: &[u8], room: &mut [u8], out: &mut [u8], at: usize) -> usize {
+    match write::write_text(s, room) {
+        write::Written::Bytes { length, count } => {
+            let p = started(out, at, b"text ", count);
+            show::flush(out, p);
+            show::flush(room, length);
+            show::put_byte(out, 0, b'\n')
+        }
+        write::Written::Refused { number, place } => refused_line(out, at, number, place),
+    }
+}
+
+fn read_in(t: &[u8], room: &mut [u8], out: &mut [u8], at: usize) -> usize {
+    match parse::read_text(t, room) {
+        write::Written::Bytes { length, count } => {
+            let p = started(out, at, b"bytes ", count);
+            let q = digits_of(room, length, out, p);
+            show::put_byte(out, q, b'\n')
+        }
+        write::Written::Refused { number, place } => refused_line(out, at, number, place),
+    }
+}
+
+fn write_input(s: &[u8], out: &mut [u8], at: usize) -> usize {
+    let mut room = [0u8; 32768];
+    write_in(s, &mut room, out, at)
+}
+
+fn read_input(t: &[u8], out: &mut [u8], at: usize) -> usize {
+    let mut room = [0u8; 4096];
+    read_in(t, &mut room, out, at)
+}
+
 fn bad_line(out: &mut [u8], at: usize, line: u64) -> usize {
     let p = show::fresh_line(out, at);
     let q = show::numbered(out, p, b"bad line ", line);
@@ -94,6 +165,8 @@ fn answer_call(call: Call, s: &[u8], line: u64, out: &mut [u8], at: usize) -> us
     match call {
         Call::Check { single } => check_input(s, single, out, at),
         Call::Items { single } => list_input(s, single, out, at),
+        Call::Write => write_input(s, out, at),
+        Call::Read => read_input(s, out, at),
         Call::Unknown => bad_line(out, at, line),
     }
 }
@@ -273,9 +346,10 @@ fn run(input: &mut [u8], buffer: &mut [u8], out: &mut [u8]) {
     show::flush(out, s.at);
 }
 
+// A line has room for a text of 32,769 bytes, two digits a byte.
 fn main() {
-    let mut input = [0u8; 16384];
-    let mut buffer = [0u8; 8192];
+    let mut input = [0u8; 66560];
+    let mut buffer = [0u8; 33280];
     let mut out = io::large_buffer();
     run(&mut input, &mut buffer, &mut out);
 }

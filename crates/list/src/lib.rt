@@ -117,7 +117,7 @@ fn put4(out: &mut [u8], at: usize, x: u64)
     put2(out, at + 2, x % 65536);
 }
 
-fn put8(out: &mut [u8], at: usize, x: u64)
+pub fn put8(out: &mut [u8], at: usize, x: u64)
     requires { ⌜ at + 8 ≤ length (now out) ⌝ }
     ensures { λ _. ⌜ now (out .exit) ≡ sets (now (out .entry)) at (be 8 x) ⌝ }
 {

@@ -3,7 +3,11 @@
 //! answers in the file of fixed answers come from the reading alone.
 
 use crate::generate::{put_head, put_wide_head};
-use crate::{check_message, check_single, items_message, items_single, Answer};
+use crate::{
+    check_message, check_single, items_message, items_single, read_text, text_of, Answer, LIMITS,
+};
+
+pub mod texts;
 
 #[derive(Clone, Copy, Debug, PartialEq, Eq)]
 pub enum Call {
@@ -11,6 +15,10 @@ pub enum Call {
     Message,
     ItemsSingle,
     ItemsMessage,
+    /// The text of an ARI.
+    Write,
+    /// The ARI of a text.
+    Read,
 }
 
 impl Call {
@@ -20,6 +28,8 @@ impl Call {
             Call::Message => "message",
             Call::ItemsSingle => "items-single",
             Call::ItemsMessage => "items-message",
+            Call::Write => "write",
+            Call::Read => "read",
         }
     }
 
@@ -30,6 +40,21 @@ impl Call {
             Call::Message => return check_message(input).to_string(),
             Call::ItemsSingle => items_single(input),
             Call::ItemsMessage => items_message(input),
+            Call::Write => {
+                return match text_of(input, &LIMITS) {
+                    Ok((text, items)) => format!("text {items} {text}"),
+                    Err(refusal) => refusal.to_string(),
+                }
+            }
+            Call::Read => {
+                let mut room = [0; LIMITS.bytes];
+                return match read_text(input, &mut room) {
+                    Ok(written) => {
+                        format!("bytes {} {}", written.items, to_hex(&room[..written.size]))
+                    }
+                    Err(refusal) => refusal.to_string(),
+                };
+            }
         };
         match records {
             Err(refusal) => Answer::from(Err(refusal)).to_string(),
@@ -173,6 +198,8 @@ pub fn lines() -> Vec<Line> {
     huge_lengths(&mut f);
     records(&mut f);
     records_of_accepted(&mut f);
+    fixed_texts(&mut f);
+    texts_of_accepted(&mut f);
     f.0
 }
 
@@ -1250,6 +1277,49 @@ fn records_of_accepted(f: &mut Fixed) {
     }
     for (call, input) in accepted {
         f.put(call, input, "");
+    }
+}
+
+/// Both ways; the item count in an answer is that of the check.
+fn fixed_texts(f: &mut Fixed) {
+    f.group("ARIs and their texts, both ways");
+    let short = texts::PAIRS.iter().map(|(digits, text)| (digits.to_string(), text.to_string()));
+    for (digits, text) in short.chain(texts::long_pairs()) {
+        let ari = hex(&digits);
+        let Answer::Accepted(items) = check_single(&ari) else { panic!("{digits}") };
+        let bytes = format!("bytes {items} {}", to_hex(&ari));
+        f.put(Call::Write, ari, &format!("text {items} {text}"));
+        f.put(Call::Read, text.into_bytes(), &bytes);
+    }
+    f.group("ARIs without a text");
+    let short = texts::NO_TEXT.iter().map(|(digits, answer)| (digits.to_string(), *answer));
+    for (digits, by_hand) in short.chain(texts::long_no_text()) {
+        f.put(Call::Write, hex(&digits), by_hand);
+    }
+    f.group("no texts");
+    for text in texts::NOT_TEXT {
+        f.put(Call::Read, text.as_bytes().to_vec(), "refused 15 0");
+    }
+    for (text, by_hand) in texts::long_not_text() {
+        f.put(Call::Read, text.into_bytes(), by_hand);
+    }
+    for digits in ["80", "ff", "6172693a 253232 ff 253232", "6172693a 253232 c3bc 253232"] {
+        f.put(Call::Read, hex(digits), "refused 15 0");
+    }
+}
+
+/// Of every ARI accepted above its text too, where it is short.
+fn texts_of_accepted(f: &mut Fixed) {
+    f.group("texts of the accepted ARIs above");
+    let mut accepted = Vec::new();
+    for line in &f.0 {
+        let Line::Input { call: Call::Single, input, .. } = line else { continue };
+        if input.len() <= 64 && matches!(check_single(input), Answer::Accepted(_)) {
+            accepted.push(input.clone());
+        }
+    }
+    for input in accepted {
+        f.put(Call::Write, input, "");
     }
 }
 

@@ -57,8 +57,11 @@ fn main() -> ExitCode {
 
     let mut inputs: Vec<(bool, Vec<u8>)> = Vec::new();
     for line in vectors::lines() {
-        if let Line::Input { call, input, .. } = line {
-            inputs.push((matches!(call, Call::Single | Call::ItemsSingle), input));
+        let Line::Input { call, input, .. } = line else { continue };
+        match call {
+            Call::Single | Call::ItemsSingle => inputs.push((true, input)),
+            Call::Message | Call::ItemsMessage => inputs.push((false, input)),
+            Call::Write | Call::Read => (),
         }
     }
     let mut random = Random::new(8949);

@@ -1,0 +1,75 @@
+// Reads a single ARI in binary form from standard input and writes its text; with the argument `read` the other way round. A
+// refusal is the line `refused N P`; a text and a binary form have nothing behind them.
+
+// What the arguments ask for.
+enum Choice {
+    Write,
+    Read,
+    Unknown,
+}
+
+fn asked() -> Choice {
+    let count = os::arg_count();
+    if count < 2 {
+        return Choice::Write;
+    }
+    if 2 < count {
+        return Choice::Unknown;
+    }
+    let mut word = [0u8; 8];
+    let n = os::arg(1, &mut word);
+    if check::same(&word[..n], b"read") {
+        return Choice::Read;
+    }
+    Choice::Unknown
+}
+
+// What was written into a lent buffer, or the refusal.
+fn send(answer: write::Written, room: &[u8]) {
+    match answer {
+        write::Written::Bytes { length, count: _ } => {
+            show::flush(room, length);
+        }
+        write::Written::Refused { number, place } => {
+            let mut out = io::buffer();
+            let p = show::refused(&mut out, 0, number, place);
+            show::flush(&out, p);
+        }
+    }
+}
+
+fn write_ari(ari: &[u8], room: &mut [u8]) {
+    let answer = write::write_text(ari, room);
+    send(answer, room);
+}
+
+fn read_ari(text: &[u8], room: &mut [u8]) {
+    let answer = parse::read_text(text, room);
+    send(answer, room);
+}
+
+// At most one byte past the limit of a binary form is read.
+fn write_input() {
+    let mut input = [0u8; 4097];
+    let n = io::read_full(0, &mut input);
+    let mut room = [0u8; 32768];
+    write_ari(&input[..n], &mut room);
+}
+
+// At most one byte past the limit of a text is read.
+fn read_input() {
+    let mut input = [0u8; 32769];
+    let n = io::read_full(0, &mut input);
+    let mut room = [0u8; 4096];
+    read_ari(&input[..n], &mut room);
+}
+
+fn main() {
+    match asked() {
+        Choice::Write => write_input(),
+        Choice::Read => read_input(),
+        Choice::Unknown => {
+            io::write_all(2, b"usage: gate text [read]\n");
+        }
+    }
+}

@@ -1,0 +1,155 @@
+-- The ways through a text, line after line.
+use Prim.Native.Nat.{ℕ, suc, _+_, _-_, _*_, _/_, _≤_, _<_}
+use mathlib.Core.Path.{_≡_, refl, sym, _∙_, ap}
+use mathlib.Core.Bool.{Bool, true, false, not, cond}
+use mathlib.Core.List.{List, [], _∷_, _++_, map}
+use native.Mathlib.Omega.{arith}
+use native.Mathlib.Numerals.{add-one}
+use lib.ListN.{length, take, drop, getD, drop-of-length-le, length-drop}
+use lib.Seq.{drop-cons, sets, length-sets}
+use lib.Dec.{leb, eqb}
+use borrow.Author.Tests.{le-leb, lt-leb}
+use Rattle.cbor.specs.Byte.{be}
+use Rattle.cbor.proofs.ByteLaws.{length-be}
+use Rattle.read.proofs.Tables.{sets-append}
+use Rattle.table_text.specs.declared.Line.{Line}
+use Rattle.table_text.specs.declared.Line.the-variants.{Blank, Grant, Bad}
+use Rattle.table_text.specs.declared.Taken.{Taken}
+use Rattle.table_text.specs.declared.Table.{Table}
+use Rattle.table_text.specs.declared.Table.the-variants as table
+use Rattle.table_text.specs.Rows.{isOf, front, past, part, RunTo, rowOf}
+use Rattle.table_text.specs.Table.{onto, lines, contents, gather, tableOf, packed, Filled, TakenAt}
+
+here : (t : List ℕ) (i : ℕ) → i < length t → drop i t ≡ getD t i 0 ∷ drop (i + 1) t
+here t i h = rw (add-one i) (drop-cons t i 0 h)
+
+beyond : (t : List ℕ) (i : ℕ) → length t ≤ i → drop i t ≡ []
+beyond t i h = drop-of-length-le t h
+
+-- a line ends at its end, or with the text
+abbrev inLine : ℕ → Bool
+inLine = isOf 3
+
+in-line : (x : ℕ) {b : Bool} → eqb x 10 ≡ b → inLine x ≡ not b
+unfolding isOf
+in-line x e = rw e
+
+abbrev tailOf : List ℕ → List ℕ
+tailOf [] = []
+tailOf (x ∷ t) = t
+
+line-ends : (u : List ℕ) {y : ℕ} {v : List ℕ} → past inLine u ≡ y ∷ v → lines u ≡ front inLine u ∷ lines v
+unfolding past front lines
+line-ends [] e = absurd (let q : 0 ≡ suc _ = ap length e in omega arith)
+line-ends (x ∷ u) {y} {v} e = go (eqb x 10) refl (λ h. line-ends u h)
+  where
+    go : (b : Bool) → eqb x 10 ≡ b → (past inLine u ≡ y ∷ v → lines u ≡ front inLine u ∷ lines v) → lines (x ∷ u) ≡ front inLine (x ∷ u) ∷ lines v
+    go true q i = rw (in-line x q, q) (ap (λ (l : List ℕ). [] ∷ lines (tailOf l)) (rw (in-line x q) at e))
+    go false q i = rw (in-line x q, q) (ap (onto x) (i (rw (in-line x q) at e)))
+
+last-onto : (u : List ℕ) (x : ℕ) → past inLine u ≡ [] → onto x (lines u) ≡ (x ∷ front inLine u) ∷ []
+unfolding past front lines
+last-onto [] x e = refl
+last-onto (y ∷ u) x e = go (eqb y 10) refl (λ h. last-onto u y h)
+  where
+    go : (b : Bool) → eqb y 10 ≡ b → (past inLine u ≡ [] → onto y (lines u) ≡ (y ∷ front inLine u) ∷ []) → onto x (lines (y ∷ u)) ≡ (x ∷ front inLine (y ∷ u)) ∷ []
+    go true q i = absurd (let r : suc (length u) ≡ 0 = ap length (rw (in-line y q) at e) in omega arith)
+    go false q i = rw (in-line y q, q) (ap (onto x) (i (rw (in-line y q) at e)))
+
+line-last : (u : List ℕ) → 0 < length u → past inLine u ≡ [] → lines u ≡ front inLine u ∷ []
+unfolding past front lines
+line-last [] h e = absurd (omega arith)
+line-last (x ∷ u) h e = go (eqb x 10) refl
+  where
+    go : (b : Bool) → eqb x 10 ≡ b → lines (x ∷ u) ≡ front inLine (x ∷ u) ∷ []
+    go true q = absurd (let r : suc (length u) ≡ 0 = ap length (rw (in-line x q) at e) in omega arith)
+    go false q = rw (in-line x q, q) (last-onto u x (rw (in-line x q) at e))
+
+abbrev taken : Line → ℕ → Taken
+taken l p = record { content = l; next = p }
+
+module _ (t : List ℕ) (a e : ℕ) {l : Line} (g : a < length t) (w : RunTo (isOf 3) t a e) (k : l ≡ rowOf (part t a e)) where
+  pub taken-on : e < length t → TakenAt t a (taken l (e + 1))
+  unfolding contents
+  taken-on h = record {
+    is = ap (map rowOf) (line-ends (drop a t) (w .past-is ∙ here t e h)) ∙ rw (w .front-is, k);
+    on = omega (arith, w .on);
+    inside = omega arith;
+  }
+
+  pub taken-last : length t ≤ e → TakenAt t a (taken l e)
+  unfolding contents lines
+  taken-last h = record {
+    is = ap (map rowOf) (line-last (drop a t) (rw (length-drop a t) (omega arith)) (w .past-is ∙ beyond t e h)) ∙ rw (w .front-is, k, beyond t e h);
+    on = omega (arith, w .inside);
+    inside = w .inside;
+  }
+
+-- a row as it is stored
+pub row-stored : (o : List ℕ) (at s n : ℕ) {o₁ o₂ : List ℕ} → o₁ ≡ sets o at (be 8 s) → o₂ ≡ sets o₁ (at + 8) (be 8 n) → o₂ ≡ sets o at (be 8 s ++ be 8 n)
+row-stored o at s n e f = rw (f, e) (ap (λ (k : ℕ). sets (sets o at (be 8 s)) (at + k) (be 8 n)) (sym (length-be 8 s)) ∙ sym (sets-append o at (be 8 s) (be 8 n)))
+
+-- The text from a place on, behind so many lines and rows: what finishes it finishes the whole.
+pub record Gathers (t xs : List ℕ) (a k n : ℕ) (ys : List ℕ) : Type 0 where
+  pub inside : a ≤ length t
+  pub few : k ≤ a
+  pub fewer : n ≤ k
+  pub room : n ≤ length xs / 16
+  pub same : length ys ≡ length xs
+  pub says : gather (length xs / 16) k n (contents (drop a t)) ≡ tableOf t (length xs / 16)
+  pub writes : sets ys (n * 16) (packed (contents (drop a t))) ≡ sets xs 0 (packed (contents t))
+
+pub gathers-none : (t xs : List ℕ) → Gathers t xs 0 0 0 xs
+unfolding tableOf
+gathers-none t xs = record { inside = omega arith; few = omega arith; fewer = omega arith; room = omega arith; same = refl; says = refl; writes = refl }
+
+module _ (t xs : List ℕ) {a k n : ℕ} {ys : List ℕ} {r : Taken} (g : Gathers t xs a k n ys) (w : TakenAt t a r) where
+  pub gathers-blank : r .content ≡ Blank → Gathers t xs (r .next) (k + 1) n ys
+  gathers-blank f = record {
+    inside = w .inside;
+    few = omega (arith, g .few, w .on);
+    fewer = omega (arith, g .fewer);
+    room = g .room;
+    same = g .same;
+    says = rw (w .is, f) at (g .says);
+    writes = rw (w .is, f) at (g .writes);
+  }
+
+  pub gathers-bad : r .content ≡ Bad → table.Bad (k + 1) ≡ tableOf t (length xs / 16)
+  gathers-bad f = rw (w .is, f) at (g .says)
+
+  module _ {s v : ℕ} (f : r .content ≡ Grant s v) where
+    says-row : cond (leb (length xs / 16) n) (table.Full (k + 1)) (gather (length xs / 16) (k + 1) (n + 1) (contents (drop (r .next) t))) ≡ tableOf t (length xs / 16)
+    says-row = rw (w .is, f) at (g .says)
+
+    pub gathers-full : length ys / 16 ≤ n → table.Full (k + 1) ≡ tableOf t (length xs / 16)
+    gathers-full h = rw (le-leb (length xs / 16) n (rw (g .same) at h)) at says-row
+
+    pub gathers-row : {zs : List ℕ} → n < length ys / 16 → zs ≡ sets ys (n * 16) (be 8 s ++ be 8 v) → Gathers t xs (r .next) (k + 1) (n + 1) zs
+    gathers-row {zs} h z =
+        let q : n < length xs / 16 = rw (g .same) at h in
+        record {
+          inside = w .inside;
+          few = omega (arith, g .few, w .on);
+          fewer = omega (arith, g .fewer);
+          room = omega arith;
+          same = rw (z, length-sets ys (n * 16) (be 8 s ++ be 8 v)) (g .same);
+          says = rw (lt-leb (length xs / 16) n q) at says-row;
+          writes = rows-on zs z;
+        }
+      where
+        rows-on : (zs : List ℕ) → zs ≡ sets ys (n * 16) (be 8 s ++ be 8 v) → sets zs ((n + 1) * 16) (packed (contents (drop (r .next) t))) ≡ sets xs 0 (packed (contents t))
+        rows-on zs z =
+            let p : (n + 1) * 16 ≡ n * 16 + 16 = omega arith in
+            rw (z, p) (sym (sets-append ys (n * 16) (be 8 s ++ be 8 v) (packed (contents (drop (r .next) t)))) ∙ rw (w .is, f) at (g .writes))
+
+module _ (t xs : List ℕ) {a k n : ℕ} {ys : List ℕ} (g : Gathers t xs a k n ys) (h : length t ≤ a) where
+  pub gathers-end : table.Rows n ≡ tableOf t (length xs / 16)
+  unfolding contents lines
+  gathers-end = rw (beyond t a h) at (g .says)
+
+  pub gathers-all : ys ≡ sets xs 0 (packed (contents t))
+  unfolding contents lines
+  gathers-all = rw (beyond t a h) at (g .writes)
+
+pub ruleset whole = (taken-on, taken-last, row-stored, gathers-none, gathers-blank, gathers-bad, gathers-full, gathers-row, gathers-end, gathers-all)

@@ -1,0 +1,16 @@
+-- `table_text::is` meets its contract.
+use Rattle.table_text.proofs.Ways.{ways}
+use borrow.Author.Needs.{needs}
+use Rattle.table_text.proofs.is.Statement.{statement}
+use Rattle.table_text.proofs.is.Tie as tie
+
+pub is-spec : {M : Type 1} → statement M
+is-spec =
+    tie.close
+    (tie.spec
+    (λ c κs. search (ways, needs))
+    (λ c κs. search (ways, needs))
+    (λ c. search (ways, needs))
+    (λ c. search (ways, needs))
+    (λ c. search (ways, needs))
+    (λ c. search (ways, needs)))

@@ -1,0 +1,16 @@
+-- `table_text::row` meets its contract.
+use Rattle.table_text.proofs.Ways.{ways}
+use borrow.Author.Needs.{needs}
+use Rattle.table_text.proofs.row.Statement.{statement}
+use Rattle.table_text.proofs.row.Tie as tie
+
+pub row-spec : {M : Type 1} → statement M
+row-spec =
+    tie.close
+    (tie.spec
+    (λ c κs. search (ways, needs))
+    (λ c. search (ways, needs))
+    (λ c. search (ways, needs))
+    (λ c. search (ways, needs))
+    (λ c κs. search (ways, needs))
+    (λ c. search (ways, needs)))
