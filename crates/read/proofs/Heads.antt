@@ -28,13 +28,13 @@ use Rattle.read.proofs.Keys.{ordered-kind, key-bytes, same-order, no-ke
 
 -- a string's end
 module _ (b : List ℕ) (a q : ℕ) where
-  pub too-short : length b - q < a → Short ≡ stringEnd b 2 a q
+  pub too-short : {x : ℕ} → x ≡ length b - q → x < a → Short ≡ stringEnd b 2 a q
   unfolding stringEnd
-  too-short h = rw (lt-ltb (length b - q) a h)
+  too-short e h = rw (← e, lt-ltb _ a h)
 
-  pub long-enough : a ≤ length b - q → At (q + a) ≡ stringEnd b 2 a q
+  pub long-enough : {x : ℕ} → x ≡ length b - q → a ≤ x → At (q + a) ≡ stringEnd b 2 a q
   unfolding stringEnd
-  long-enough h = rw (le-ltb (length b - q) a h)
+  long-enough e h = rw (← e, le-ltb _ a h)
 
   pub of-bytes : (k : ℕ) → k ≡ 2 → {r : End} → r ≡ stringEnd b 2 a q → r ≡ stringEnd b k a q
   of-bytes k e g = rw e g

@@ -82,12 +82,21 @@ fn wrong_version(slot: u64, own: u64, arg: u64) -> bool
     false
 }
 
+// The bytes from a place on.
+fn left(s: &[u8], at: usize) -> usize
+    ensures { λ r. ⌜ r ≡ length (now (s .entry)) - at ⌝ }
+{
+    if s.len() < at {
+        return 0;
+    }
+    s.len() - at
+}
+
 fn end_of(s: &[u8], arg: u64, next: usize) -> End
-    requires { ⌜ next ≤ length (now s) ⌝ }
     ensures { λ r. ⌜ r ≡ stringEnd (now (s .entry)) 2 arg next ⌝ }
 {
     let size = arg as usize;
-    if s.len() - next < size {
+    if left(s, next) < size {
         return End::Short;
     }
     End::At(next + size)
@@ -95,7 +104,6 @@ fn end_of(s: &[u8], arg: u64, next: usize) -> End
 
 // Test 9: where the string behind a head ends. What is no string has none.
 pub fn string_end(s: &[u8], kind: u8, arg: u64, next: usize) -> End
-    requires { ⌜ next ≤ length (now s) ⌝ }
     ensures { λ r. ⌜ r ≡ stringEnd (now (s .entry)) kind arg next ⌝ }
 {
     if kind == 2 {

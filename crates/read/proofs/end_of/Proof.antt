@@ -1,6 +1,5 @@
--- `read::end_of` meets its contract: the bytes are there or not.
-use borrow.Author.Needs.{needs}
 use Rattle.read.proofs.Heads.{string-ways}
+use borrow.Author.Needs.{needs}
 use Rattle.read.proofs.end_of.Statement.{statement}
 use Rattle.read.proofs.end_of.Tie as tie
 
@@ -8,7 +7,7 @@ pub end-of-spec : {M : Type 1} → statement M
 end-of-spec =
     tie.close
     (tie.spec
-    (λ c. search needs)
+    (λ c κs. search needs)
     (λ c. search (string-ways, needs))
     (λ c. search needs)
     (λ c. search (string-ways, needs)))

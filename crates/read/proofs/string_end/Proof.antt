@@ -1,6 +1,5 @@
--- `read::string_end` meets its contract: strings are of kind 2 and 3.
-use borrow.Author.Needs.{needs}
 use Rattle.read.proofs.Heads.{string-ways}
+use borrow.Author.Needs.{needs}
 use Rattle.read.proofs.string_end.Statement.{statement}
 use Rattle.read.proofs.string_end.Tie as tie
 
