@@ -1,9 +1,9 @@
 use borrow.Author.Needs.{needs}
-use Rattle.gate_list.proofs.number.Statement.{statement}
-use Rattle.gate_list.proofs.number.Tie as tie
-use Rattle.gate_list.proofs.number.Reads as reads
-use Rattle.gate_list.proofs.number.Lts as lts
-use Rattle.gate_list.proofs.byte.Reads as byte-reads
+use Rattle.entries.proofs.number.Statement.{statement}
+use Rattle.entries.proofs.number.Tie as tie
+use Rattle.entries.proofs.number.Reads as reads
+use Rattle.entries.proofs.number.Lts as lts
+use Rattle.entries.proofs.byte.Reads as byte-reads
 use Prim.Native.Nat.{_≤_, _-_}
 use lib.ListN.{length}
 

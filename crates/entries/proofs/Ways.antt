@@ -1,0 +1,18 @@
+-- A two's complement by its sign.
+use Prim.Native.Nat.{ℕ, _-_, _≤_, _<_}
+use mathlib.Core.List.{List}
+use borrow.Author.Tests.{lt-ltb, le-ltb}
+use Rattle.show.specs.Put.{Put}
+use Rattle.show.specs.Texts.{decimalOf, negativeOf}
+use Rattle.entries.specs.Integer.{integerOf}
+
+module _ {xs ys : List ℕ} {at r : ℕ} (w : ℕ) where
+  pub integer-positive : w < 9223372036854775808 → Put xs at (decimalOf w) ys r → Put xs at (integerOf w) ys r
+  unfolding integerOf
+  integer-positive h p = rw (lt-ltb w 9223372036854775808 h) p
+
+  pub integer-negative : 9223372036854775808 ≤ w → Put xs at (negativeOf (18446744073709551615 - w)) ys r → Put xs at (integerOf w) ys r
+  unfolding integerOf
+  integer-negative h p = rw (le-ltb w 9223372036854775808 h) p
+
+pub ruleset ways = (integer-positive, integer-negative)

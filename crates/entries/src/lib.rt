@@ -1,0 +1,86 @@
+// What the programs print of bytes: big-endian numbers, and the entries of a listing. Written as the crate `show` writes.
+ghost use Prim.Native.Nat.{_<_};
+ghost use Rattle.show.specs.Put.{Put};
+ghost use Rattle.entries.specs.Integer.{integerOf};
+
+fn byte(x: u8) -> u64
+    ensures { λ r. ⌜ r < 256 ⌝ }
+{
+    x as u64
+}
+
+// The number that up to eight bytes are, the highest first.
+pub fn number(bytes: &[u8]) -> u64 {
+    let mut v: u64 = 0;
+    let mut i = 0;
+    while i < bytes.len() {
+        v = v % 72057594037927936 * 256 + byte(bytes[i]);
+        i += 1;
+    }
+    v
+}
+
+// The number of the eight bytes from a place on, or 0 where there are none.
+pub fn word(bytes: &[u8], at: usize) -> u64 {
+    if bytes.len() < 8 {
+        return 0;
+    }
+    if bytes.len() - 8 < at {
+        return 0;
+    }
+    let end = at + 8;
+    number(&bytes[at..end])
+}
+
+// A two's complement in decimal.
+pub fn integer(out: &mut [u8], at: usize, w: u64) -> usize
+    ensures { λ r. ⌜ Put (now (out .entry)) at (integerOf w) (now (out .exit)) r ⌝ }
+{
+    if w < 9223372036854775808 {
+        return show::decimal(out, at, w);
+    }
+    show::negative(out, at, 18446744073709551615 - w)
+}
+
+// The bytes of a name whose head is at a place.
+fn name(out: &mut [u8], at: usize, s: &[u8], place: usize) -> usize {
+    let h = cbor::head_at(s, place);
+    let cbor::Head::Good { kind: _, arg, next } = h else {
+        return at;
+    };
+    let size = arg as usize;
+    if s.len() < next {
+        return at;
+    }
+    if s.len() - next < size {
+        return at;
+    }
+    let end = next + size;
+    show::put(out, at, &s[next..end])
+}
+
+// A namespace by an entry's kind and word: a number, a name as its text, a relative one as a full stop.
+fn namespace(out: &mut [u8], at: usize, s: &[u8], kind: u64, w: u64) -> usize {
+    if kind == 1 {
+        return name(out, at, s, w as usize);
+    }
+    if kind == 2 {
+        return show::put_byte(out, at, b'.');
+    }
+    integer(out, at, w)
+}
+
+// An entry of a listing, its 24 bytes from a place on: first byte, byte after, namespace, and a line end.
+pub fn entry(out: &mut [u8], at: usize, s: &[u8], listing: &[u8], from: usize) -> usize {
+    if listing.len() < 24 {
+        return at;
+    }
+    if listing.len() - 24 < from {
+        return at;
+    }
+    let ends = word(listing, from);
+    let a = show::field(out, at, ends / 4294967296);
+    let b = show::field(out, a, ends % 4294967296);
+    let c = namespace(out, b, s, word(listing, from + 8), word(listing, from + 16));
+    show::put_byte(out, c, b'\n')
+}
