@@ -6,7 +6,10 @@ fn show_no(s: &[u8], k: usize, listing: &mut [u8], out: &mut [u8]) {
     let a = show::put(out, 0, b"no ");
     let b = show::field(out, a, k as u64);
     match list::list_message(s, listing) {
-        list::Listed::Entries { listed: _, count: _ } => {
+        list::Listed::Entries {
+            listed: _,
+            count: _,
+        } => {
             if k < 1024 {
                 let c = entries::entry(out, b, s, listing, k * 24);
                 show::flush(out, c);
@@ -87,7 +90,10 @@ fn run() {
             judge_under(&path[..n], s);
         }
         table_text::Number::Bad => {
-            io::write_all(2, b"SUBSCRIBER is no number from 0 to 18446744073709551615\n");
+            io::write_all(
+                2,
+                b"SUBSCRIBER is no number from 0 to 18446744073709551615\n",
+            );
         }
     }
 }

@@ -33,7 +33,12 @@ fn take(name: &[u8], text: &[u8], room: &mut [u8], out: &mut [u8]) -> Held {
     match table_text::rows(text, room) {
         table_text::Table::Rows(n) => Held::Rows(n),
         table_text::Table::Bad(line) => {
-            say_line(out, name, line, b" is no row, which is SUBSCRIBER NAMESPACE");
+            say_line(
+                out,
+                name,
+                line,
+                b" is no row, which is SUBSCRIBER NAMESPACE",
+            );
             Held::Nothing
         }
         table_text::Table::Full(line) => {
