@@ -1,35 +1,19 @@
 // What the programs print of bytes: big-endian numbers, and the entries of a listing. Written as the crate `show` writes.
-ghost use Prim.Native.Nat.{_<_};
+ghost use mathlib.Core.Path.{_≡_};
 ghost use Rattle.show.specs.Put.{Put};
-ghost use Rattle.entries.specs.Integer.{integerOf};
+ghost use Rattle.entries.specs.Words.{wordOf, integerOf};
 
-fn byte(x: u8) -> u64
-    ensures { λ r. ⌜ r < 256 ⌝ }
+// The number of the eight bytes from a place on, the highest first, or 0 where there are not so many.
+pub fn word(bytes: &[u8], at: usize) -> u64
+    ensures { λ r. ⌜ r ≡ wordOf (now (bytes .entry)) at ⌝ }
 {
-    x as u64
-}
-
-// The number that up to eight bytes are, the highest first.
-pub fn number(bytes: &[u8]) -> u64 {
-    let mut v: u64 = 0;
-    let mut i = 0;
-    while i < bytes.len() {
-        v = v % 72057594037927936 * 256 + byte(bytes[i]);
-        i += 1;
-    }
-    v
-}
-
-// The number of the eight bytes from a place on, or 0 where there are none.
-pub fn word(bytes: &[u8], at: usize) -> u64 {
     if bytes.len() < 8 {
         return 0;
     }
     if bytes.len() - 8 < at {
         return 0;
     }
-    let end = at + 8;
-    number(&bytes[at..end])
+    grants::be8(bytes, at)
 }
 
 // A two's complement in decimal.

@@ -1,9 +1,0 @@
--- A two's complement word in decimal.
-use Prim.Native.Nat.{ℕ, _-_}
-use mathlib.Core.Bool.{cond}
-use mathlib.Core.List.{List}
-use lib.Dec.{ltb}
-use Rattle.show.specs.Texts.{decimalOf, negativeOf}
-
-unfoldable pub integerOf : ℕ → List ℕ
-integerOf w = cond (ltb w 9223372036854775808) (decimalOf w) (negativeOf (18446744073709551615 - w))
