@@ -2,6 +2,8 @@
 ghost use mathlib.Core.Path.{_≡_};
 ghost use Rattle.show.specs.Put.{Put};
 ghost use Rattle.entries.specs.Words.{wordOf, integerOf};
+ghost use Rattle.entries.specs.Lines.{nameOf, spaceOf, lineOf, entryOf};
+ghost use Rattle.cbor.specs.Answer.{headAt};
 
 // The number of the eight bytes from a place on, the highest first, or 0 where there are not so many.
 pub fn word(bytes: &[u8], at: usize) -> u64
@@ -27,7 +29,9 @@ pub fn integer(out: &mut [u8], at: usize, w: u64) -> usize
 }
 
 // The bytes of a name whose head is at a place.
-fn name(out: &mut [u8], at: usize, s: &[u8], place: usize) -> usize {
+fn name(out: &mut [u8], at: usize, s: &[u8], place: usize) -> usize
+    ensures { λ r. ⌜ Put (now (out .entry)) at (nameOf (now (s .entry)) (headAt (now (s .entry)) place)) (now (out .exit)) r ⌝ }
+{
     let h = cbor::head_at(s, place);
     let cbor::Head::Good { kind: _, arg, next } = h else {
         return at;
@@ -44,7 +48,9 @@ fn name(out: &mut [u8], at: usize, s: &[u8], place: usize) -> usize {
 }
 
 // A namespace by an entry's kind and word: a number, a name as its text, a relative one as a full stop.
-fn namespace(out: &mut [u8], at: usize, s: &[u8], kind: u64, w: u64) -> usize {
+fn namespace(out: &mut [u8], at: usize, s: &[u8], kind: u64, w: u64) -> usize
+    ensures { λ r. ⌜ Put (now (out .entry)) at (spaceOf (now (s .entry)) kind w) (now (out .exit)) r ⌝ }
+{
     if kind == 1 {
         return name(out, at, s, w as usize);
     }
@@ -54,8 +60,20 @@ fn namespace(out: &mut [u8], at: usize, s: &[u8], kind: u64, w: u64) -> usize {
     integer(out, at, w)
 }
 
+// An entry's line by its three words.
+fn line(out: &mut [u8], at: usize, s: &[u8], ends: u64, kind: u64, w: u64) -> usize
+    ensures { λ r. ⌜ Put (now (out .entry)) at (lineOf (now (s .entry)) ends kind w) (now (out .exit)) r ⌝ }
+{
+    let a = show::field(out, at, ends / 4294967296);
+    let b = show::field(out, a, ends % 4294967296);
+    let c = namespace(out, b, s, kind, w);
+    show::put_byte(out, c, b'\n')
+}
+
 // An entry of a listing, its 24 bytes from a place on: first byte, byte after, namespace, and a line end.
-pub fn entry(out: &mut [u8], at: usize, s: &[u8], listing: &[u8], from: usize) -> usize {
+pub fn entry(out: &mut [u8], at: usize, s: &[u8], listing: &[u8], from: usize) -> usize
+    ensures { λ r. ⌜ Put (now (out .entry)) at (entryOf (now (s .entry)) (now (listing .entry)) from) (now (out .exit)) r ⌝ }
+{
     if listing.len() < 24 {
         return at;
     }
@@ -63,8 +81,7 @@ pub fn entry(out: &mut [u8], at: usize, s: &[u8], listing: &[u8], from: usize) -
         return at;
     }
     let ends = word(listing, from);
-    let a = show::field(out, at, ends / 4294967296);
-    let b = show::field(out, a, ends % 4294967296);
-    let c = namespace(out, b, s, word(listing, from + 8), word(listing, from + 16));
-    show::put_byte(out, c, b'\n')
+    let kind = word(listing, from + 8);
+    let w = word(listing, from + 16);
+    line(out, at, s, ends, kind, w)
 }
