@@ -29,7 +29,7 @@ fn push2(x: u64, s: &[u8], at: usize) -> u64
 }
 
 // A big-endian number. LLVM makes one load of this form, and not of one by halves.
-fn be8(s: &[u8], at: usize) -> u64
+pub fn be8(s: &[u8], at: usize) -> u64
     requires { ⌜ at + 8 ≤ length (now s) ⌝ }
     ensures { λ r. ⌜ r ≡ value (take 8 (drop at (now (s .entry)))) ⌝ }
 {

@@ -6,7 +6,7 @@
 //! recursive-descent walk serves all of them: what it meets is told to a
 //! [`Visitor`], and a check's visitor does nothing. `check_table` and `release`
 //! judge by the listing and a grant table, `write_text` and `read_text` go from
-//! a single ARI to its text and back.
+//! a single ARI to its text and back, `read_table` reads the text of a grant table.
 //!
 //! Not part of the reading: [`archive`] calls the gate, [`generate`] makes
 //! inputs for comparisons and times, [`vectors`] holds the fixed inputs,
@@ -16,6 +16,7 @@ mod grants;
 mod head;
 mod listing;
 mod spelling;
+mod table_text;
 mod text;
 mod walk;
 
@@ -28,6 +29,7 @@ pub use grants::{check_table, release, rows, table_bytes, Release, Row, ROW};
 pub use head::Kind;
 pub use listing::{list, listing, Entry, Listing, Namespace, ENTRY};
 pub use spelling::{is_identifier, is_namespace_name, is_utf8};
+pub use table_text::{read_table, NoTable, TABLE_ROWS, TABLE_TEXT};
 pub use text::{read_text, text_of, write_text};
 pub use walk::{walk_message, walk_single, Visitor};
 

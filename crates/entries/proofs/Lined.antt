@@ -1,0 +1,66 @@
+-- The ways through an entry's line.
+use Prim.Native.Nat.{ℕ, _+_, _-_, _/_, _%_, _≤_, _<_}
+use mathlib.Core.Path.{_≡_}
+use mathlib.Core.List.{List, [], _∷_, _++_}
+use native.Mathlib.Omega.{arith}
+use lib.ListN.{length, take, drop}
+use borrow.Author.Tests.{le-leb, lt-leb, ne-eqb}
+use Rattle.cbor.specs.declared.Head.{Head}
+use Rattle.cbor.specs.declared.Head.the-variants.{Bad, Good}
+use Rattle.cbor.specs.Answer.{headAt}
+use Rattle.show.specs.Put.{Put}
+use Rattle.show.specs.Texts.{fieldOf}
+use Rattle.show.proofs.Putting.{put-nothing, put-both}
+use Rattle.entries.specs.Words.{wordOf, integerOf}
+use Rattle.entries.specs.Lines.{nameOf, spaceOf, lineOf, entryOf}
+
+-- a name by its head
+module _ {xs : List ℕ} {at : ℕ} (s : List ℕ) {h g : Head} (e : h ≡ g) where
+  pub name-bad : {r : ℕ} → h ≡ Bad r → Put xs at (nameOf s g) xs at
+  name-bad f = rw (← e, f) (put-nothing xs at)
+
+  module _ {k a q : ℕ} (f : h ≡ Good k a q) where
+    pub name-past : length s < q → Put xs at (nameOf s g) xs at
+    name-past l = rw (← e, f, lt-leb (q + a) (length s) (omega arith)) (put-nothing xs at)
+
+    pub name-cut : q ≤ length s → length s - q < a → Put xs at (nameOf s g) xs at
+    name-cut l m = rw (← e, f, lt-leb (q + a) (length s) (omega arith)) (put-nothing xs at)
+
+    pub name-whole : {ys : List ℕ} {r : ℕ} → q ≤ length s → a ≤ length s - q → Put xs at (take (q + a - q) (drop q s)) ys r → Put xs at (nameOf s g) ys r
+    name-whole l m p = let d : q + a - q ≡ a = omega arith in rw (← e, f, le-leb (q + a) (length s) (omega arith)) (rw d at p)
+
+-- a namespace by its kind
+module _ {xs ys : List ℕ} {at r : ℕ} (s : List ℕ) (k w : ℕ) where
+  pub space-name : k ≡ 1 → Put xs at (nameOf s (headAt s w)) ys r → Put xs at (spaceOf s k w) ys r
+  unfolding spaceOf
+  space-name e p = rw e p
+
+  pub space-relative : k ≡ 2 → Put xs at (46 ∷ []) ys r → Put xs at (spaceOf s k w) ys r
+  unfolding spaceOf
+  space-relative e p = rw e p
+
+  pub space-number : (k ≡ 1 → ⊥) → (k ≡ 2 → ⊥) → Put xs at (integerOf w) ys r → Put xs at (spaceOf s k w) ys r
+  unfolding spaceOf
+  space-number d e p = rw (ne-eqb k 1 d, ne-eqb k 2 e) p
+
+pub line-put : (s : List ℕ) (e k w : ℕ) {xs x₁ x₂ x₃ ys : List ℕ} {at p q r o : ℕ} → Put xs at (fieldOf (e / 4294967296)) x₁ p → Put x₁ p (fieldOf (e % 4294967296)) x₂ q
+    → Put x₂ q (spaceOf s k w) x₃ r → Put x₃ r (10 ∷ []) ys o → Put xs at (lineOf s e k w) ys o
+unfolding lineOf
+line-put s e k w a b c d = put-both a (put-both b (put-both c d))
+
+-- an entry where there are 24 bytes
+module _ (s b : List ℕ) (from : ℕ) {xs : List ℕ} {at : ℕ} where
+  pub entry-none : length b < 24 → Put xs at (entryOf s b from) xs at
+  unfolding entryOf
+  entry-none h = rw (lt-leb (from + 24) (length b) (omega arith)) (put-nothing xs at)
+
+  pub entry-past : 24 ≤ length b → length b - 24 < from → Put xs at (entryOf s b from) xs at
+  unfolding entryOf
+  entry-past g h = rw (lt-leb (from + 24) (length b) (omega arith)) (put-nothing xs at)
+
+  pub entry-put : {ys : List ℕ} {r x y z : ℕ} → 24 ≤ length b → from ≤ length b - 24 → x ≡ wordOf b from → y ≡ wordOf b (from + 8) → z ≡ wordOf b (from + 16) → Put xs at (lineOf s x y z) ys r
+      → Put xs at (entryOf s b from) ys r
+  unfolding entryOf
+  entry-put g h e f i p = rw (le-leb (from + 24) (length b) (omega arith), ← e, ← f, ← i) p
+
+pub ruleset lined = (name-bad, name-past, name-cut, name-whole, space-name, space-relative, space-number, line-put, entry-none, entry-past, entry-put)

@@ -1,0 +1,17 @@
+-- `entries::integer` meets its contract: by the sign.
+use Rattle.entries.proofs.Ways.{ways}
+use borrow.Author.Needs.{needs}
+use Rattle.entries.proofs.integer.Statement.{statement}
+use Rattle.entries.proofs.integer.Tie as tie
+
+pub integer-spec : {M : Type 1} → statement M
+integer-spec =
+    tie.close
+    (tie.spec
+    (λ c κs. search (ways, needs))
+    (λ c. search (ways, needs))
+    (λ c. search (ways, needs))
+    (λ c. search (ways, needs))
+    (λ c κs. search (ways, needs))
+    (λ c. search (ways, needs))
+    (λ c. search (ways, needs)))

@@ -1,0 +1,87 @@
+// What the programs print of bytes: big-endian numbers, and the entries of a listing. Written as the crate `show` writes.
+ghost use mathlib.Core.Path.{_≡_};
+ghost use Rattle.show.specs.Put.{Put};
+ghost use Rattle.entries.specs.Words.{wordOf, integerOf};
+ghost use Rattle.entries.specs.Lines.{nameOf, spaceOf, lineOf, entryOf};
+ghost use Rattle.cbor.specs.Answer.{headAt};
+
+// The number of the eight bytes from a place on, the highest first, or 0 where there are not so many.
+pub fn word(bytes: &[u8], at: usize) -> u64
+    ensures { λ r. ⌜ r ≡ wordOf (now (bytes .entry)) at ⌝ }
+{
+    if bytes.len() < 8 {
+        return 0;
+    }
+    if bytes.len() - 8 < at {
+        return 0;
+    }
+    grants::be8(bytes, at)
+}
+
+// A two's complement in decimal.
+pub fn integer(out: &mut [u8], at: usize, w: u64) -> usize
+    ensures { λ r. ⌜ Put (now (out .entry)) at (integerOf w) (now (out .exit)) r ⌝ }
+{
+    if w < 9223372036854775808 {
+        return show::decimal(out, at, w);
+    }
+    show::negative(out, at, 18446744073709551615 - w)
+}
+
+// The bytes of a name whose head is at a place.
+fn name(out: &mut [u8], at: usize, s: &[u8], place: usize) -> usize
+    ensures { λ r. ⌜ Put (now (out .entry)) at (nameOf (now (s .entry)) (headAt (now (s .entry)) place)) (now (out .exit)) r ⌝ }
+{
+    let h = cbor::head_at(s, place);
+    let cbor::Head::Good { kind: _, arg, next } = h else {
+        return at;
+    };
+    let size = arg as usize;
+    if s.len() < next {
+        return at;
+    }
+    if s.len() - next < size {
+        return at;
+    }
+    let end = next + size;
+    show::put(out, at, &s[next..end])
+}
+
+// A namespace by an entry's kind and word: a number, a name as its text, a relative one as a full stop.
+fn namespace(out: &mut [u8], at: usize, s: &[u8], kind: u64, w: u64) -> usize
+    ensures { λ r. ⌜ Put (now (out .entry)) at (spaceOf (now (s .entry)) kind w) (now (out .exit)) r ⌝ }
+{
+    if kind == 1 {
+        return name(out, at, s, w as usize);
+    }
+    if kind == 2 {
+        return show::put_byte(out, at, b'.');
+    }
+    integer(out, at, w)
+}
+
+// An entry's line by its three words.
+fn line(out: &mut [u8], at: usize, s: &[u8], ends: u64, kind: u64, w: u64) -> usize
+    ensures { λ r. ⌜ Put (now (out .entry)) at (lineOf (now (s .entry)) ends kind w) (now (out .exit)) r ⌝ }
+{
+    let a = show::field(out, at, ends / 4294967296);
+    let b = show::field(out, a, ends % 4294967296);
+    let c = namespace(out, b, s, kind, w);
+    show::put_byte(out, c, b'\n')
+}
+
+// An entry of a listing, its 24 bytes from a place on: first byte, byte after, namespace, and a line end.
+pub fn entry(out: &mut [u8], at: usize, s: &[u8], listing: &[u8], from: usize) -> usize
+    ensures { λ r. ⌜ Put (now (out .entry)) at (entryOf (now (s .entry)) (now (listing .entry)) from) (now (out .exit)) r ⌝ }
+{
+    if listing.len() < 24 {
+        return at;
+    }
+    if listing.len() - 24 < from {
+        return at;
+    }
+    let ends = word(listing, from);
+    let kind = word(listing, from + 8);
+    let w = word(listing, from + 16);
+    line(out, at, s, ends, kind, w)
+}

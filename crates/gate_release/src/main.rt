@@ -1,0 +1,107 @@
+// `gate release TABLE SUBSCRIBER`: reads a message from standard input and writes whether it may be released to the subscriber
+// under the grant table whose text is in the file TABLE: `yes`, `no` with the number and the line of the first entry that isn't
+// granted, or the message's refusal.
+
+fn show_no(s: &[u8], k: usize, listing: &mut [u8], out: &mut [u8]) {
+    let a = show::put(out, 0, b"no ");
+    let b = show::field(out, a, k as u64);
+    match list::list_message(s, listing) {
+        list::Listed::Entries {
+            listed: _,
+            count: _,
+        } => {
+            if k < 1024 {
+                let c = entries::entry(out, b, s, listing, k * 24);
+                show::flush(out, c);
+            }
+        }
+        list::Listed::Refused { number, place } => {
+            let c = show::refused(out, 0, number, place);
+            show::flush(out, c);
+        }
+    }
+}
+
+fn judge(s: &[u8], table: &[u8], subscriber: u64, listing: &mut [u8], out: &mut [u8]) {
+    match list::release(s, table, subscriber) {
+        list::Released::Yes => {
+            let a = show::put(out, 0, b"yes\n");
+            show::flush(out, a);
+        }
+        list::Released::No(k) => show_no(s, k, listing, out),
+        list::Released::Refused { number, place } => {
+            let a = show::refused(out, 0, number, place);
+            show::flush(out, a);
+        }
+    }
+}
+
+// At most one byte past the limit is read.
+fn judge_input(table: &[u8], subscriber: u64) {
+    let mut input = [0u8; 4097];
+    let n = io::read_full(0, &mut input);
+    let mut listing = [0u8; 24576];
+    let mut out = io::buffer();
+    judge(&input[..n], table, subscriber, &mut listing, &mut out);
+}
+
+fn judge_rows(room: &[u8], rows: usize, subscriber: u64) {
+    if room.len() / 16 < rows {
+        return;
+    }
+    let size = rows * 16;
+    judge_input(&room[0..size], subscriber);
+}
+
+fn judge_file(path: &[u8], subscriber: u64, room: &mut [u8]) {
+    let fd = os::open_read(path);
+    if fd < 0 {
+        os::fail(path);
+        return;
+    }
+    match table_file::load(fd, path, room) {
+        table_file::Held::Rows(n) => judge_rows(room, n, subscriber),
+        table_file::Held::Nothing => {}
+    }
+    libc::close(fd);
+}
+
+fn judge_under(path: &[u8], subscriber: u64) {
+    let mut room = table_file::buffer();
+    judge_file(path, subscriber, &mut room);
+}
+
+// The second argument: a number as in a table.
+fn subscriber() -> table_text::Number {
+    let mut word = [0u8; 32];
+    let n = os::arg(2, &mut word);
+    table_text::unsigned(&word[..n])
+}
+
+fn run() {
+    match subscriber() {
+        table_text::Number::Value(s) => {
+            let mut path = io::buffer();
+            let n = os::arg(1, &mut path);
+            if os::errno() != 0 {
+                os::fail(b"TABLE");
+                return;
+            }
+            judge_under(&path[..n], s);
+        }
+        table_text::Number::Bad => {
+            io::write_all(
+                2,
+                b"SUBSCRIBER is no number from 0 to 18446744073709551615\n",
+            );
+        }
+    }
+}
+
+fn main() {
+    if os::arg_count() != 3 {
+        io::write_all(2, b"usage: gate release TABLE SUBSCRIBER\n");
+        return;
+    }
+    run();
+}
