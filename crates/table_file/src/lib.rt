@@ -37,12 +37,12 @@ fn take(name: &[u8], text: &[u8], room: &mut [u8], out: &mut [u8]) -> Held {
                 out,
                 name,
                 line,
-                b" is no row, which is SUBSCRIBER NAMESPACE",
+                b": expected SUBSCRIBER NAMESPACE in decimal",
             );
             Held::Nothing
         }
         table_text::Table::Full(line) => {
-            say_line(out, name, line, b" is a row too many: 16384 are held");
+            say_line(out, name, line, b": more than 16384 rows");
             Held::Nothing
         }
     }

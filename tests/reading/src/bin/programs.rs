@@ -185,10 +185,10 @@ fn no_table(name: &str, why: NoTable) -> Printed {
     Printed::error(match why {
         NoTable::TooLong => format!("{name}: more than {TABLE_TEXT} bytes\n"),
         NoTable::NoRow { line } => {
-            format!("{name}: line {line} is no row, which is SUBSCRIBER NAMESPACE\n")
+            format!("{name}: line {line}: expected SUBSCRIBER NAMESPACE in decimal\n")
         }
         NoTable::TooManyRows { line } => {
-            format!("{name}: line {line} is a row too many: {TABLE_ROWS} are held\n")
+            format!("{name}: line {line}: more than {TABLE_ROWS} rows\n")
         }
     })
 }
