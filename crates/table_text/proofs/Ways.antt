@@ -14,7 +14,8 @@ use Rattle.table_text.specs.declared.Number.the-variants.{Value, Bad}
 use Rattle.table_text.specs.declared.Line.{Line}
 use Rattle.table_text.specs.declared.Line.the-variants as line
 use Rattle.table_text.specs.Numbers.{pushOf, onward, digitsOf, unsignedOf, positiveOf, negativeOf, signedOf}
-use Rattle.table_text.specs.Rows.{blank, isOf, front, past, part, RunTo, grantOf, isEmpty, wordsOf, lineOf, fieldsOf, rowOf}
+use Rattle.read.specs.Steps.{part}
+use Rattle.table_text.specs.Rows.{blank, isOf, front, past, RunTo, grantOf, isEmpty, wordsOf, lineOf, fieldsOf, rowOf}
 
 -- a byte and those behind it
 here : (t : List ℕ) (i : ℕ) → i < length t → drop i t ≡ getD t i 0 ∷ drop (i + 1) t

@@ -17,8 +17,9 @@ use Rattle.table_text.specs.declared.Line.the-variants.{Blank, Grant, Ba
 use Rattle.table_text.specs.declared.Taken.{Taken}
 use Rattle.table_text.specs.declared.Table.{Table}
 use Rattle.table_text.specs.declared.Table.the-variants as table
-use Rattle.table_text.specs.Rows.{isOf, front, past, part, RunTo, rowOf}
-use Rattle.table_text.specs.Table.{onto, lines, contents, gather, tableOf, packed, Filled, TakenAt}
+use Rattle.read.specs.Steps.{part}
+use Rattle.table_text.specs.Rows.{isOf, front, past, RunTo, rowOf}
+use Rattle.table_text.specs.Table.{onto, lines, contents, gather, tableOf, packed, roomAfter, Turned, TakenAt}
 
 here : (t : List ℕ) (i : ℕ) → i < length t → drop i t ≡ getD t i 0 ∷ drop (i + 1) t
 here t i h = rw (add-one i) (drop-cons t i 0 h)
@@ -89,22 +90,44 @@ module _ (t : List ℕ) (a e : ℕ) {l : Line} (g : a < length t) (w : RunTo (is
 pub row-stored : (o : List ℕ) (at s n : ℕ) {o₁ o₂ : List ℕ} → o₁ ≡ sets o at (be 8 s) → o₂ ≡ sets o₁ (at + 8) (be 8 n) → o₂ ≡ sets o at (be 8 s ++ be 8 n)
 row-stored o at s n e f = rw (f, e) (ap (λ (k : ℕ). sets (sets o at (be 8 s)) (at + k) (be 8 n)) (sym (length-be 8 s)) ∙ sym (sets-append o at (be 8 s) (be 8 n)))
 
+-- or left
+module _ {x : Bool} (o u : List ℕ) (at : ℕ) where
+  pub row-written : {o₁ : List ℕ} → x ≡ true → o₁ ≡ sets o at u → o₁ ≡ cond x (sets o at u) o
+  row-written q e = rw q e
+
+  pub row-left : x ≡ false → o ≡ cond x (sets o at u) o
+  row-left q = rw q
+
+cond-length : (x : Bool) (ys : List ℕ) (at : ℕ) (u : List ℕ) → length (cond x (sets ys at u) ys) ≡ length ys
+cond-length true ys at u = length-sets ys at u
+cond-length false ys at u = refl
+
 -- The text from a place on, behind so many lines and rows: what finishes it finishes the whole.
-pub record Gathers (t xs : List ℕ) (a k n : ℕ) (ys : List ℕ) : Type 0 where
+pub record Gathers (x : Bool) (t xs : List ℕ) (a k n : ℕ) (ys : List ℕ) : Type 0 where
   pub inside : a ≤ length t
   pub few : k ≤ a
   pub fewer : n ≤ k
   pub room : n ≤ length xs / 16
   pub same : length ys ≡ length xs
   pub says : gather (length xs / 16) k n (contents (drop a t)) ≡ tableOf t (length xs / 16)
-  pub writes : sets ys (n * 16) (packed (contents (drop a t))) ≡ sets xs 0 (packed (contents t))
+  pub looked : x ≡ false → ys ≡ xs
+  pub writes : x ≡ true → sets ys (n * 16) (packed (contents (drop a t))) ≡ sets xs 0 (packed (contents t))
 
-pub gathers-none : (t xs : List ℕ) → Gathers t xs 0 0 0 xs
+pub gathers-none : (x : Bool) (t xs : List ℕ) → Gathers x t xs 0 0 0 xs
 unfolding tableOf
-gathers-none t xs = record { inside = omega arith; few = omega arith; fewer = omega arith; room = omega arith; same = refl; says = refl; writes = refl }
+gathers-none x t xs = record {
+  inside = omega arith;
+  few = omega arith;
+  fewer = omega arith;
+  room = omega arith;
+  same = refl;
+  says = refl;
+  looked = λ e. refl;
+  writes = λ e. refl;
+}
 
-module _ (t xs : List ℕ) {a k n : ℕ} {ys : List ℕ} {r : Taken} (g : Gathers t xs a k n ys) (w : TakenAt t a r) where
-  pub gathers-blank : r .content ≡ Blank → Gathers t xs (r .next) (k + 1) n ys
+module _ (x : Bool) (t xs : List ℕ) {a k n : ℕ} {ys : List ℕ} {r : Taken} (g : Gathers x t xs a k n ys) (w : TakenAt t a r) where
+  pub gathers-blank : r .content ≡ Blank → Gathers x t xs (r .next) (k + 1) n ys
   gathers-blank f = record {
     inside = w .inside;
     few = omega (arith, g .few, w .on);
@@ -112,11 +135,18 @@ module _ (t xs : List ℕ) {a k n : ℕ} {ys : List ℕ} {r : Taken} (g : Gather
     room = g .room;
     same = g .same;
     says = rw (w .is, f) at (g .says);
-    writes = rw (w .is, f) at (g .writes);
+    looked = g .looked;
+    writes = λ e. rw (w .is, f) at (g .writes e);
   }
 
   pub gathers-bad : r .content ≡ Bad → table.Bad (k + 1) ≡ tableOf t (length xs / 16)
   gathers-bad f = rw (w .is, f) at (g .says)
+
+  pub bad-turned : Turned x (table.Bad (k + 1)) t xs ys
+  bad-turned = record { looked = g .looked; wrote = λ e q. absurd (let z : _≡_ {A = ℕ} 0 1 = cc in omega arith) }
+
+  pub full-turned : Turned x (table.Full (k + 1)) t xs ys
+  full-turned = record { looked = g .looked; wrote = λ e q. absurd (let z : _≡_ {A = ℕ} 0 1 = cc in omega arith) }
 
   module _ {s v : ℕ} (f : r .content ≡ Grant s v) where
     says-row : cond (leb (length xs / 16) n) (table.Full (k + 1)) (gather (length xs / 16) (k + 1) (n + 1) (contents (drop (r .next) t))) ≡ tableOf t (length xs / 16)
@@ -125,7 +155,7 @@ module _ (t xs : List ℕ) {a k n : ℕ} {ys : List ℕ} {r : Taken} (g : Gather
     pub gathers-full : length ys / 16 ≤ n → table.Full (k + 1) ≡ tableOf t (length xs / 16)
     gathers-full h = rw (le-leb (length xs / 16) n (rw (g .same) at h)) at says-row
 
-    pub gathers-row : {zs : List ℕ} → n < length ys / 16 → zs ≡ sets ys (n * 16) (be 8 s ++ be 8 v) → Gathers t xs (r .next) (k + 1) (n + 1) zs
+    pub gathers-row : {zs : List ℕ} → n < length ys / 16 → zs ≡ cond x (sets ys (n * 16) (be 8 s ++ be 8 v)) ys → Gathers x t xs (r .next) (k + 1) (n + 1) zs
     gathers-row {zs} h z =
         let q : n < length xs / 16 = rw (g .same) at h in
         record {
@@ -133,23 +163,46 @@ module _ (t xs : List ℕ) {a k n : ℕ} {ys : List ℕ} {r : Taken} (g : Gather
           few = omega (arith, g .few, w .on);
           fewer = omega (arith, g .fewer);
           room = omega arith;
-          same = rw (z, length-sets ys (n * 16) (be 8 s ++ be 8 v)) (g .same);
+          same = ap length z ∙ cond-length x ys (n * 16) (be 8 s ++ be 8 v) ∙ g .same;
           says = rw (lt-leb (length xs / 16) n q) at says-row;
-          writes = rows-on zs z;
+          looked = λ e. z ∙ rw e (g .looked e);
+          writes = λ e. rows-on zs (z ∙ rw e) e;
         }
       where
-        rows-on : (zs : List ℕ) → zs ≡ sets ys (n * 16) (be 8 s ++ be 8 v) → sets zs ((n + 1) * 16) (packed (contents (drop (r .next) t))) ≡ sets xs 0 (packed (contents t))
-        rows-on zs z =
+        rows-on : (zs : List ℕ) → zs ≡ sets ys (n * 16) (be 8 s ++ be 8 v) → x ≡ true → sets zs ((n + 1) * 16) (packed (contents (drop (r .next) t))) ≡ sets xs 0 (packed (contents t))
+        rows-on zs z e =
             let p : (n + 1) * 16 ≡ n * 16 + 16 = omega arith in
-            rw (z, p) (sym (sets-append ys (n * 16) (be 8 s ++ be 8 v) (packed (contents (drop (r .next) t)))) ∙ rw (w .is, f) at (g .writes))
+            rw (z, p) (sym (sets-append ys (n * 16) (be 8 s ++ be 8 v) (packed (contents (drop (r .next) t)))) ∙ rw (w .is, f) at (g .writes e))
 
-module _ (t xs : List ℕ) {a k n : ℕ} {ys : List ℕ} (g : Gathers t xs a k n ys) (h : length t ≤ a) where
+module _ (x : Bool) (t xs : List ℕ) {a k n : ℕ} {ys : List ℕ} (g : Gathers x t xs a k n ys) (h : length t ≤ a) where
   pub gathers-end : table.Rows n ≡ tableOf t (length xs / 16)
   unfolding contents lines
   gathers-end = rw (beyond t a h) at (g .says)
 
-  pub gathers-all : ys ≡ sets xs 0 (packed (contents t))
+  written-all : x ≡ true → ys ≡ sets xs 0 (packed (contents t))
   unfolding contents lines
-  gathers-all = rw (beyond t a h) at (g .writes)
+  written-all e = rw (beyond t a h) at (g .writes e)
 
-pub ruleset whole = (taken-on, taken-last, row-stored, gathers-none, gathers-blank, gathers-bad, gathers-full, gathers-row, gathers-end, gathers-all)
+  pub gathers-all : Turned x (table.Rows n) t xs ys
+  gathers-all = record { looked = g .looked; wrote = λ e q. written-all e }
+
+pub first-says : (t : List ℕ) (m : ℕ) {r x : Table} → r ≡ tableOf t m → r ≡ x → x ≡ tableOf t m
+first-says t m a e = sym e ∙ a
+
+-- the turn that looks, and the turn that writes
+module _ (t : List ℕ) {xs ys : List ℕ} {r : Table} (g : Turned false r t xs ys) where
+  pub first-kept : ys ≡ xs
+  first-kept = g .looked refl
+
+  module _ {q : Table} (a : q ≡ tableOf t (length ys / 16)) where
+    pub second-says : q ≡ tableOf t (length xs / 16)
+    second-says = rw (g .looked refl) at a
+
+    pub second-writes : {zs : List ℕ} {n : ℕ} → r ≡ tableOf t (length xs / 16) → r ≡ table.Rows n → Turned true q t ys zs → zs ≡ roomAfter q t xs
+    second-writes {zs} {n} b e w =
+        let c : q ≡ table.Rows n = second-says ∙ sym b ∙ e in
+        rw c (w .wrote refl c ∙ rw (g .looked refl))
+
+pub ruleset turns = (first-says, first-kept, second-says, second-writes)
+
+pub ruleset whole = (taken-on, taken-last, row-stored, gathers-none, gathers-blank, gathers-bad, bad-turned, full-turned, gathers-full, gathers-row, gathers-end, gathers-all)

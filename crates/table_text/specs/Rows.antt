@@ -1,10 +1,11 @@
 -- A line of the table, and the table.
-use Prim.Native.Nat.{ℕ, _+_, _-_, _≤_}
+use Prim.Native.Nat.{ℕ, _≤_}
 use mathlib.Core.Path.{_≡_}
 use mathlib.Core.Bool.{Bool, not, _||_, cond}
 use mathlib.Core.List.{List, [], _∷_}
-use lib.ListN.{length, take, drop}
+use lib.ListN.{length, drop}
 use lib.Dec.{ltb, eqb}
+use Rattle.read.specs.Steps.{part}
 use Rattle.table_text.specs.declared.Number.{Number}
 use Rattle.table_text.specs.declared.Number.the-variants as number
 use Rattle.table_text.specs.declared.Line.{Line}
@@ -27,9 +28,6 @@ front p (x ∷ t) = let r = front p t in cond (p x) (x ∷ r) []
 unfoldable pub past : (ℕ → Bool) → List ℕ → List ℕ
 past p [] = []
 past p (x ∷ t) = let r = past p t in cond (p x) r (x ∷ t)
-
-abbrev pub part : List ℕ → ℕ → ℕ → List ℕ
-part t a e = take (e - a) (drop a t)
 
 -- that start goes from a to e
 pub record RunTo (p : ℕ → Bool) (t : List ℕ) (a e : ℕ) : Type 0 where

@@ -1,7 +1,7 @@
 -- The table of a text.
 use Prim.Native.Nat.{ℕ, _+_, _≤_, _<_}
 use mathlib.Core.Path.{_≡_}
-use mathlib.Core.Bool.{cond}
+use mathlib.Core.Bool.{Bool, true, false, cond}
 use mathlib.Core.List.{List, [], _∷_, _++_, map}
 use lib.ListN.{length, drop}
 use lib.Seq.{sets}
@@ -43,11 +43,16 @@ packed (Blank ∷ ls) = packed ls
 packed (Grant s w ∷ ls) = (be 8 s ++ be 8 w) ++ packed ls
 packed (Bad ∷ ls) = packed ls
 
--- what the room holds at the end: the rows where all have room; otherwise some of them
-abbrev pub Filled : Table → List ℕ → List ℕ → List ℕ → Type 0
-Filled (table.Rows n) t xs ys = ys ≡ sets xs 0 (packed (contents t))
-Filled (table.Bad k) t xs ys = length ys ≡ length xs
-Filled (table.Full k) t xs ys = length ys ≡ length xs
+-- what the room holds at the end: the rows of a text that gives some; otherwise it is as it was
+abbrev pub roomAfter : Table → List ℕ → List ℕ → List ℕ
+roomAfter (table.Rows n) t xs = sets xs 0 (packed (contents t))
+roomAfter (table.Bad k) t xs = xs
+roomAfter (table.Full k) t xs = xs
+
+-- a turn over the lines that only looks, or writes too
+pub record Turned (x : Bool) (r : Table) (t xs ys : List ℕ) : Type 0 where
+  pub looked : x ≡ false → ys ≡ xs
+  pub wrote : {n : ℕ} → x ≡ true → r ≡ table.Rows n → ys ≡ sets xs 0 (packed (contents t))
 
 -- the line from a place on, and the place of the next
 pub record TakenAt (t : List ℕ) (a : ℕ) (r : Taken) : Type 0 where

@@ -1,6 +1,7 @@
 // The text of a grant table: on each line a subscriber and a namespace in plain decimal, with blanks (spaces, tabs) between and
 // around; `#` starts a comment, and a line with nothing before it is skipped.
 ghost use mathlib.Core.Path.{_≡_};
+ghost use mathlib.Core.Bool.{cond};
 ghost use mathlib.Core.List.{_++_};
 ghost use Prim.Native.Nat.{_+_, _/_, _≤_, _<_};
 ghost use lib.ListN.{length};
@@ -8,7 +9,7 @@ ghost use lib.Seq.{sets};
 ghost use Rattle.cbor.specs.Byte.{be};
 ghost use Rattle.table_text.specs.Numbers.{pushOf, digitsOf, unsignedOf, positiveOf, negativeOf, signedOf};
 ghost use Rattle.table_text.specs.Rows.{blank, isOf, RunTo, grantOf, fieldsOf, rowOf};
-ghost use Rattle.table_text.specs.Table.{TakenAt, tableOf, Filled};
+ghost use Rattle.table_text.specs.Table.{TakenAt, tableOf, roomAfter, Turned};
 
 // A number of 64 bits.
 pub enum Number {
@@ -229,6 +230,15 @@ fn put_row(out: &mut [u8], at: usize, subscriber: u64, namespace: u64)
     list::put8(out, at + 8, namespace);
 }
 
+fn put_if(write: bool, out: &mut [u8], at: usize, subscriber: u64, namespace: u64)
+    requires { ⌜ at + 16 ≤ length (now out) ⌝ }
+    ensures { λ _. ⌜ now (out .exit) ≡ cond write (sets (now (out .entry)) at (be 8 subscriber ++ be 8 namespace)) (now (out .entry)) ⌝ }
+{
+    if write {
+        put_row(out, at, subscriber, namespace);
+    }
+}
+
 // What a text gives: so many rows; a line that is no row; a line whose row has no room. Lines are counted from 1.
 pub enum Table {
     Rows(usize),
@@ -236,10 +246,10 @@ pub enum Table {
     Full(usize),
 }
 
-// The rows of a text, 16 bytes each, in the lent room.
-pub fn rows(text: &[u8], out: &mut [u8]) -> Table
+// A turn over the lines, which looks, or writes too.
+fn gather(text: &[u8], out: &mut [u8], write: bool) -> Table
     ensures { λ r. ⌜ r ≡ tableOf (now (text .entry)) (length (now (out .entry)) / 16) ⌝ }
-    ensures { λ r. ⌜ Filled r (now (text .entry)) (now (out .entry)) (now (out .exit)) ⌝ }
+    ensures { λ r. ⌜ Turned write r (now (text .entry)) (now (out .entry)) (now (out .exit)) ⌝ }
 {
     let mut from = 0;
     let mut lines = 0;
@@ -258,7 +268,7 @@ pub fn rows(text: &[u8], out: &mut [u8]) -> Table
                 if out.len() / 16 <= n {
                     return Table::Full(lines);
                 }
-                put_row(out, n * 16, subscriber, namespace);
+                put_if(write, out, n * 16, subscriber, namespace);
                 n += 1;
             }
             Line::Bad => {
@@ -267,4 +277,17 @@ pub fn rows(text: &[u8], out: &mut [u8]) -> Table
         }
     }
     Table::Rows(n)
+}
+
+// The rows of a text, 16 bytes each, in the lent room. A text that is no table leaves the room as it was.
+pub fn rows(text: &[u8], out: &mut [u8]) -> Table
+    ensures { λ r. ⌜ r ≡ tableOf (now (text .entry)) (length (now (out .entry)) / 16) ⌝ }
+    ensures { λ r. ⌜ now (out .exit) ≡ roomAfter r (now (text .entry)) (now (out .entry)) ⌝ }
+{
+    let r = gather(text, out, false);
+    match r {
+        Table::Rows(_) => gather(text, out, true),
+        Table::Bad(line) => Table::Bad(line),
+        Table::Full(line) => Table::Full(line),
+    }
 }

@@ -1,40 +1,20 @@
--- `table_text::rows` meets its contract.
-use Prim.Native.Nat.{_-_}
-use lib.ListN.{length}
-use Rattle.table_text.proofs.Whole.{Gathers}
-use Rattle.table_text.proofs.Whole.{whole}
+use Rattle.table_text.proofs.Whole.{turns}
 use borrow.Author.Needs.{needs}
 use Rattle.table_text.proofs.rows.Statement.{statement}
 use Rattle.table_text.proofs.rows.Tie as tie
-
-abbrev Inv-loop : tie.InvT-loop
-Inv-loop text out₀ from₀ lines₀ n₀ out from lines n = Gathers text out₀ from lines n out
-
-abbrev μ-loop : tie.MeasureT-loop
-μ-loop text out₀ from₀ lines₀ n₀ out from lines n = length text - from
 
 pub rows-spec : {M : Type 1} → statement M
 rows-spec =
     tie.close
     (tie.spec
-    Inv-loop
-    μ-loop
-    (λ c. search (whole, needs))
-    (λ c κs. search (whole, needs))
-    (λ c. search (whole, needs))
-    (λ c. search (whole, needs))
-    (λ c. search (whole, needs))
-    (λ c. search (whole, needs))
-    (λ c. search (whole, needs))
-    (λ c. search (whole, needs))
-    (λ c. search (whole, needs))
-    (λ c. search (whole, needs))
-    (λ c κs. search (whole, needs))
-    (λ c. search (whole, needs))
-    (λ c. search (whole, needs))
-    (λ c. search (whole, needs))
-    (λ c. search (whole, needs))
-    (λ c. search (whole, needs))
-    (λ c. search (whole, needs))
-    (λ c. search (whole, needs))
-    (λ c. search (whole, needs)))
+    (λ c κs. search needs)
+    (λ c. search needs)
+    (λ c κs. search needs)
+    (λ c. search needs)
+    (λ c. search needs)
+    (λ c. search needs)
+    (λ c. (search (turns, needs), search (turns, needs)))
+    (λ c. search needs)
+    (λ c. (search (turns, needs), search (turns, needs)))
+    (λ c. search needs)
+    (λ c. (search (turns, needs), search (turns, needs))))
