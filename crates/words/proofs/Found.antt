@@ -20,7 +20,7 @@ use Rattle.text.specs.Text.{Name, name, names}
 use Rattle.text.specs.Parse.{ends, inWord, front, past, startsBy, starts, number, any, unescape, unhexes, inner, headOf, stringOf, integerOf, literalOf, startsNumber, nameOf, same, numberIn, typeNumber, typeOf, commas, count, Taken, takeWord, takeGroup, parts, takeReference, takeAri, takeNothing}
 use Rattle.text.proofs.Round.{same-is, same-self}
 use Rattle.words.specs.declared.Word.{Word}
-use Rattle.words.specs.Words.{startsWith, firstOf, NextTo, WordTo, strBy, Small, Bounded, Found, plainAt, wordAt, textWord, bytesWord, horner, keyOf, keyIn, takeValue, takeSpace, takeParams, takeWay}
+use Rattle.words.specs.Words.{firstOf, NextTo, WordTo, strBy, Small, Bounded, Found, plainAt, wordAt, textWord, bytesWord, horner, keyOf, keyIn, takeValue, takeSpace, takeParams, takeWay}
 use Rattle.words.proofs.Leaves.{here, beyond, part-none}
 
 abbrev pub word : ℕ → ℕ → ℕ → ℕ → ℕ → ℕ → Word
@@ -47,11 +47,11 @@ plain-found t k a e s h = record {
 
 -- the members behind a parenthesis
 module _ (t : List ℕ) (p : ℕ) where
-  pub count-none : {x : Bool} → x ≡ startsWith 41 (drop p t) → x ≡ true → 0 ≡ count (drop p t)
+  pub count-none : {x : Bool} → x ≡ starts 41 (drop p t) → x ≡ true → 0 ≡ count (drop p t)
   unfolding count
   count-none e h = rw (← e, h)
 
-  pub count-some : {x : Bool} {n : ℕ} → x ≡ startsWith 41 (drop p t) → x ≡ false → (n ≡ commas 1 (drop p t)) × (n ≤ length t) → n + 1 ≡ count (drop p t)
+  pub count-some : {x : Bool} {n : ℕ} → x ≡ starts 41 (drop p t) → x ≡ false → (n ≡ commas 1 (drop p t)) × (n ≤ length t) → n + 1 ≡ count (drop p t)
   unfolding count
   count-some e h (q, l) = rw (← e, h, q, add-one)
 
@@ -60,9 +60,9 @@ module _ (t : List ℕ) (k at : ℕ) {p n : ℕ} {w : Word} where
   grouped s e f = found-as f (rw (e, s .is))
 
 -- what stands behind a namespace
-pub params-follow : (t : List ℕ) (at : ℕ) {e p f : ℕ} {x : Bool} → WordTo t at e → NextTo t e 1 p → WordTo t p f → x ≡ startsWith 40 (drop f t)
-    → x ≡ startsWith 40 (past (drop 1 (past (drop at t))))
-params-follow t at v n w q = q ∙ ap (startsWith 40) (sym (w .past-is) ∙ ap past (n .is ∙ ap (drop 1) (sym (v .past-is))))
+pub params-follow : (t : List ℕ) (at : ℕ) {e p f : ℕ} {x : Bool} → WordTo t at e → NextTo t e 1 p → WordTo t p f → x ≡ starts 40 (drop f t)
+    → x ≡ starts 40 (past (drop 1 (past (drop at t))))
+params-follow t at v n w q = q ∙ ap (starts 40) (sym (w .past-is) ∙ ap past (n .is ∙ ap (drop 1) (sym (v .past-is))))
 
 module _ (t : List ℕ) (at : ℕ) where
   pub parts-out : at ≡ length t → 1 ≡ parts (drop at t)
@@ -78,7 +78,7 @@ module _ (t : List ℕ) (at : ℕ) where
   begins l n e h = rw (here t at (omega (arith, n)), ← e, h)
 
   module _ {x y : Bool} (l : at ≤ length t) (n : at ≡ length t → ⊥) (e : x ≡ ends (getD t at 0)) (h : x ≡ false)
-      (q : y ≡ startsWith 40 (past (drop 1 (past (drop at t))))) where
+      (q : y ≡ starts 40 (past (drop 1 (past (drop at t))))) where
     pub parts-four : y ≡ true → 4 ≡ parts (drop at t)
     unfolding parts
     parts-four g = rw (begins l n e h, ← q, g)
@@ -329,15 +329,15 @@ module _ (t : List ℕ) (at : ℕ) where
   pub absolute-found : {p : ℕ} {w : Word} → NextTo t at 2 p → Found t (takeWord nameOf (drop p t)) w → Found t (takeWord nameOf (drop 2 (drop at t))) w
   absolute-found s f = found-as f (rw (s .is))
 
-  module _ {x : Bool} (e : x ≡ startsWith 46 (drop at t)) where
+  module _ {x : Bool} (e : x ≡ starts 46 (drop at t)) where
     pub space-relative : {p : ℕ} {w : Word} → x ≡ true → WordTo t at p → Found t (plainAt t 6 22 p) w → Found t (takeSpace (drop at t)) w
     space-relative h v f = found-as f (rw (← e, h, v .past-is))
 
     pub space-absolute : {w : Word} → x ≡ false → Found t (takeWord nameOf (drop 2 (drop at t))) w → Found t (takeSpace (drop at t)) w
     space-absolute h f = found-as f (rw (← e, h))
 
-  module _ {x : Bool} (e : x ≡ startsWith 47 (drop at t)) where
-    module _ {p : ℕ} (s : NextTo t at 1 p) {y : Bool} (q : y ≡ startsWith 47 (drop p t)) (h : x ≡ true) where
+  module _ {x : Bool} (e : x ≡ starts 47 (drop at t)) where
+    module _ {p : ℕ} (s : NextTo t at 1 p) {y : Bool} (q : y ≡ starts 47 (drop p t)) (h : x ≡ true) where
       pub ari-reference : {r d : ℕ} {w : Word} → y ≡ true → NextTo t at 2 r → WordTo t r d → Found t (takeReference (drop at t) (drop d t)) w → Found t (takeAri (drop at t)) w
       unfolding takeAri
       ari-reference g n v f = found-as f (rw (← e, h, ← s .is, ← q, g, ← n .is, v .past-is))
@@ -346,7 +346,7 @@ module _ (t : List ℕ) (at : ℕ) where
       unfolding takeAri
       ari-typed g f = found-as f (rw (← e, h, ← s .is, ← q, g))
 
-    module _ {y : Bool} (q : y ≡ startsWith 46 (drop at t)) (h : x ≡ false) where
+    module _ {y : Bool} (q : y ≡ starts 46 (drop at t)) (h : x ≡ false) where
       pub ari-relative : {d : ℕ} {w : Word} → y ≡ true → WordTo t at d → Found t (takeReference (drop at t) (drop d t)) w → Found t (takeAri (drop at t)) w
       unfolding takeAri
       ari-relative g v f = found-as f (rw (← e, h, ← q, g, v .past-is))
@@ -355,16 +355,16 @@ module _ (t : List ℕ) (at : ℕ) where
       unfolding takeAri
       ari-literal g f = found-as f (rw (← e, h, ← q, g))
 
-  module _ (k : ℕ) {x : Bool} (e : x ≡ startsWith 40 (drop at t)) where
+  module _ (k : ℕ) {x : Bool} (e : x ≡ starts 40 (drop at t)) where
     pub value-group : (g : List ℕ → Headed) {w : Word} → x ≡ true → Found t (takeGroup k (drop at t)) w → Found t (takeValue g k (drop at t)) w
     value-group g h f = found-as f (rw (← e, h))
 
     pub value-word : (g : List ℕ → Headed) {w : Word} → x ≡ false → Found t (takeWord g (drop at t)) w → Found t (takeValue g k (drop at t)) w
     value-word g h f = found-as f (rw (← e, h))
 
-  module _ {p d : ℕ} (s : NextTo t at 1 p) (v : WordTo t p d) {x : Bool} (e : x ≡ startsWith 61 (drop d t)) where
-    keyed : startsWith 61 (past (drop 1 (drop at t))) ≡ x
-    keyed = ap (startsWith 61) (ap past (sym (s .is)) ∙ v .past-is) ∙ sym e
+  module _ {p d : ℕ} (s : NextTo t at 1 p) (v : WordTo t p d) {x : Bool} (e : x ≡ starts 61 (drop d t)) where
+    keyed : starts 61 (past (drop 1 (drop at t))) ≡ x
+    keyed = ap (starts 61) (ap past (sym (s .is)) ∙ v .past-is) ∙ sym e
 
     pub params-map : {w : Word} → x ≡ true → Found t (takeGroup 5 (drop at t)) w → Found t (takeParams (drop at t)) w
     params-map h f = found-as f (rw (keyed, h))

@@ -20,7 +20,7 @@ use Rattle.spell.specs.Put.{Put}
 use Rattle.spell.proofs.Puts.{put-nothing, put-both}
 use Rattle.text.specs.Parse.{ends, front, past, startsBy, starts, push, number, unhex, any, first, second, unescape, unhexes, leadOf, startsNumber, opened, commas, count}
 use Rattle.words.specs.declared.Escape.{Escape}
-use Rattle.words.specs.Words.{startsWith, firstOf, NextTo, WordTo, EscapeAt, strBy, Small, horner, keyOf, commaOf}
+use Rattle.words.specs.Words.{firstOf, NextTo, WordTo, EscapeAt, strBy, Small, horner, keyOf, commaOf}
 
 -- a byte and those behind it
 pub here : (t : List ℕ) (i : ℕ) → i < length t → drop i t ≡ getD t i 0 ∷ drop (i + 1) t
@@ -41,11 +41,11 @@ module _ (t : List ℕ) (p n : ℕ) where
   skip-on g h = record { is = sym (drop-drop n p t); inside = omega arith }
 
 -- the byte at a place
-pub starts-at : (t : List ℕ) (p c : ℕ) → p < length t → eqb (getD t p 0) c ≡ startsWith c (drop p t)
+pub starts-at : (t : List ℕ) (p c : ℕ) → p < length t → eqb (getD t p 0) c ≡ starts c (drop p t)
 unfolding startsBy
 starts-at t p c h = rw (here t p h)
 
-pub starts-none : (t : List ℕ) (p c : ℕ) → length t ≤ p → false ≡ startsWith c (drop p t)
+pub starts-none : (t : List ℕ) (p c : ℕ) → length t ≤ p → false ≡ starts c (drop p t)
 unfolding startsBy
 starts-none t p c h = rw (beyond t p h)
 

@@ -17,9 +17,6 @@ use Rattle.words.specs.declared.Word.{Word}
 use Rattle.words.specs.declared.Escape.{Escape}
 use Rattle.words.specs.declared.Item.{Item}
 
-abbrev pub startsWith : ℕ → List ℕ → Bool
-startsWith c = starts c
-
 abbrev pub firstOf : List ℕ → ℕ
 firstOf [] = 0
 firstOf (x ∷ u) = x

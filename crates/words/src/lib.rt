@@ -8,10 +8,10 @@ ghost use Rattle.cbor.specs.Head.{leadBytes};
 ghost use Rattle.slots.specs.Code.{slotOf};
 ghost use Rattle.spell.specs.Put.{Put};
 ghost use Rattle.spell.specs.Ways.{wayAt, afterBy};
-ghost use Rattle.text.specs.Parse.{ends, startsBy, push, number, unhex, any, unescape, unhexes, leadOf, integerOf, literalOf, nameOf, typeOf, typeNumber, startsNumber, past, opened, commas, count, parts, takeWord, takeReference, takeAri, takeGroup, takeAt};
+ghost use Rattle.text.specs.Parse.{ends, starts, push, number, unhex, any, unescape, unhexes, leadOf, integerOf, literalOf, nameOf, typeOf, typeNumber, startsNumber, past, opened, commas, count, parts, takeWord, takeReference, takeAri, takeGroup, takeAt};
 ghost use Rattle.text.specs.Text.{names};
 ghost use Rattle.read.specs.Steps.{part};
-ghost use Rattle.words.specs.Words.{startsWith, firstOf, NextTo, WordTo, EscapeAt, strBy, Small, Bounded, Found, plainAt, wordAt, textWord, bytesWord, keyOf, keyIn, commaOf, takeValue, takeSpace, takeParams, groupOf, takeWay, Read};
+ghost use Rattle.words.specs.Words.{firstOf, NextTo, WordTo, EscapeAt, strBy, Small, Bounded, Found, plainAt, wordAt, textWord, bytesWord, keyOf, keyIn, commaOf, takeValue, takeSpace, takeParams, groupOf, takeWay, Read};
 
 // A head that was read: its kind and argument, the text behind what it writes before its members, the place behind its bytes.
 pub struct Item {
@@ -51,7 +51,7 @@ pub fn skip(t: &[u8], at: usize, n: usize) -> usize
 }
 
 fn starts(t: &[u8], at: usize, c: u8) -> bool
-    ensures { λ r. ⌜ r ≡ startsWith c (drop at (now (t .entry))) ⌝ }
+    ensures { λ r. ⌜ r ≡ starts c (drop at (now (t .entry))) ⌝ }
 {
     if at < t.len() {
         return t[at] == c;
@@ -538,7 +538,7 @@ fn group(t: &[u8], kind: u8, at: usize) -> Word
 // Whether parameters stand behind an object's type and id.
 fn with_params(t: &[u8], at: usize) -> bool
     requires { ⌜ at ≤ length (now t) ⌝ }
-    ensures { λ r. ⌜ r ≡ startsWith 40 (past (drop 1 (past (drop at (now (t .entry)))))) ⌝ }
+    ensures { λ r. ⌜ r ≡ starts 40 (past (drop 1 (past (drop at (now (t .entry)))))) ⌝ }
 {
     let e = word_end(t, at);
     let p = skip(t, e, 1);
