@@ -7,9 +7,10 @@ ghost use Rattle.cbor.specs.Head.{divides, badHalf, badFloat, getFrom};
 ghost use Rattle.cbor.specs.Answer.{answer, counted, headAt, judged, Passed, tooLong, follows, Tail, Sequence};
 ghost use Rattle.cbor.specs.Utf8.{utf8};
 
-// A refusal's number, or a head: its kind (specs/Head.antt), its argument and the place behind it.
+// A refusal's number, or a head: its kind (specs/Head.antt), its argument and the place behind it. The number is a byte: as a u64 it would stand
+// where a head's argument does, and LLVM then keeps every head in memory.
 pub enum Head {
-    Bad(u64),
+    Bad(u8),
     Good { kind: u8, arg: u64, next: usize },
 }
 

@@ -5,3 +5,4 @@ pub mod Loop
 pub mod Bounds
 pub mod Heads
 pub mod Whole
+pub mod Fixed

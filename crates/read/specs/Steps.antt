@@ -3,7 +3,7 @@ use Prim.Native.Nat.{ℕ, _+_, _-_, _<_, _≤_}
 use mathlib.Core.Path.{_≡_}
 use mathlib.Core.Bool.{Bool, true, false, not, _&&_, cond}
 use mathlib.Core.List.{List, [], _∷_}
-use lib.ListN.{length, take, drop}
+use lib.ListN.{length, getD, take, drop}
 use lib.Dec.{ltb, eqb}
 use Rattle.cbor.specs.Byte.{within}
 use Rattle.cbor.specs.declared.Head as cbor
@@ -23,6 +23,10 @@ use Rattle.read.specs.declared.End.the-variants.{At, Short}
 -- the bytes from one place to another
 abbrev pub part : List ℕ → ℕ → ℕ → List ℕ
 part b from to = take (to - from) (drop from b)
+
+-- a byte stands at a place, where so many items may still come
+abbrev pub standsAt : List ℕ → ℕ → ℕ → ℕ → Bool
+standsAt b p x left = ltb p (length b) && (not (eqb left 0) && eqb (getD b p 0) x)
 
 -- where the string of a head ends that has this kind and argument and ends at q itself
 unfoldable pub stringEnd : List ℕ → ℕ → ℕ → ℕ → End

@@ -15,7 +15,7 @@ ghost use Rattle.slots.specs.Code.{fitsCode, ownOf};
 ghost use Rattle.ari.specs.Reader.{wrongVersion, notGreater, isEmpty};
 ghost use Rattle.slots.specs.Code.{slotOf};
 ghost use Rattle.slots.proofs.Right.{IsSlot};
-ghost use Rattle.read.specs.Steps.{part, stringEnd, stepAt, lateAt, LateShown, noHead, stoppedOf, Bounded, keySpan};
+ghost use Rattle.read.specs.Steps.{part, standsAt, stringEnd, stepAt, lateAt, LateShown, noHead, stoppedOf, Bounded, keySpan};
 ghost use Rattle.read.specs.Walks.{packed, insideLevel, Walked, SetsWalked};
 ghost use Rattle.ari.specs.Reader.{read, single, aMessage};
 ghost use Rattle.ari.specs.Limits.{firstLimits};
@@ -236,7 +236,10 @@ fn no_head(h: cbor::Head, at: usize) -> Step
     ensures { λ r. ⌜ r ≡ noHead h at ⌝ }
 {
     match h {
-        cbor::Head::Bad(number) => Step::Refused { number, place: at },
+        cbor::Head::Bad(number) => Step::Refused {
+            number: number as u64,
+            place: at,
+        },
         cbor::Head::Good {
             kind: _,
             arg: _,
@@ -452,6 +455,57 @@ fn read_single(s: &[u8], bytes: usize, items: usize, containers: usize, table: &
     Answer::Accepted(count)
 }
 
+// A byte stands at a place, and one more item may come.
+fn stands(s: &[u8], at: usize, byte: u8, count: usize, items: usize) -> bool
+    ensures { λ r. ⌜ r ≡ standsAt (now (s .entry)) at byte (items - count) ⌝ }
+{
+    if s.len() <= at {
+        return false;
+    }
+    if count >= items {
+        return false;
+    }
+    s[at] == byte
+}
+
+// A message's version. The byte 01 is the only one that is accepted; of any other head the walk says what is wrong with it.
+fn walk_version(s: &[u8], items: usize, containers: usize, table: &mut [u64]) -> Walk
+    requires { ⌜ (all isByte (now s) ≡ true) × (length (now s) < 65536) × (containers < 256) ⌝ }
+    ensures { λ r. ⌜ Walked (now (s .entry)) items (due (slotOf 0) 0) [] containers 0 0 0 r (now (table .entry)) (now (table .exit)) ⌝ }
+{
+    if !stands(s, 0, 0x01, 0, items) {
+        return walk_level(s, 0, 0, items, containers, 0, 0, 0, table);
+    }
+    close(table, 0, 0, 1, 0, 0);
+    Walk::Read { next: 1, count: 1 }
+}
+
+// One set of a message. Its head is the byte 82, and what it holds is walked at once; any other head is left to the walk as well.
+fn walk_set(
+    s: &[u8],
+    at: usize,
+    count: usize,
+    items: usize,
+    containers: usize,
+    table: &mut [u64],
+) -> Walk
+    requires { ⌜ (all isByte (now s) ≡ true) × (length (now s) < 65536) × (containers < 256) × (at ≤ length (now s)) × (count ≤ items) ⌝ }
+    ensures { λ r. ⌜ Walked (now (s .entry)) items (due (slotOf 2) 0) [] containers 0 at count r (now (table .entry)) (now (table .exit)) ⌝ }
+{
+    if containers == 0 {
+        return walk_level(s, at, count, items, containers, 0, 2, 0, table);
+    }
+    if !stands(s, at, 0x82, count, items) {
+        return walk_level(s, at, count, items, containers, 0, 2, 0, table);
+    }
+    let w = walk_level(s, at + 1, count + 1, items, containers - 1, 1, 6, 0, table);
+    let Walk::Read { next, count: e } = w else {
+        return w;
+    };
+    close(table, count, at, next, 0, 2);
+    Walk::Read { next, count: e }
+}
+
 // The sets of a message, from the place behind its version.
 fn walk_sets(
     s: &[u8],
@@ -467,7 +521,7 @@ fn walk_sets(
     let mut p = at;
     let mut c = count;
     while p < s.len() {
-        let w = walk_level(s, p, c, items, containers, 0, 2, 0, table);
+        let w = walk_set(s, p, c, items, containers, table);
         let Walk::Read { next, count: e } = w else {
             return w;
         };
@@ -495,7 +549,7 @@ fn read_message(
             place: 0,
         };
     }
-    let v = walk_level(s, 0, 0, items, containers, 0, 0, 0, table);
+    let v = walk_version(s, items, containers, table);
     let Walk::Read { next, count } = v else {
         return refusal(v);
     };

@@ -10,5 +10,6 @@ no-head-spec =
     (tie.spec
     (λ c. search needs)
     (λ c. search needs)
+    (λ c. search needs)
     (λ c. search (headless, needs))
     (λ c. search needs))

@@ -10,7 +10,7 @@ read-message-spec =
     tie.close
     (tie.spec
     (λ c. (search (message-ways, needs), search (message-ways, needs)))
-    (λ c κs. (all-bytes (c .before .before .before .before .args .s .now) (c .before .before .before .shared-slice-known .given), search needs, search needs, search needs, search needs, search needs))
+    (λ c κs. (all-bytes (c .before .before .before .before .args .s .now) (c .before .before .before .shared-slice-known .given), search needs, search needs))
     (λ c. search needs)
     (λ c. search needs)
     (λ c κs. search needs)
