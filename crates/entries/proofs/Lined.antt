@@ -11,7 +11,8 @@ use Rattle.cbor.specs.Answer.{headAt}
 use Rattle.show.specs.Put.{Put}
 use Rattle.show.specs.Texts.{fieldOf}
 use Rattle.show.proofs.Putting.{put-nothing, put-both}
-use Rattle.entries.specs.Words.{wordOf, integerOf}
+use Rattle.grants.specs.Bytes.{wordAt}
+use Rattle.entries.specs.Words.{integerOf}
 use Rattle.entries.specs.Lines.{nameOf, spaceOf, lineOf, entryOf}
 
 -- a name by its head
@@ -58,7 +59,7 @@ module _ (s b : List ℕ) (from : ℕ) {xs : List ℕ} {at : ℕ} where
   unfolding entryOf
   entry-past g h = rw (lt-leb (from + 24) (length b) (omega arith)) (put-nothing xs at)
 
-  pub entry-put : {ys : List ℕ} {r x y z : ℕ} → 24 ≤ length b → from ≤ length b - 24 → x ≡ wordOf b from → y ≡ wordOf b (from + 8) → z ≡ wordOf b (from + 16) → Put xs at (lineOf s x y z) ys r
+  pub entry-put : {ys : List ℕ} {r x y z : ℕ} → 24 ≤ length b → from ≤ length b - 24 → x ≡ wordAt b from → y ≡ wordAt b (from + 8) → z ≡ wordAt b (from + 16) → Put xs at (lineOf s x y z) ys r
       → Put xs at (entryOf s b from) ys r
   unfolding entryOf
   entry-put g h e f i p = rw (le-leb (from + 24) (length b) (omega arith), ← e, ← f, ← i) p

@@ -8,7 +8,8 @@ use Rattle.cbor.specs.declared.Head.{Head}
 use Rattle.cbor.specs.declared.Head.the-variants.{Bad, Good}
 use Rattle.cbor.specs.Answer.{headAt}
 use Rattle.show.specs.Texts.{fieldOf}
-use Rattle.entries.specs.Words.{wordOf, integerOf}
+use Rattle.grants.specs.Bytes.{wordAt}
+use Rattle.entries.specs.Words.{integerOf}
 
 -- the bytes of a name by its head
 abbrev pub nameOf : List ℕ → Head → List ℕ
@@ -24,4 +25,4 @@ lineOf s e k w = fieldOf (e / 4294967296) ++ (fieldOf (e % 4294967296) ++ (space
 
 -- the entry whose 24 bytes are at a place of a listing, of the message s; nothing where there are not so many
 unfoldable pub entryOf : List ℕ → List ℕ → ℕ → List ℕ
-entryOf s b at = cond (leb (at + 24) (length b)) (lineOf s (wordOf b at) (wordOf b (at + 8)) (wordOf b (at + 16))) []
+entryOf s b at = cond (leb (at + 24) (length b)) (lineOf s (wordAt b at) (wordAt b (at + 8)) (wordAt b (at + 16))) []

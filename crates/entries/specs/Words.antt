@@ -1,15 +1,9 @@
--- Words of 64 bits, read from bytes and written in decimal.
-use Prim.Native.Nat.{ℕ, _+_, _-_}
+-- Words of 64 bits, written in decimal.
+use Prim.Native.Nat.{ℕ, _-_}
 use mathlib.Core.Bool.{cond}
 use mathlib.Core.List.{List}
-use lib.ListN.{length, take, drop}
-use lib.Dec.{leb, ltb}
-use Rattle.cbor.specs.Byte.{value}
+use lib.Dec.{ltb}
 use Rattle.show.specs.Texts.{decimalOf, negativeOf}
-
--- the eight bytes from a place on, the highest first; 0 where there are not so many
-unfoldable pub wordOf : List ℕ → ℕ → ℕ
-wordOf b at = cond (leb (at + 8) (length b)) (value (take 8 (drop at b))) 0
 
 -- a two's complement in decimal
 unfoldable pub integerOf : ℕ → List ℕ

@@ -1,22 +1,9 @@
 // What the programs print of bytes: big-endian numbers, and the entries of a listing. Written as the crate `show` writes.
 ghost use mathlib.Core.Path.{_≡_};
 ghost use Rattle.show.specs.Put.{Put};
-ghost use Rattle.entries.specs.Words.{wordOf, integerOf};
+ghost use Rattle.entries.specs.Words.{integerOf};
 ghost use Rattle.entries.specs.Lines.{nameOf, spaceOf, lineOf, entryOf};
 ghost use Rattle.cbor.specs.Answer.{headAt};
-
-// The number of the eight bytes from a place on, the highest first, or 0 where there are not so many.
-pub fn word(bytes: &[u8], at: usize) -> u64
-    ensures { λ r. ⌜ r ≡ wordOf (now (bytes .entry)) at ⌝ }
-{
-    if bytes.len() < 8 {
-        return 0;
-    }
-    if bytes.len() - 8 < at {
-        return 0;
-    }
-    grants::be8(bytes, at)
-}
 
 // A two's complement in decimal.
 pub fn integer(out: &mut [u8], at: usize, w: u64) -> usize
@@ -80,8 +67,8 @@ pub fn entry(out: &mut [u8], at: usize, s: &[u8], listing: &[u8], from: usize) -
     if listing.len() - 24 < from {
         return at;
     }
-    let ends = word(listing, from);
-    let kind = word(listing, from + 8);
-    let w = word(listing, from + 16);
+    let ends = grants::word_at(listing, from);
+    let kind = grants::word_at(listing, from + 8);
+    let w = grants::word_at(listing, from + 16);
     line(out, at, s, ends, kind, w)
 }

@@ -7,11 +7,11 @@ use native.Mathlib.Omega.{arith}
 use lib.ListN.{length, take, drop, getD, length-append, length-drop, take-append-drop}
 use lib.Seq.{drop-drop, length-take-le, take-append-le, drop-append-le, take-add}
 use lib.Dec.{eqb}
-use borrow.Author.Tests.{eq-eqb, ne-eqb}
+use borrow.Author.Tests.{eq-eqb, ne-eqb, le-leb, lt-leb}
 use Rattle.cbor.specs.Byte.{value}
 use Rattle.cbor.proofs.NumberWays.{value-join, two-bytes}
 use Rattle.grants.specs.Grants.{Grant, some, same, below0, clash, passes, refused, checkFrom, check, holds}
-use Rattle.grants.specs.Bytes.{signed, rowBy, rowOf, rows, checkBytes}
+use Rattle.grants.specs.Bytes.{signed, wordAt, rowBy, rowOf, holdsAt, rows, checkBytes}
 use Rattle.grants.proofs.Signed.{same-words, not-negative, negative}
 
 -- big-endian numbers, two bytes at a time
@@ -28,6 +28,37 @@ module _ (s : List ℕ) (at : ℕ) where
   pub all-eight : {a b c d : ℕ} → at + 8 ≤ length s → a ≡ 0 * 65536 + value (take 2 (drop at s)) → b ≡ a * 65536 + value (take 2 (drop (at + 2) s))
       → c ≡ b * 65536 + value (take 2 (drop (at + 4) s)) → d ≡ c * 65536 + value (take 2 (drop (at + 6) s)) → d ≡ value (take 8 (drop at s))
   all-eight h p q r t = omega (arith, two-more 2 (omega arith), two-more 4 (omega arith), two-more 6 (omega arith))
+
+module _ (b : List ℕ) (at : ℕ) where
+  pub word-none : length b < 8 → 0 ≡ wordAt b at
+  unfolding wordAt
+  word-none h = rw (lt-leb (at + 8) (length b) (omega arith))
+
+  pub word-past : 8 ≤ length b → length b - 8 < at → 0 ≡ wordAt b at
+  unfolding wordAt
+  word-past g h = rw (lt-leb (at + 8) (length b) (omega arith))
+
+  pub word-here : {r : ℕ} → 8 ≤ length b → at ≤ length b - 8 → r ≡ value (take 8 (drop at b)) → r ≡ wordAt b at
+  unfolding wordAt
+  word-here g h e = rw (le-leb (at + 8) (length b) (omega arith)) e
+
+  module _ (s n : ℕ) where
+    pub holds-none : length b < 16 → false ≡ holdsAt b at s n
+    unfolding holdsAt
+    holds-none h = rw (lt-leb (at + 16) (length b) (omega arith))
+
+    pub holds-past : 16 ≤ length b → length b - 16 < at → false ≡ holdsAt b at s n
+    unfolding holdsAt
+    holds-past g h = rw (lt-leb (at + 16) (length b) (omega arith))
+
+    pub holds-here : {x : Bool} → 16 ≤ length b → at ≤ length b - 16 → x ≡ holds s (signed n) (rowOf (drop at b)) → x ≡ holdsAt b at s n
+    unfolding holdsAt
+    holds-here g h e = rw (le-leb (at + 16) (length b) (omega arith)) e
+
+    -- where a whole row stands
+    pub row-holds : {x : Bool} → 16 ≤ length b - at → x ≡ holdsAt b at s n → x ≡ holds s (signed n) (rowOf (drop at b))
+    unfolding holdsAt
+    row-holds h e = rw (le-leb (at + 16) (length b) (omega arith)) at e
 
 -- the rows of bytes
 rows-more : (b : List ℕ) → 16 ≤ length b → rows b ≡ rowOf b ∷ rows (drop 16 b)
@@ -150,4 +181,4 @@ module _ (b : List ℕ) (at : ℕ) (w : length b % 16 ≡ 0) (k : at % 16 ≡ 0)
         let l : length (take at b) ≡ 16 * (at / 16) = length-take-le at b (omega arith) ∙ omega arith in
         rw (e, this-row, ← f, g, q, take-add at 16 b, rows-join (at / 16) (take at b) (take 16 c) l, rows-one c n)
 
-pub ruleset ways = (push-two, all-eight, other-subscriber, its-namespace, other-namespace, its-subscriber, some-start, some-end, some-here, some-behind, positive, private-row, length-before, ragged-table, check-start, check-end, check-here, check-behind)
+pub ruleset ways = (push-two, all-eight, other-subscriber, its-namespace, other-namespace, its-subscriber, some-start, some-end, some-here, some-behind, positive, private-row, length-before, ragged-table, check-start, check-end, check-here, check-behind, word-none, word-past, word-here, holds-none, holds-past, holds-here)

@@ -1,6 +1,6 @@
 -- The table and the listing as bytes: document 01, 'Grants'.
-use Prim.Native.Nat.{ℕ, zero, suc, _-_, _/_, _%_}
-use mathlib.Core.Bool.{Bool, not, cond}
+use Prim.Native.Nat.{ℕ, zero, suc, _+_, _-_, _/_, _%_}
+use mathlib.Core.Bool.{Bool, not, _&&_, cond}
 use mathlib.Core.List.{List, [], _∷_, _++_}
 use lib.ListN.{length, take, drop}
 use lib.IntN.{ℤ, pos, negsuc}
@@ -9,7 +9,7 @@ use Rattle.cbor.specs.Byte.{be, value}
 use Rattle.ari.specs.Table.{max63, max64}
 use Rattle.ari.specs.Reader.{Limits, Answer, refuse, accept, aMessage, read}
 use Rattle.ari.specs.Listing.{Space, number, name, relative, Entry}
-use Rattle.grants.specs.Grants.{Grant, Check, refused, check, Release, release}
+use Rattle.grants.specs.Grants.{Grant, holds, Check, refused, check, Release, release}
 
 -- two's complement in 8 bytes, and back
 abbrev pub word : ℤ → ℕ
@@ -19,12 +19,20 @@ word (negsuc a) = max64 - a
 unfoldable pub signed : ℕ → ℤ
 signed n = cond (leb n max63) (pos n) (negsuc (max64 - n))
 
+-- the number of the eight bytes from a place on; 0 where there are not so many
+unfoldable pub wordAt : List ℕ → ℕ → ℕ
+wordAt b at = cond (leb (at + 8) (length b)) (value (take 8 (drop at b))) 0
+
 -- "16 a row, big-endian: subscriber (unsigned, 8), namespace (two's complement, 8)"
 abbrev pub rowBy : ℕ → ℕ → Grant
 rowBy s n = record { subscriber = s; namespace = signed n }
 
 abbrev pub rowOf : List ℕ → Grant
 rowOf b = rowBy (value (take 8 b)) (value (take 8 (drop 8 b)))
+
+-- a whole row stands at a place and holds a subscriber and a namespace
+unfoldable pub holdsAt : List ℕ → ℕ → ℕ → ℕ → Bool
+holdsAt t at s n = leb (at + 16) (length t) && holds s (signed n) (rowOf (drop at t))
 
 abbrev pub rowsOf : ℕ → List ℕ → List Grant
 rowsOf zero b = []

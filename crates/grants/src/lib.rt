@@ -5,7 +5,7 @@ ghost use lib.ListN.{length, take, drop};
 ghost use Rattle.cbor.specs.Byte.{value};
 ghost use Rattle.ari.specs.Listing.{number};
 ghost use Rattle.grants.specs.Grants.{some, clash, holds, granted};
-ghost use Rattle.grants.specs.Bytes.{signed, rowOf, rows, rowBy, checkBytes};
+ghost use Rattle.grants.specs.Bytes.{signed, wordAt, rowOf, holdsAt, rows, rowBy, checkBytes};
 ghost use Rattle.grants.specs.Verdict.{said};
 
 // The check's answer: the table passes, or 18 with a row.
@@ -29,7 +29,7 @@ fn push2(x: u64, s: &[u8], at: usize) -> u64
 }
 
 // A big-endian number. LLVM makes one load of this form, and not of one by halves.
-pub fn be8(s: &[u8], at: usize) -> u64
+fn be8(s: &[u8], at: usize) -> u64
     requires { ⌜ at + 8 ≤ length (now s) ⌝ }
     ensures { λ r. ⌜ r ≡ value (take 8 (drop at (now (s .entry)))) ⌝ }
 {
@@ -39,8 +39,21 @@ pub fn be8(s: &[u8], at: usize) -> u64
     push2(c, s, at + 6)
 }
 
+// The number of the eight bytes from a place on, the highest first, or 0 where there are not so many.
+pub fn word_at(bytes: &[u8], at: usize) -> u64
+    ensures { λ r. ⌜ r ≡ wordAt (now (bytes .entry)) at ⌝ }
+{
+    if bytes.len() < 8 {
+        return 0;
+    }
+    if bytes.len() - 8 < at {
+        return 0;
+    }
+    be8(bytes, at)
+}
+
 // The row at a place holds both numbers.
-pub fn holds_at(t: &[u8], at: usize, subscriber: u64, namespace: u64) -> bool
+fn holds_row(t: &[u8], at: usize, subscriber: u64, namespace: u64) -> bool
     requires { ⌜ at + 16 ≤ length (now t) ⌝ }
     ensures { λ r. ⌜ r ≡ holds subscriber (signed namespace) (rowOf (drop at (now (t .entry)))) ⌝ }
 {
@@ -50,13 +63,26 @@ pub fn holds_at(t: &[u8], at: usize, subscriber: u64, namespace: u64) -> bool
     be8(t, at + 8) == namespace
 }
 
+// A whole row stands at a place and holds both.
+pub fn holds_at(t: &[u8], at: usize, subscriber: u64, namespace: u64) -> bool
+    ensures { λ r. ⌜ r ≡ holdsAt (now (t .entry)) at subscriber namespace ⌝ }
+{
+    if t.len() < 16 {
+        return false;
+    }
+    if t.len() - 16 < at {
+        return false;
+    }
+    holds_row(t, at, subscriber, namespace)
+}
+
 // Some whole row holds both. The namespace is a two's complement.
 pub fn granted(t: &[u8], subscriber: u64, namespace: u64) -> bool
     ensures { λ r. ⌜ r ≡ granted (rows (now (t .entry))) subscriber (number (signed namespace)) ⌝ }
 {
     let mut at = 0;
     while 16 <= t.len() - at {
-        if holds_at(t, at, subscriber, namespace) {
+        if holds_row(t, at, subscriber, namespace) {
             return true;
         }
         at += 16;

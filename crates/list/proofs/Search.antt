@@ -10,9 +10,9 @@ use Rattle.cbor.specs.Answer.{headAt}
 use Rattle.ari.specs.Listing.{Space, number, name, relative, listing}
 use Rattle.ari.proofs.Named.{InRange}
 use Rattle.grants.specs.Grants.{Grant, some, holds, granted, yes, no, judgeFrom}
-use Rattle.grants.specs.Bytes.{word, signed, rowOf, rows}
+use Rattle.grants.specs.Bytes.{word, signed, rowOf, holdsAt, rows}
 use Rattle.grants.proofs.Signed.{signed-word}
-use Rattle.grants.proofs.Ways.{some-end, some-here, some-behind}
+use Rattle.grants.proofs.Ways.{row-holds, some-end, some-here, some-behind}
 use Rattle.list.specs.declared.Inside.{Inside}
 use Rattle.list.specs.declared.Inside.the-variants.{Nothing, At}
 use Rattle.list.specs.declared.Namespace.{Namespace}
@@ -70,11 +70,14 @@ module _ {b t : List ℕ} {s i k w at : ℕ} (p : Searched b t s i k w at) where
   pub no-row : length t - at < 16 → no i ≡ judgeFrom (granted (rows t) s) 0 (listing b)
   no-row h = sym (p .turns ∙ rw (← some-end (holds s (signed w)) t at (p .from-here) h))
 
-  module _ (h : 16 ≤ length t - at) {y : Bool} (f : y ≡ holds s (signed w) (rowOf (drop at t))) where
+  module _ (h : 16 ≤ length t - at) {y : Bool} (f : y ≡ holdsAt t at s w) where
+    abbrev row : y ≡ holds s (signed w) (rowOf (drop at t))
+    row = row-holds t at s w h f
+
     pub a-row : y ≡ true → Passed b t s (i + 1) (k + 1)
-    a-row g = record { so-far = p .turns ∙ rw (← some-here (holds s (signed w)) t at (p .from-here) h f g) }
+    a-row g = record { so-far = p .turns ∙ rw (← some-here (holds s (signed w)) t at (p .from-here) h row g) }
 
     pub next-row : y ≡ false → Searched b t s i k w (at + 16)
-    next-row g = record { turns = p .turns; from-here = some-behind (holds s (signed w)) t at (p .from-here) h f g }
+    next-row g = record { turns = p .turns; from-here = some-behind (holds s (signed w)) t at (p .from-here) h row g }
 
 pub ruleset searches = (passed-none, all-passed, passed-over, no-number, search-rows, no-row, a-row, next-row)

@@ -1,13 +1,15 @@
 -- Big-endian numbers as they are stored.
-use Prim.Native.Nat.{ℕ, suc, _+_, _/_, _%_, _^_, _<_}
+use Prim.Native.Nat.{ℕ, suc, _+_, _-_, _/_, _%_, _^_, _<_, _≤_}
 use mathlib.Core.Path.{_≡_, sym, _∙_, ap}
 use mathlib.Core.List.{List, [], _∷_, _++_}
 use native.Mathlib.Omega.{arith}
-use lib.ListN.{set}
+use lib.ListN.{length, set}
 use lib.Seq.{sets}
+use borrow.Author.Tests.{le-leb, lt-leb}
 use Rattle.cbor.specs.Byte.{be}
 use Rattle.cbor.proofs.ByteLaws.{length-be, be-join}
 use Rattle.read.proofs.Tables.{sets-append}
+use Rattle.list.specs.Answers.{wordPut}
 
 module _ (o : List ℕ) (at : ℕ) where
   pub pair-stored : (x y : ℕ) → set (set o at x) (at + 1) y ≡ sets o at (x ∷ y ∷ [])
@@ -16,7 +18,7 @@ module _ (o : List ℕ) (at : ℕ) where
   pub two-stored : (x : ℕ) → set (set o at (x / 256)) (at + 1) (x % 256) ≡ sets o at (be 2 x)
   two-stored x = let f : x % 256 / 1 ≡ x % 256 = omega arith in rw f (pair-stored (x / 256) (x % 256))
 
-  joined : (w x : ℕ) (ys : List ℕ) → sets (sets o at (be w x)) (at + w) ys ≡ sets o at (be w x ++ ys)
+  pub joined : (w x : ℕ) (ys : List ℕ) → sets (sets o at (be w x)) (at + w) ys ≡ sets o at (be w x ++ ys)
   joined w x ys = ap (λ (n : ℕ). sets (sets o at (be w x)) (at + n) ys) (sym (length-be w x)) ∙ sym (sets-append o at (be w x) ys)
 
   halves : (u v x : ℕ) → x < 256 ^ (u + v) → sets (sets o at (be u (x / 256 ^ v))) (at + u) (be v (x % 256 ^ v)) ≡ sets o at (be (u + v) x)
@@ -39,4 +41,22 @@ pub entry-stored : (o : List ℕ) (at x y z : ℕ) {o₁ o₂ o₃ : List ℕ} �
 entry-stored o at x y z e f g =
     g ∙ ap (λ (l : List ℕ). sets l (at + 16) (be 8 z)) (f ∙ ap (λ (l : List ℕ). sets l (at + 8) (be 8 y)) e) ∙ three-stored o at 8 x y z
 
-pub ruleset stores = (pair-stored, two-stored, four-stored, eight-stored)
+-- a number where there is room for it
+module _ (o : List ℕ) (at x : ℕ) where
+  pub word-short : length o < 8 → o ≡ wordPut o at x
+  unfolding wordPut
+  word-short h = rw (lt-leb (at + 8) (length o) (omega arith))
+
+  pub word-past : 8 ≤ length o → length o - 8 < at → o ≡ wordPut o at x
+  unfolding wordPut
+  word-past g h = rw (lt-leb (at + 8) (length o) (omega arith))
+
+  pub word-put : {o₁ : List ℕ} → 8 ≤ length o → at ≤ length o - 8 → o₁ ≡ sets o at (be 8 x) → o₁ ≡ wordPut o at x
+  unfolding wordPut
+  word-put g h e = rw (le-leb (at + 8) (length o) (omega arith)) e
+
+  pub word-roomy : at + 8 ≤ length o → wordPut o at x ≡ sets o at (be 8 x)
+  unfolding wordPut
+  word-roomy h = rw (le-leb (at + 8) (length o) h)
+
+pub ruleset stores = (pair-stored, two-stored, four-stored, eight-stored, word-short, word-past, word-put)

@@ -11,7 +11,7 @@ ghost use Rattle.ari.specs.Limits.{firstLimits};
 ghost use Rattle.ari.specs.Listing.{listing};
 ghost use Rattle.grants.specs.Grants.{granted, judgeFrom};
 ghost use Rattle.grants.specs.Bytes.{rows, entryBytes, releaseBytes};
-ghost use Rattle.list.specs.Answers.{listingBytes, entryWords, wordsOf, listedOf, listIn, listOf, writtenBy, writtenIn, writtenOf, said};
+ghost use Rattle.list.specs.Answers.{wordPut, listingBytes, entryWords, wordsOf, listedOf, listIn, listOf, writtenBy, writtenIn, writtenOf, said};
 ghost use Rattle.list.specs.Entries.{insideFrom, namespaceOf, Tabled};
 use read::Answer;
 
@@ -117,12 +117,25 @@ fn put4(out: &mut [u8], at: usize, x: u64)
     put2(out, at + 2, x % 65536);
 }
 
-pub fn put8(out: &mut [u8], at: usize, x: u64)
+fn put8(out: &mut [u8], at: usize, x: u64)
     requires { ⌜ at + 8 ≤ length (now out) ⌝ }
     ensures { λ _. ⌜ now (out .exit) ≡ sets (now (out .entry)) at (be 8 x) ⌝ }
 {
     put4(out, at, x / 4294967296);
     put4(out, at + 4, x % 4294967296);
+}
+
+// A number of eight bytes, where there is room for it.
+pub fn put_word(out: &mut [u8], at: usize, x: u64)
+    ensures { λ _. ⌜ now (out .exit) ≡ wordPut (now (out .entry)) at x ⌝ }
+{
+    if out.len() < 8 {
+        return;
+    }
+    if out.len() - 8 < at {
+        return;
+    }
+    put8(out, at, x);
 }
 
 // The 24 bytes of an entry; its two ends are one number.

@@ -12,6 +12,8 @@ use borrow.Author.Tests.{le-leb, lt-leb}
 use Rattle.cbor.specs.Byte.{be}
 use Rattle.cbor.proofs.ByteLaws.{length-be}
 use Rattle.read.proofs.Tables.{sets-append}
+use Rattle.list.specs.Answers.{wordPut}
+use Rattle.list.proofs.Stored.{joined, word-roomy}
 use Rattle.table_text.specs.declared.Line.{Line}
 use Rattle.table_text.specs.declared.Line.the-variants.{Blank, Grant, Bad}
 use Rattle.table_text.specs.declared.Taken.{Taken}
@@ -87,8 +89,11 @@ module _ (t : List ℕ) (a e : ℕ) {l : Line} (g : a < length t) (w : RunTo (is
   }
 
 -- a row as it is stored
-pub row-stored : (o : List ℕ) (at s n : ℕ) {o₁ o₂ : List ℕ} → o₁ ≡ sets o at (be 8 s) → o₂ ≡ sets o₁ (at + 8) (be 8 n) → o₂ ≡ sets o at (be 8 s ++ be 8 n)
-row-stored o at s n e f = rw (f, e) (ap (λ (k : ℕ). sets (sets o at (be 8 s)) (at + k) (be 8 n)) (sym (length-be 8 s)) ∙ sym (sets-append o at (be 8 s) (be 8 n)))
+pub row-stored : (o : List ℕ) (at s n : ℕ) {o₁ o₂ : List ℕ} → at + 16 ≤ length o → o₁ ≡ wordPut o at s → o₂ ≡ wordPut o₁ (at + 8) n
+    → o₂ ≡ sets o at (be 8 s ++ be 8 n)
+row-stored o at s n h e f =
+    let l : at + 8 + 8 ≤ length (sets o at (be 8 s)) = rw (length-sets o at (be 8 s)) (omega arith) in
+    rw (f, e, word-roomy o at s (omega arith), word-roomy (sets o at (be 8 s)) (at + 8) n l) (joined o at 8 s (be 8 n))
 
 -- or left
 module _ {x : Bool} (o u : List ℕ) (at : ℕ) where

@@ -1,7 +1,15 @@
+-- `grants::holds_at` meets its contract.
 use Rattle.grants.proofs.Ways.{ways}
 use borrow.Author.Needs.{needs}
 use Rattle.grants.proofs.holds_at.Statement.{statement}
 use Rattle.grants.proofs.holds_at.Tie as tie
 
 pub holds-at-spec : {M : Type 1} → statement M
-holds-at-spec = tie.close (tie.spec (λ c κs. search needs) (λ c. search (ways, needs)) (λ c. search needs) (λ c κs. search needs) (λ c. search (ways, needs)))
+holds-at-spec =
+    tie.close
+    (tie.spec
+    (λ c. search (ways, needs))
+    (λ c. search (ways, needs))
+    (λ c. search (ways, needs))
+    (λ c κs. search (ways, needs))
+    (λ c. search (ways, needs)))

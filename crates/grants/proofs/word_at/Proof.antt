@@ -1,0 +1,15 @@
+-- `grants::word_at` meets its contract.
+use Rattle.grants.proofs.Ways.{ways}
+use borrow.Author.Needs.{needs}
+use Rattle.grants.proofs.word_at.Statement.{statement}
+use Rattle.grants.proofs.word_at.Tie as tie
+
+pub word-at-spec : {M : Type 1} → statement M
+word-at-spec =
+    tie.close
+    (tie.spec
+    (λ c. search (ways, needs))
+    (λ c. search (ways, needs))
+    (λ c. search (ways, needs))
+    (λ c κs. search (ways, needs))
+    (λ c. search (ways, needs)))
