@@ -6,3 +6,4 @@ pub mod HeadWays
 pub mod TextWays
 pub mod OrderWays
 pub mod Computed
+pub mod Putting

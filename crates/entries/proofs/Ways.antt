@@ -3,16 +3,16 @@ use Prim.Native.Nat.{ℕ, _-_, _≤_, _<_}
 use mathlib.Core.Path.{_≡_}
 use mathlib.Core.List.{List}
 use borrow.Author.Tests.{lt-ltb, le-ltb}
-use Rattle.show.specs.Put.{Put}
+use Rattle.cbor.specs.Put.{Put}
 use Rattle.show.specs.Texts.{decimalOf, negativeOf}
 use Rattle.entries.specs.Words.{integerOf}
 
 module _ {xs ys : List ℕ} {at r : ℕ} (w : ℕ) where
-  pub integer-positive : w < 9223372036854775808 → Put xs at (decimalOf w) ys r → Put xs at (integerOf w) ys r
+  pub integer-positive : w < 9223372036854775808 → Put xs ys at r (decimalOf w) → Put xs ys at r (integerOf w)
   unfolding integerOf
   integer-positive h p = rw (lt-ltb w 9223372036854775808 h) p
 
-  pub integer-negative : 9223372036854775808 ≤ w → Put xs at (negativeOf (18446744073709551615 - w)) ys r → Put xs at (integerOf w) ys r
+  pub integer-negative : 9223372036854775808 ≤ w → Put xs ys at r (negativeOf (18446744073709551615 - w)) → Put xs ys at r (integerOf w)
   unfolding integerOf
   integer-negative h p = rw (le-ltb w 9223372036854775808 h) p
 

@@ -1,13 +1,13 @@
 // What the programs print of bytes: big-endian numbers, and the entries of a listing. Written as the crate `show` writes.
 ghost use mathlib.Core.Path.{_≡_};
-ghost use Rattle.show.specs.Put.{Put};
+ghost use Rattle.cbor.specs.Put.{Put};
 ghost use Rattle.entries.specs.Words.{integerOf};
 ghost use Rattle.entries.specs.Lines.{nameOf, spaceOf, lineOf, entryOf};
 ghost use Rattle.cbor.specs.Answer.{headAt};
 
 // A two's complement in decimal.
 pub fn integer(out: &mut [u8], at: usize, w: u64) -> usize
-    ensures { λ r. ⌜ Put (now (out .entry)) at (integerOf w) (now (out .exit)) r ⌝ }
+    ensures { λ r. ⌜ Put (now (out .entry)) (now (out .exit)) at r (integerOf w) ⌝ }
 {
     if w < 9223372036854775808 {
         return show::decimal(out, at, w);
@@ -17,7 +17,7 @@ pub fn integer(out: &mut [u8], at: usize, w: u64) -> usize
 
 // The bytes of a name whose head is at a place.
 fn name(out: &mut [u8], at: usize, s: &[u8], place: usize) -> usize
-    ensures { λ r. ⌜ Put (now (out .entry)) at (nameOf (now (s .entry)) (headAt (now (s .entry)) place)) (now (out .exit)) r ⌝ }
+    ensures { λ r. ⌜ Put (now (out .entry)) (now (out .exit)) at r (nameOf (now (s .entry)) (headAt (now (s .entry)) place)) ⌝ }
 {
     let h = cbor::head_at(s, place);
     let cbor::Head::Good { kind: _, arg, next } = h else {
@@ -36,7 +36,7 @@ fn name(out: &mut [u8], at: usize, s: &[u8], place: usize) -> usize
 
 // A namespace by an entry's kind and word: a number, a name as its text, a relative one as a full stop.
 fn namespace(out: &mut [u8], at: usize, s: &[u8], kind: u64, w: u64) -> usize
-    ensures { λ r. ⌜ Put (now (out .entry)) at (spaceOf (now (s .entry)) kind w) (now (out .exit)) r ⌝ }
+    ensures { λ r. ⌜ Put (now (out .entry)) (now (out .exit)) at r (spaceOf (now (s .entry)) kind w) ⌝ }
 {
     if kind == 1 {
         return name(out, at, s, w as usize);
@@ -49,7 +49,7 @@ fn namespace(out: &mut [u8], at: usize, s: &[u8], kind: u64, w: u64) -> usize
 
 // An entry's line by its three words.
 fn line(out: &mut [u8], at: usize, s: &[u8], ends: u64, kind: u64, w: u64) -> usize
-    ensures { λ r. ⌜ Put (now (out .entry)) at (lineOf (now (s .entry)) ends kind w) (now (out .exit)) r ⌝ }
+    ensures { λ r. ⌜ Put (now (out .entry)) (now (out .exit)) at r (lineOf (now (s .entry)) ends kind w) ⌝ }
 {
     let a = show::field(out, at, ends / 4294967296);
     let b = show::field(out, a, ends % 4294967296);
@@ -59,7 +59,7 @@ fn line(out: &mut [u8], at: usize, s: &[u8], ends: u64, kind: u64, w: u64) -> us
 
 // An entry of a listing, its 24 bytes from a place on: first byte, byte after, namespace, and a line end.
 pub fn entry(out: &mut [u8], at: usize, s: &[u8], listing: &[u8], from: usize) -> usize
-    ensures { λ r. ⌜ Put (now (out .entry)) at (entryOf (now (s .entry)) (now (listing .entry)) from) (now (out .exit)) r ⌝ }
+    ensures { λ r. ⌜ Put (now (out .entry)) (now (out .exit)) at r (entryOf (now (s .entry)) (now (listing .entry)) from) ⌝ }
 {
     if listing.len() < 24 {
         return at;

@@ -18,7 +18,8 @@ use Rattle.text.specs.Parse.{starts, same, parse, level, candidate}
 use Rattle.text.specs.Answer.{Output, refused, output, written, writeText, checked, readText, lent}
 use Rattle.text.proofs.Round.{same-is, same-self, write-exactly, read-exactly, read-no-text}
 use Rattle.ari.specs.Table.{max64}
-use Rattle.spell.specs.Put.{Put}
+use Rattle.cbor.specs.Put.{Put}
+use Rattle.cbor.proofs.Putting.{put-size, put-end}
 use Rattle.write.specs.declared.Spelling.{Spelling}
 use Rattle.write.specs.declared.Spelling.the-variants.{Has, None}
 use Rattle.write.specs.declared.Written.{Written}
@@ -146,10 +147,10 @@ module _ (t : List ℕ) where
       where
         fits : length tried ≤ 4096 → take (r - 0) room′ ≡ tried
         fits f =
-            let (e, q) = p .told (omega arith) in
+            let e = put-end p (omega arith) in
             let z : r - 0 ≡ length tried = omega arith in
             let y : 0 + length tried ≡ length tried = omega arith in
-            let c : room′ ≡ tried ++ drop (length tried) room = q ∙ sets-eq tried room 0 (omega arith) ∙ rw y in
+            let c : room′ ≡ tried ++ drop (length tried) room = p .bytes ∙ sets-eq tried room 0 (omega arith) ∙ rw y in
             rw (z, c) (take-append-seam tried (drop (length tried) room))
 
     none-fits : length room′ < r → readText firstLimits t ≡ refused 15 0
@@ -157,7 +158,7 @@ module _ (t : List ℕ) where
       where
         go : (x : Bool) → ltb 4096 (length tried) ≡ x → 4096 < length tried
         go true e = ltb-true 4096 (length tried) e
-        go false e = absurd (let f = ltb-false 4096 (length tried) e in let (q, z) = p .told (omega arith) in omega (arith, p .size))
+        go false e = absurd (let f = ltb-false 4096 (length tried) e in omega (arith, put-end p (omega arith), put-size p))
 
     pub full-refused : (m : ℕ) → length room′ < r → Refused 15 0 ≡ writtenOf (lent m (readText firstLimits t))
     full-refused m g = rw (none-fits g)

@@ -6,8 +6,8 @@ use mathlib.Core.List.{List, [], _∷_, _++_, append-assoc}
 use native.Mathlib.Omega.{arith}
 use native.Mathlib.Numerals.{sub-one}
 use lib.ListN.{length, drop, getD, length-append}
-use lib.Dec.{ltb, eqb}
-use borrow.Author.Tests.{ne-eqb}
+use lib.Dec.{ltb, leb, eqb}
+use borrow.Author.Tests.{ne-eqb, leb-true, leb-false}
 use Rattle.cbor.specs.Byte.{within}
 use Rattle.cbor.specs.Head.{Lead, leadBytes, size}
 use Rattle.cbor.proofs.HeadLaws.{length-lead}
@@ -18,9 +18,9 @@ use Rattle.slots.specs.declared.Next.the-variants.{Done, Due}
 use Rattle.slots.specs.Code.{slotOf, levelOf, wordOf, field, nextCode, insideCode}
 use Rattle.slots.proofs.Right.{IsSlot, Stands, Slotted, next-stands, adds-type, inside-right}
 use Rattle.read.specs.Walks.{insideLevel}
-use Rattle.spell.specs.Put.{Put}
+use Rattle.cbor.specs.Put.{Put}
 use Rattle.spell.specs.Ways.{wayAt, afterBy}
-use Rattle.spell.proofs.Puts.{put-nothing, put-both}
+use Rattle.cbor.proofs.Putting.{put-nothing, put-out, put-other, put-size, put-end, put-over, put-both}
 use Rattle.spell.proofs.Spelled.{isDue, after-is}
 use Rattle.text.specs.Text.{spell}
 use Rattle.text.specs.Parse.{starts, startsBy, Taken, takeAt, Run, nothing, level, parse}
@@ -87,7 +87,7 @@ module _ (t : List ℕ) (go : Level → List ℕ → Run) where
   pub full : (i n p at k : ℕ) (room : List ℕ) → 0 < k → length room ≤ at → p ≤ length t → Parsed t (level go k (due (slotOf i) n) (drop p t)) at room room (pos p at)
   unfolding level
   full i n p at zero room h g l = absurd (omega arith)
-  full i n p at (suc k) room h g l = record { within = l; put = record { size = refl; told = λ f. absurd (never f) }; rest-is = λ f. absurd (never f) }
+  full i n p at (suc k) room h g l = record { within = l; put = put-out room at _ g; rest-is = λ f. absurd (never f) }
     where
       never : at + length (encode (level go (suc k) (due (slotOf i) n) (drop p t) .items)) ≤ length room → ⊥
       never f =
@@ -140,9 +140,6 @@ module _ (t : List ℕ) (items d i n p at k : ℕ) {room room₁ : List ℕ} {x 
       level-whole = refl
 
       module _ {room₃ : List ℕ} {z : Pos} (u : Parsed t (level (parse items d) k (levelOf nx) (drop q t)) (w .end) room₂ room₃ z) where
-        sized : length room₃ ≡ length room
-        sized = u .put .size ∙ m .put .size ∙ y .put .size
-
         abbrev own : List ℕ
         own = leadBytes l ++ h .head .str
 
@@ -153,33 +150,42 @@ module _ (t : List ℕ) (items d i n p at k : ℕ) {room room₁ : List ℕ} {x 
             let b = encode (rest .items) in
             omega (arith, length-append (leadBytes l) (s ++ (a ++ b)), length-append s (a ++ b), length-append a b, length-append (leadBytes l) s)
 
+        -- the members fit, and the rest is read where they end
+        u′ : x .end + length (encode (ms .items)) ≤ length room₁ → Parsed t rest (w .end) room₂ room₃ z
+        u′ f =
+            let behind : drop q t ≡ drop (length (spell (slotOf i) .after l (rule (slotOf i) .next (l .arg) n))) (ms .rest) = g .is ∙ rw (m′ .rest-is f, size-is) in
+            parsed-as u (rw (next-is, behind))
+
+        -- they do not, and nothing more is put
+        rest-put : (c : Bool) → leb (x .end + length (encode (ms .items))) (length room₁) ≡ c → Put room₂ room₃ (w .end) (z .end) (encode (rest .items))
+        rest-put true e = u′ (leb-true (x .end + length (encode (ms .items))) (length room₁) e) .put
+        rest-put false e =
+            let o : length room₁ ≤ w .end = put-over (m′ .put) (leb-false (x .end + length (encode (ms .items))) (length room₁) e) in
+            put-other (u .put) (encode (rest .items)) (omega (arith, put-size (m′ .put)))
+
+        joined : Put room room₃ at (z .end) (encode (whole .items))
+        joined =
+            let s = rest-put (leb (x .end + length (encode (ms .items))) (length room₁)) refl in
+            rw (append-assoc (leadBytes l) (h .head .str) (encode (ms .items) ++ encode (rest .items))) at (put-both (y .put) (put-both (m′ .put) s))
+
         module _ (f : at + length (encode (whole .items)) ≤ length room) where
           head-end : x .end ≡ at + length own
-          head-end = y .put .told (omega (arith, long)) .0
+          head-end = put-end (y .put) (omega (arith, long))
 
           inside-fits : x .end + length (encode (ms .items)) ≤ length room₁
-          inside-fits = omega (arith, long, head-end, y .put .size)
+          inside-fits = omega (arith, long, head-end, put-size (y .put))
 
           inside-end : w .end ≡ x .end + length (encode (ms .items))
-          inside-end = m′ .put .told inside-fits .0
-
-          behind : drop q t ≡ drop (length (spell (slotOf i) .after l (rule (slotOf i) .next (l .arg) n))) (ms .rest)
-          behind = g .is ∙ rw (m′ .rest-is inside-fits, size-is)
-
-          u′ : Parsed t rest (w .end) room₂ room₃ z
-          u′ = parsed-as u (rw (next-is, behind))
-
-          joined : Put room room₃ at (z .end) (encode (whole .items))
-          joined = rw (append-assoc (leadBytes l) (h .head .str) (encode (ms .items) ++ encode (rest .items))) at (put-both (y .put) (put-both (m′ .put) (u′ .put)))
+          inside-end = put-end (m′ .put) inside-fits
 
           rest-fits : w .end + length (encode (rest .items)) ≤ length room₂
-          rest-fits = omega (arith, long, head-end, inside-end, y .put .size, m .put .size)
+          rest-fits = omega (arith, long, head-end, inside-end, put-size (y .put), put-size (m .put))
 
         turned : Parsed t (level (parse items d) (suc k) (due (slotOf i) n) (drop p t)) at room room₃ z
         turned = parsed-as (record {
           within = u .within;
-          put = record { size = sized; told = λ f. joined f .told f };
-          rest-is = λ f. u′ f .rest-is (rest-fits f);
+          put = joined;
+          rest-is = λ f. u′ (inside-fits f) .rest-is (rest-fits f);
         }) (sym level-whole)
 
 -- What finishes the rest finishes the whole.

@@ -5,12 +5,13 @@ use mathlib.Core.Bool.{Bool, true, false, not, _&&_, cond}
 use mathlib.Core.List.{List, [], _∷_, _++_, append-assoc}
 use native.Mathlib.Omega.{arith}
 use native.Mathlib.Numerals.{add-one, sub-one}
-use lib.ListN.{length, take, drop, set, length-append}
+use lib.ListN.{length, getD, take, drop, set, length-append}
 use lib.Seq.{length-take-le}
 use lib.Dec.{eqb}
 use borrow.Author.Tests.{eqb-false, ne-eqb, eqb-true}
 use Rattle.cbor.specs.Byte.{all, isByte}
 use Rattle.cbor.specs.Head.{Lead, size, stringSize}
+use Rattle.cbor.proofs.ByteLaws.{and-true}
 use Rattle.ari.specs.Table.{Slot, Own, none, one, rising, filled, Level, done, due, rule, members}
 use Rattle.ari.specs.Reader.{keyBytes, keyAfter}
 use Rattle.ari.proofs.Due.{prevAfter}
@@ -29,210 +30,20 @@ use Rattle.read.proofs.Walking.{Took, took, ended, stopped, broken, onw
 use Rattle.read.proofs.Keys.{ordered-kind, key-bytes}
 
 -- a slot's number is the slot's
-abbrev Coded : ℕ → List Slot → Type 0
-Coded i [] = Unit {0}
-Coded i (s ∷ ss) = (codeOf s ≡ i) × Coded (suc i) ss
+numbered : ℕ → List Slot → Bool
+numbered i [] = true
+numbered i (s ∷ ss) = eqb (codeOf s) i && numbered (suc i) ss
 
-coded : Coded 0 slots
-unfolding codeOf
-coded = (
-  refl,
-  (
-    refl,
-    (
-      refl,
-      (
-        refl,
-        (
-          refl,
-          (
-            refl,
-            (
-              refl,
-              (
-                refl,
-                (
-                  refl,
-                  (
-                    refl,
-                    (
-                      refl,
-                      (
-                        refl,
-                        (
-                          refl,
-                          (
-                            refl,
-                            (
-                              refl,
-                              (
-                                refl,
-                                (
-                                  refl,
-                                  (
-                                    refl,
-                                    (
-                                      refl,
-                                      (
-                                        refl,
-                                        (
-                                          refl,
-                                          (
-                                            refl,
-                                            (
-                                              refl,
-                                              (
-                                                refl,
-                                                (
-                                                  refl,
-                                                  (
-                                                    refl,
-                                                    (
-                                                      refl,
-                                                      (
-                                                        refl,
-                                                        (
-                                                          refl,
-                                                          (
-                                                            refl,
-                                                            (
-                                                              refl,
-                                                              (
-                                                                refl,
-                                                                (
-                                                                  refl,
-                                                                  (
-                                                                    refl,
-                                                                    (
-                                                                      refl,
-                                                                      (
-                                                                        refl,
-                                                                        (
-                                                                          refl,
-                                                                          (
-                                                                            refl,
-                                                                            (
-                                                                              refl,
-                                                                              (
-                                                                                refl,
-                                                                                (
-                                                                                  refl,
-                                                                                  (
-                                                                                    refl,
-                                                                                    (
-                                                                                      refl,
-                                                                                      (
-                                                                                        refl,
-                                                                                        (
-                                                                                          refl,
-                                                                                          (
-                                                                                            refl,
-                                                                                            (
-                                                                                              refl,
-                                                                                              (
-                                                                                                refl,
-                                                                                                (
-                                                                                                  refl,
-                                                                                                  (
-                                                                                                    refl,
-                                                                                                    (
-                                                                                                      refl,
-                                                                                                      (
-                                                                                                        refl,
-                                                                                                        (
-                                                                                                          refl,
-                                                                                                          (
-                                                                                                            refl,
-                                                                                                            (
-                                                                                                              refl,
-                                                                                                              (
-                                                                                                                refl,
-                                                                                                                (
-                                                                                                                  refl,
-                                                                                                                  (
-                                                                                                                    refl,
-                                                                                                                    (
-                                                                                                                      refl,
-                                                                                                                      (
-                                                                                                                        refl,
-                                                                                                                        (
-                                                                                                                          refl,
-                                                                                                                          (
-                                                                                                                            refl,
-                                                                                                                            (
-                                                                                                                              refl,
-                                                                                                                              (
-                                                                                                                                refl,
-                                                                                                                                (refl, (refl, (refl, (refl, (refl, (refl, (refl, (refl, tt)))))))),
-                                                                                                                              ),
-                                                                                                                            ),
-                                                                                                                          ),
-                                                                                                                        ),
-                                                                                                                      ),
-                                                                                                                    ),
-                                                                                                                  ),
-                                                                                                                ),
-                                                                                                              ),
-                                                                                                            ),
-                                                                                                          ),
-                                                                                                        ),
-                                                                                                      ),
-                                                                                                    ),
-                                                                                                  ),
-                                                                                                ),
-                                                                                              ),
-                                                                                            ),
-                                                                                          ),
-                                                                                        ),
-                                                                                      ),
-                                                                                    ),
-                                                                                  ),
-                                                                                ),
-                                                                              ),
-                                                                            ),
-                                                                          ),
-                                                                        ),
-                                                                      ),
-                                                                    ),
-                                                                  ),
-                                                                ),
-                                                              ),
-                                                            ),
-                                                          ),
-                                                        ),
-                                                      ),
-                                                    ),
-                                                  ),
-                                                ),
-                                              ),
-                                            ),
-                                          ),
-                                        ),
-                                      ),
-                                    ),
-                                  ),
-                                ),
-                              ),
-                            ),
-                          ),
-                        ),
-                      ),
-                    ),
-                  ),
-                ),
-              ),
-            ),
-          ),
-        ),
-      ),
-    ),
-  ),
-)
+coded : numbered 0 slots ≡ true
+unfolding codeOf numbered
+coded = refl
 
-code-at : (i j : ℕ) (ss : List Slot) (d : Slot) → Coded i ss → j < length ss → codeOf (lib.ListN.getD ss j d) ≡ i + j
+code-at : (i j : ℕ) (ss : List Slot) (d : Slot) → numbered i ss ≡ true → j < length ss → codeOf (getD ss j d) ≡ i + j
+unfolding numbered
 code-at i j [] d c h = absurd (omega arith)
-code-at i zero (s ∷ ss) d c h = c .0 ∙ omega arith
-code-at i (suc j) (s ∷ ss) d c h = code-at (suc i) j ss d (c .1) (omega arith) ∙ omega arith
+code-at i zero (s ∷ ss) d c h = eqb-true (codeOf s) i (and-true (eqb (codeOf s) i) (numbered (suc i) ss) c .0) ∙ omega arith
+code-at i (suc j) (s ∷ ss) d c h =
+    code-at (suc i) j ss d (and-true (eqb (codeOf s) i) (numbered (suc i) ss) c .1) (omega arith) ∙ omega arith
 
 pub code-slot : (i : ℕ) → IsSlot i → codeOf (slotOf i) ≡ i
 code-slot i h = code-at 0 i slots _ coded h ∙ omega arith

@@ -7,17 +7,12 @@ use mathlib.Core.List.{List, [], _∷_, _++_, map}
 use native.Mathlib.Omega.{arith}
 use lib.ListN.{length, set, length-append, length-map}
 use lib.Seq.{sets, set-comm}
+use Rattle.cbor.proofs.Putting.{sets-append}
 use Rattle.ari.specs.Table.{Level, done, due, rule, members}
 use Rattle.ari.specs.Reader.{end, push}
 use Rattle.ari.specs.Items.{Items, none, item, encode, heads, Spot, spots, insideAt, spotAt}
 use Rattle.ari.proofs.Due.{Due, prevAfter}
 use Rattle.read.specs.Walks.{entries, entryOf}
-
-pub sets-append : (l : List ℕ) (i : ℕ) (xs ys : List ℕ) → sets l i (xs ++ ys) ≡ sets (sets l i xs) (i + length xs) ys
-sets-append l i [] ys = let e : i + 0 ≡ i = omega arith in rw e
-sets-append l i (x ∷ xs) ys =
-    let e : i + suc (length xs) ≡ suc i + length xs = omega arith in
-    rw e (sets-append (set l i x) (suc i) xs ys)
 
 pub set-sets : (l : List ℕ) (i a j : ℕ) (vs : List ℕ) → i < j → set (sets l j vs) i a ≡ sets (set l i a) j vs
 set-sets l i a j [] h = refl

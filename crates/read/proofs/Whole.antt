@@ -12,6 +12,7 @@ use mir.Syntax.{w8}
 use mir.Val.{Fits}
 use borrow.Author.Tests.{lt-ltb, le-ltb}
 use Rattle.cbor.specs.Byte.{all, isByte}
+use Rattle.cbor.proofs.Putting.{sets-append}
 use Rattle.ari.specs.Table.{message, alone, Slot, version, ari, Level, done, due, rule, members}
 use Rattle.ari.specs.Reader.{Limits, Dues, end, sets, frame, push, Answer, refuse, accept, visit, run, counted, Input, single, aMessage, firstSlot, bottom, read}
 use Rattle.ari.specs.Items.{Items, none, item, encode, heads, join, Spot, spots, spotAt, insideAt, spotsOf}
@@ -28,7 +29,7 @@ use Rattle.read.specs.declared.Answer.the-variants.{Accepted}
 use Rattle.read.specs.declared.Answer.the-variants as answers
 use Rattle.read.specs.Walks.{entryOf, entries, Held, Walked, SetsHeld, SetsWalked, afterWalk, afterSets}
 use Rattle.read.specs.Answers.{limitsOf, answerOf, refusalOf, Kept}
-use Rattle.read.proofs.Tables.{sets-append, spots-heads, map-append}
+use Rattle.read.proofs.Tables.{spots-heads, map-append}
 
 -- a slice's elements are bytes
 pub all-bytes : (b : List ℕ) → ((i : ℕ) → Fits w8 (getD b i 0)) → all isByte b ≡ true

@@ -15,10 +15,10 @@ use Rattle.read.specs.declared.Answer.{Answer}
 use Rattle.items.specs.declared.Found.{Found}
 use Rattle.items.specs.declared.Found.the-variants as found
 use Rattle.items.specs.declared.Record.{Record}
-use Rattle.show.specs.Put.{Put}
+use Rattle.cbor.specs.Put.{Put}
 use Rattle.show.specs.Texts.{lineOf}
 use Rattle.show.specs.Listing.{freshOf, inputOf, checkOf, foundOf, foundLine, answerLine, Listed, none, more}
-use Rattle.show.proofs.Putting.{put-nothing}
+use Rattle.cbor.proofs.Putting.{put-nothing}
 
 module _ {i : Bool} (s : List ℕ) where
   pub check-single : {r : Answer} → i ≡ true → r ≡ answerOf (read firstLimits single s) → r ≡ checkOf i s
@@ -43,17 +43,17 @@ fresh-here at room e h = rw (le-leb 256 (room - at) (omega arith))
 pub fresh-anew : (at room : ℕ) {l : ℕ} → l ≡ room - at → l < 256 → 0 ≡ freshOf at room
 fresh-anew at room e h = rw (lt-leb 256 (room - at) (omega arith))
 
-pub of-answer : {a b : Answer} {xs ys : List ℕ} {p q r : ℕ} → a ≡ b → p ≡ q → Put xs p (answerLine b) ys r → Put xs q (answerLine a) ys r
+pub of-answer : {a b : Answer} {xs ys : List ℕ} {p q r : ℕ} → a ≡ b → p ≡ q → Put xs ys p r (answerLine b) → Put xs ys q r (answerLine a)
 of-answer e f h = rw (e, ← f) h
 
 module _ {g f : Found} {p q : ℕ} (k : ℕ) (indent : List ℕ) where
-  pub of-item : {x : Record} {n r : ℕ} {xs ys : List ℕ} → f ≡ g → f ≡ found.Item x n → p ≡ q → Put xs p (lineOf k x indent) ys r → Put xs q (foundLine k indent g) ys r
+  pub of-item : {x : Record} {n r : ℕ} {xs ys : List ℕ} → f ≡ g → f ≡ found.Item x n → p ≡ q → Put xs ys p r (lineOf k x indent) → Put xs ys q r (foundLine k indent g)
   of-item e m l h = rw (← e, m, ← l) h
 
-  pub of-none : {n r : ℕ} {xs : List ℕ} → f ≡ g → f ≡ found.Refused n r → p ≡ q → Put xs q (foundLine k indent g) xs p
+  pub of-none : {n r : ℕ} {xs : List ℕ} → f ≡ g → f ≡ found.Refused n r → p ≡ q → Put xs xs q p (foundLine k indent g)
   of-none {xs = xs} e m l = rw (← e, m, l) (put-nothing xs q)
 
-pub one-more : {i : Bool} {s indent xs ys zs : List ℕ} {at k p q : ℕ} → Listed i s indent xs at k ys p → Put ys (freshOf p (length ys)) (foundLine k indent (foundOf i s k)) zs q
+pub one-more : {i : Bool} {s indent xs ys zs : List ℕ} {at k p q : ℕ} → Listed i s indent xs at k ys p → Put ys zs (freshOf p (length ys)) q (foundLine k indent (foundOf i s k))
     → Listed i s indent xs at (k + 1) zs q
 one-more {k = k} l h = rw (add-one k) (more l h)
 

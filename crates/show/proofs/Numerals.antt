@@ -9,7 +9,7 @@ use lib.ListN.{take}
 use lib.Dec.{ltb, leb, lit≤}
 use borrow.Author.Tests.{lt-ltb, le-ltb, le-leb, leb-true, leb-false}
 use Rattle.io.specs.Digits.{digits, Fewest, glyph}
-use Rattle.show.specs.Put.{Put}
+use Rattle.cbor.specs.Put.{Put}
 use Rattle.show.specs.Texts.{numeral, decimalOf, hexOf, negativeOf}
 
 pub numeral-digits : (b f k least n : ℕ) → 1 < b → 1 ≤ k → k ≤ f → Fewest b least n k → digits b k n ≡ numeral b f least n
@@ -59,21 +59,21 @@ short b m least n k hb hm hn hl f = cases (leb k m) refl
         absurd (omega (arith, l, f .2 (omega arith)))
 
 -- what `io::decimal` and `io::hex` leave in their arrays
-pub put-decimal : (n k : ℕ) (u : List ℕ) {xs ys : List ℕ} {at r : ℕ} → n < 2 ^ 64 → Put xs at (take k u) ys r → Fewest 10 1 n k → take k u ≡ digits 10 k n
-    → Put xs at (decimalOf n) ys r
+pub put-decimal : (n k : ℕ) (u : List ℕ) {xs ys : List ℕ} {at r : ℕ} → n < 2 ^ 64 → Put xs ys at r (take k u) → Fewest 10 1 n k → take k u ≡ digits 10 k n
+    → Put xs ys at r (decimalOf n)
 unfolding decimalOf
 put-decimal n k u h p f e =
     rw (← numeral-digits 10 20 k 1 n (omega arith) (f .0) (short 10 20 1 n k (omega arith) (lit≤ tt) h (omega arith) f) f, ← e) p
 
-pub put-hex : (w n k : ℕ) (u : List ℕ) {xs ys : List ℕ} {at r : ℕ} → n < 2 ^ 64 → Put xs at (take k u) ys r → Fewest 16 (min (max w 1) 16) n k → take k u ≡ digits 16 k n
-    → Put xs at (hexOf (min (max w 1) 16) n) ys r
+pub put-hex : (w n k : ℕ) (u : List ℕ) {xs ys : List ℕ} {at r : ℕ} → n < 2 ^ 64 → Put xs ys at r (take k u) → Fewest 16 (min (max w 1) 16) n k → take k u ≡ digits 16 k n
+    → Put xs ys at r (hexOf (min (max w 1) 16) n)
 unfolding hexOf
 put-hex w n k u h p f e =
     rw (← numeral-digits 16 16 k (min (max w 1) 16) n (omega arith) (omega arith) (short 16 16 (min (max w 1) 16) n k (omega arith) (lit≤ tt) h (omega arith) f) f, ← e) p
 
 -- the text of -2 ^ 64
 pub put-least : {n : ℕ} {xs ys : List ℕ} {at r : ℕ} → n ≡ 18446744073709551615
-    → Put xs at (45 ∷ 49 ∷ 56 ∷ 52 ∷ 52 ∷ 54 ∷ 55 ∷ 52 ∷ 52 ∷ 48 ∷ 55 ∷ 51 ∷ 55 ∷ 48 ∷ 57 ∷ 53 ∷ 53 ∷ 49 ∷ 54 ∷ 49 ∷ 54 ∷ []) ys r
-    → Put xs at (negativeOf n) ys r
+    → Put xs ys at r (45 ∷ 49 ∷ 56 ∷ 52 ∷ 52 ∷ 54 ∷ 55 ∷ 52 ∷ 52 ∷ 48 ∷ 55 ∷ 51 ∷ 55 ∷ 48 ∷ 57 ∷ 53 ∷ 53 ∷ 49 ∷ 54 ∷ 49 ∷ 54 ∷ [])
+    → Put xs ys at r (negativeOf n)
 unfolding decimalOf numeral
 put-least e p = rw e p

@@ -12,7 +12,7 @@ use Rattle.read.specs.declared.Answer.{Answer}
 use Rattle.read.specs.declared.Answer.the-variants.{Accepted, Refused}
 use Rattle.items.specs.declared.Found.{Found}
 use Rattle.items.specs.declared.Found.the-variants as found
-use Rattle.show.specs.Put.{Put}
+use Rattle.cbor.specs.Put.{Put}
 use Rattle.show.specs.Texts.{lineOf, refusedOf, acceptedOf}
 
 -- where the next line starts: 256 bytes are kept for it
@@ -41,4 +41,4 @@ foundLine k indent (found.Refused r p) = []
 -- from a buffer and a place: the lines of the first items of an input, so many, leave this buffer and this place
 pub data Listed (i : Bool) (s indent xs : List ℕ) (at : ℕ) : ℕ → List ℕ → ℕ → Type 0 where
   none : Listed i s indent xs at zero xs at
-  more : {k p q : ℕ} {ys zs : List ℕ} → Listed i s indent xs at k ys p → Put ys (freshOf p (length ys)) (foundLine k indent (foundOf i s k)) zs q → Listed i s indent xs at (suc k) zs q
+  more : {k p q : ℕ} {ys zs : List ℕ} → Listed i s indent xs at k ys p → Put ys zs (freshOf p (length ys)) q (foundLine k indent (foundOf i s k)) → Listed i s indent xs at (suc k) zs q

@@ -4,12 +4,12 @@ ghost use mathlib.Core.Path.{_≡_};
 ghost use mathlib.Core.List.{[], _∷_, _++_};
 ghost use Prim.Native.Nat.{_-_, min, max};
 ghost use lib.ListN.{length};
-ghost use Rattle.show.specs.Put.{Put};
+ghost use Rattle.cbor.specs.Put.{Put};
 ghost use Rattle.show.specs.Texts.{repeated, decimalOf, hexOf, negativeOf, simpleOf, literalOf, containerOf, kindOf, numbersOf, lineOf, refusedOf, acceptedOf, fieldOf};
 ghost use Rattle.show.specs.Listing.{freshOf, checkOf, foundOf, foundLine, answerLine, Listed};
 
 pub fn put_byte(out: &mut [u8], at: usize, b: u8) -> usize
-    ensures { λ r. ⌜ Put (now (out .entry)) at (b ∷ []) (now (out .exit)) r ⌝ }
+    ensures { λ r. ⌜ Put (now (out .entry)) (now (out .exit)) at r (b ∷ []) ⌝ }
 {
     if at < out.len() {
         out[at] = b;
@@ -19,7 +19,7 @@ pub fn put_byte(out: &mut [u8], at: usize, b: u8) -> usize
 }
 
 pub fn put(out: &mut [u8], at: usize, text: &[u8]) -> usize
-    ensures { λ r. ⌜ Put (now (out .entry)) at (now (text .entry)) (now (out .exit)) r ⌝ }
+    ensures { λ r. ⌜ Put (now (out .entry)) (now (out .exit)) at r (now (text .entry)) ⌝ }
 {
     let mut p = at;
     let mut i = 0;
@@ -32,7 +32,7 @@ pub fn put(out: &mut [u8], at: usize, text: &[u8]) -> usize
 
 // A text, so many times.
 fn repeat(out: &mut [u8], at: usize, text: &[u8], times: usize) -> usize
-    ensures { λ r. ⌜ Put (now (out .entry)) at (repeated times (now (text .entry))) (now (out .exit)) r ⌝ }
+    ensures { λ r. ⌜ Put (now (out .entry)) (now (out .exit)) at r (repeated times (now (text .entry))) ⌝ }
 {
     let mut p = at;
     let mut i = 0;
@@ -44,7 +44,7 @@ fn repeat(out: &mut [u8], at: usize, text: &[u8], times: usize) -> usize
 }
 
 pub fn decimal(out: &mut [u8], at: usize, n: u64) -> usize
-    ensures { λ r. ⌜ Put (now (out .entry)) at (decimalOf n) (now (out .exit)) r ⌝ }
+    ensures { λ r. ⌜ Put (now (out .entry)) (now (out .exit)) at r (decimalOf n) ⌝ }
 {
     let mut digits = [0u8; 20];
     let k = io::decimal(n, &mut digits);
@@ -53,7 +53,7 @@ pub fn decimal(out: &mut [u8], at: usize, n: u64) -> usize
 
 // Lower case, zeros in front up to the width, from 1 to 16.
 pub fn hex(out: &mut [u8], at: usize, n: u64, width: usize) -> usize
-    ensures { λ r. ⌜ Put (now (out .entry)) at (hexOf (min (max width 1) 16) n) (now (out .exit)) r ⌝ }
+    ensures { λ r. ⌜ Put (now (out .entry)) (now (out .exit)) at r (hexOf (min (max width 1) 16) n) ⌝ }
 {
     let mut digits = [0u8; 16];
     let k = io::hex(n, width, &mut digits);
@@ -62,7 +62,7 @@ pub fn hex(out: &mut [u8], at: usize, n: u64, width: usize) -> usize
 
 // The number -1 - n.
 pub fn negative(out: &mut [u8], at: usize, n: u64) -> usize
-    ensures { λ r. ⌜ Put (now (out .entry)) at (negativeOf n) (now (out .exit)) r ⌝ }
+    ensures { λ r. ⌜ Put (now (out .entry)) (now (out .exit)) at r (negativeOf n) ⌝ }
 {
     if n == u64::MAX {
         return put(out, at, b"-18446744073709551616");
@@ -73,7 +73,7 @@ pub fn negative(out: &mut [u8], at: usize, n: u64) -> usize
 
 // A word and a number.
 pub fn numbered(out: &mut [u8], at: usize, word: &[u8], n: u64) -> usize
-    ensures { λ r. ⌜ Put (now (out .entry)) at (now (word .entry) ++ decimalOf n) (now (out .exit)) r ⌝ }
+    ensures { λ r. ⌜ Put (now (out .entry)) (now (out .exit)) at r (now (word .entry) ++ decimalOf n) ⌝ }
 {
     let p = put(out, at, word);
     decimal(out, p, n)
@@ -81,21 +81,21 @@ pub fn numbered(out: &mut [u8], at: usize, word: &[u8], n: u64) -> usize
 
 // A word and a float's bits.
 fn bits(out: &mut [u8], at: usize, word: &[u8], n: u64, width: usize) -> usize
-    ensures { λ r. ⌜ Put (now (out .entry)) at (now (word .entry) ++ hexOf (min (max width 1) 16) n) (now (out .exit)) r ⌝ }
+    ensures { λ r. ⌜ Put (now (out .entry)) (now (out .exit)) at r (now (word .entry) ++ hexOf (min (max width 1) 16) n) ⌝ }
 {
     let p = put(out, at, word);
     hex(out, p, n, width)
 }
 
 fn negated(out: &mut [u8], at: usize, word: &[u8], n: u64) -> usize
-    ensures { λ r. ⌜ Put (now (out .entry)) at (now (word .entry) ++ negativeOf n) (now (out .exit)) r ⌝ }
+    ensures { λ r. ⌜ Put (now (out .entry)) (now (out .exit)) at r (now (word .entry) ++ negativeOf n) ⌝ }
 {
     let p = put(out, at, word);
     negative(out, p, n)
 }
 
 fn simple(out: &mut [u8], at: usize, n: u64) -> usize
-    ensures { λ r. ⌜ Put (now (out .entry)) at (simpleOf n) (now (out .exit)) r ⌝ }
+    ensures { λ r. ⌜ Put (now (out .entry)) (now (out .exit)) at r (simpleOf n) ⌝ }
 {
     match n {
         20 => put(out, at, b"false"),
@@ -107,7 +107,7 @@ fn simple(out: &mut [u8], at: usize, n: u64) -> usize
 }
 
 fn literal(out: &mut [u8], at: usize, l: items::Literal) -> usize
-    ensures { λ r. ⌜ Put (now (out .entry)) at (literalOf l) (now (out .exit)) r ⌝ }
+    ensures { λ r. ⌜ Put (now (out .entry)) (now (out .exit)) at r (literalOf l) ⌝ }
 {
     match l {
         items::Literal::Unsigned(n) => numbered(out, at, b"unsigned ", n),
@@ -122,7 +122,7 @@ fn literal(out: &mut [u8], at: usize, l: items::Literal) -> usize
 }
 
 fn container(out: &mut [u8], at: usize, c: items::Container) -> usize
-    ensures { λ r. ⌜ Put (now (out .entry)) at (containerOf c) (now (out .exit)) r ⌝ }
+    ensures { λ r. ⌜ Put (now (out .entry)) (now (out .exit)) at r (containerOf c) ⌝ }
 {
     match c {
         items::Container::Array(n) => numbered(out, at, b"array ", n),
@@ -132,7 +132,7 @@ fn container(out: &mut [u8], at: usize, c: items::Container) -> usize
 
 // An item's kind and its data.
 pub fn kind(out: &mut [u8], at: usize, k: items::Kind) -> usize
-    ensures { λ r. ⌜ Put (now (out .entry)) at (kindOf k) (now (out .exit)) r ⌝ }
+    ensures { λ r. ⌜ Put (now (out .entry)) (now (out .exit)) at r (kindOf k) ⌝ }
 {
     match k {
         items::Kind::Literal(l) => literal(out, at, l),
@@ -143,7 +143,7 @@ pub fn kind(out: &mut [u8], at: usize, k: items::Kind) -> usize
 
 // A number and a space.
 pub fn field(out: &mut [u8], at: usize, n: u64) -> usize
-    ensures { λ r. ⌜ Put (now (out .entry)) at (fieldOf n) (now (out .exit)) r ⌝ }
+    ensures { λ r. ⌜ Put (now (out .entry)) (now (out .exit)) at r (fieldOf n) ⌝ }
 {
     let p = decimal(out, at, n);
     put_byte(out, p, b' ')
@@ -151,7 +151,7 @@ pub fn field(out: &mut [u8], at: usize, n: u64) -> usize
 
 // The numbers of an item's line.
 fn numbers(out: &mut [u8], at: usize, k: usize, x: items::Record) -> usize
-    ensures { λ r. ⌜ Put (now (out .entry)) at (numbersOf k x) (now (out .exit)) r ⌝ }
+    ensures { λ r. ⌜ Put (now (out .entry)) (now (out .exit)) at r (numbersOf k x) ⌝ }
 {
     let a = field(out, at, k as u64);
     let b = field(out, a, x.first as u64);
@@ -162,7 +162,7 @@ fn numbers(out: &mut [u8], at: usize, k: usize, x: items::Record) -> usize
 // An item's line: its number, first byte, byte after, containers around, kind. The indent stands before the kind, once for each
 // container around.
 pub fn item(out: &mut [u8], at: usize, k: usize, x: items::Record, indent: &[u8]) -> usize
-    ensures { λ r. ⌜ Put (now (out .entry)) at (lineOf k x (now (indent .entry))) (now (out .exit)) r ⌝ }
+    ensures { λ r. ⌜ Put (now (out .entry)) (now (out .exit)) at r (lineOf k x (now (indent .entry))) ⌝ }
 {
     let a = numbers(out, at, k, x);
     let b = repeat(out, a, indent, x.around);
@@ -173,7 +173,7 @@ pub fn item(out: &mut [u8], at: usize, k: usize, x: items::Record, indent: &[u8]
 
 // The line of a refusal.
 pub fn refused(out: &mut [u8], at: usize, number: u64, place: usize) -> usize
-    ensures { λ r. ⌜ Put (now (out .entry)) at (refusedOf number place) (now (out .exit)) r ⌝ }
+    ensures { λ r. ⌜ Put (now (out .entry)) (now (out .exit)) at r (refusedOf number place) ⌝ }
 {
     let a = put(out, at, b"refused ");
     let b = field(out, a, number);
@@ -183,7 +183,7 @@ pub fn refused(out: &mut [u8], at: usize, number: u64, place: usize) -> usize
 
 // The line of an acceptance.
 pub fn accepted(out: &mut [u8], at: usize, count: usize) -> usize
-    ensures { λ r. ⌜ Put (now (out .entry)) at (acceptedOf count) (now (out .exit)) r ⌝ }
+    ensures { λ r. ⌜ Put (now (out .entry)) (now (out .exit)) at r (acceptedOf count) ⌝ }
 {
     let a = numbered(out, at, b"accepted ", count as u64);
     put_byte(out, a, b'\n')
@@ -241,7 +241,7 @@ fn find(s: &[u8], single: bool, k: usize) -> items::Found
 }
 
 fn item_line(out: &mut [u8], at: usize, s: &[u8], single: bool, k: usize, indent: &[u8]) -> usize
-    ensures { λ r. ⌜ Put (now (out .entry)) (freshOf at (length (now (out .entry)))) (foundLine k (now (indent .entry)) (foundOf single (now (s .entry)) k)) (now (out .exit)) r ⌝ }
+    ensures { λ r. ⌜ Put (now (out .entry)) (now (out .exit)) (freshOf at (length (now (out .entry)))) r (foundLine k (now (indent .entry)) (foundOf single (now (s .entry)) k)) ⌝ }
 {
     let p = fresh_line(out, at);
     let f = find(s, single, k);
@@ -276,7 +276,7 @@ pub fn items(
 
 // The line of an answer.
 pub fn answer(out: &mut [u8], at: usize, a: read::Answer) -> usize
-    ensures { λ r. ⌜ Put (now (out .entry)) (freshOf at (length (now (out .entry)))) (answerLine a) (now (out .exit)) r ⌝ }
+    ensures { λ r. ⌜ Put (now (out .entry)) (now (out .exit)) (freshOf at (length (now (out .entry)))) r (answerLine a) ⌝ }
 {
     let p = fresh_line(out, at);
     match a {

@@ -1,46 +1,20 @@
--- The laws of putting, and the ways through the functions of one item's text; the premises are the facts that the code leaves.
+-- The ways through the functions of one item's text; the premises are the facts that the code leaves.
 use Prim.Native.Nat.{ℕ, zero, suc, _+_, _-_, _*_, _/_, _%_, _^_, _≤_, _<_}
 use mathlib.Core.Path.{_≡_, refl, sym, _∙_, ap}
 use mathlib.Core.Bool.{Bool, true, false, _||_, cond}
 use mathlib.Core.List.{List, [], _∷_, _++_, append-assoc, append-nil}
 use native.Mathlib.Omega.{arith}
 use native.Mathlib.Numerals.{add-one}
-use lib.ListN.{length, take, drop, set, getD, length-append, length-set}
-use lib.Seq.{sets, length-sets, take-suc, take-all}
+use lib.ListN.{length, take, getD}
+use lib.Seq.{take-suc, take-all}
 use lib.Dec.{ltb, eqb}
 use borrow.Author.Tests.{lt-ltb, le-ltb, eq-eqb, ne-eqb}
 use Rattle.ari.specs.Name.{continuesName}
 use Rattle.text.specs.Chars.{ascii, digits, decimal, integer, hex, hexes, bare, escape, each, textString, byteString, simpleText, literalText, nameText}
 use Rattle.text.specs.Text.{names, nameIn, typeName}
-use Rattle.spell.specs.Put.{Put, headOf}
-
-pub put-nothing : (room : List ℕ) (at : ℕ) → Put room room at at []
-put-nothing room at = record { size = refl; told = λ h. (omega arith, refl) }
-
-sets-append : (l : List ℕ) (i : ℕ) (xs ys : List ℕ) → sets l i (xs ++ ys) ≡ sets (sets l i xs) (i + length xs) ys
-sets-append l i [] ys = let e : i + 0 ≡ i = omega arith in rw e
-sets-append l i (x ∷ xs) ys =
-    let e : i + suc (length xs) ≡ suc i + length xs = omega arith in
-    rw e (sets-append (set l i x) (suc i) xs ys)
-
-pub put-both : {a b c : List ℕ} {at q r : ℕ} {u v : List ℕ} → Put a b at q u → Put b c q r v → Put a c at r (u ++ v)
-put-both {a} {b} {c} {at} {q} {r} {u} {v} p s = record { size = s .size ∙ p .size; told = both }
-  where
-    both : at + length (u ++ v) ≤ length a → (r ≡ at + length (u ++ v)) × (c ≡ sets a at (u ++ v))
-    both h =
-        let l : length (u ++ v) ≡ length u + length v = length-append u v in
-        let x = p .told (omega arith) in
-        let z : length b ≡ length a = p .size in
-        let e : q ≡ at + length u = x .0 in
-        let y = s .told (omega arith) in
-        (omega (arith, y .0), y .1 ∙ rw (e, x .1) (sym (sets-append a at u v)))
-
--- one byte
-pub put-byte : (room : List ℕ) (at x : ℕ) → at < length room → Put room (set room at x) at (at + 1) (x ∷ [])
-put-byte room at x h = record { size = length-set room at x; told = λ g. (refl, refl) }
-
-pub put-full : (room : List ℕ) (at x : ℕ) → length room ≤ at → Put room room at at (x ∷ [])
-put-full room at x h = record { size = refl; told = λ g. absurd (omega arith) }
+use Rattle.cbor.specs.Put.{Put}
+use Rattle.cbor.proofs.Putting.{put-nothing, put-byte, put-full, put-size, put-both, put-turn, put-whole}
+use Rattle.spell.specs.Head.{headOf}
 
 -- a byte of a text after those before it
 one-more : (s : List ℕ) (i : ℕ) → i < length s → take (i + 1) s ≡ take i s ++ (getD s i 0 ∷ [])
@@ -48,12 +22,6 @@ one-more s i h = rw (add-one i) (take-suc s i 0 h)
 
 pub all-begin : (room s : List ℕ) (at : ℕ) → Put room room at at (take 0 s)
 all-begin room s at = put-nothing room at
-
-pub all-on : {a b c : List ℕ} {at q r : ℕ} (s : List ℕ) (i : ℕ) → Put a b at q (take i s) → i < length s → Put b c q r (getD s i 0 ∷ []) → Put a c at r (take (i + 1) s)
-all-on s i p h w = rw (one-more s i h) (put-both p w)
-
-pub all-end : {a b : List ℕ} {at r : ℕ} (s : List ℕ) (i : ℕ) → Put a b at r (take i s) → length s ≤ i → Put a b at r s
-all-end s i p h = rw (take-all i s h) at p
 
 -- each byte in its own spelling
 each-append : (f : ℕ → List ℕ) (u v : List ℕ) → each f (u ++ v) ≡ each f u ++ each f v
@@ -245,4 +213,4 @@ untyped room at t a b c d e f g h i j k l m n o p q r s =
 pub down : (f t : ℕ) → 1 ≤ f → f ≡ t → f - 1 < t
 down f t h e = omega arith
 
-pub ruleset puts = (put-byte, put-full, all-begin, all-on, all-end, each-begin, each-on, each-end, few-digits, fewer, tenth-fits, more-digits, as-decimal, low-hex, high-hex, two-hexes, bare-name, bare-other, stands-bare, stands-escaped, a-text, some-bytes, negative-most, a-negative, below-zero, from-zero, is-false, is-true, is-null, is-undefined, literal-unsigned, literal-negative, literal-bytes, literal-text, literal-simple, name-text, name-number, no-literal, untyped)
+pub ruleset puts = (put-byte, put-full, put-size, all-begin, put-turn, put-whole, each-begin, each-on, each-end, few-digits, fewer, tenth-fits, more-digits, as-decimal, low-hex, high-hex, two-hexes, bare-name, bare-other, stands-bare, stands-escaped, a-text, some-bytes, negative-most, a-negative, below-zero, from-zero, is-false, is-true, is-null, is-undefined, literal-unsigned, literal-negative, literal-bytes, literal-text, literal-simple, name-text, name-number, no-literal, untyped)

@@ -1,2 +1,2 @@
-pub mod Put
+pub mod Head
 pub mod Ways

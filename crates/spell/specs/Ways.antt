@@ -7,7 +7,7 @@ use lib.Dec.{eqb}
 use Rattle.cbor.specs.Head.{isContainer}
 use Rattle.text.specs.Chars.{ascii, literalText, nameText}
 use Rattle.text.specs.Text.{typeName}
-use Rattle.spell.specs.Put.{headOf}
+use Rattle.spell.specs.Head.{headOf}
 
 -- the way of each slot, by its number
 abbrev pub ways : List ℕ

@@ -6,7 +6,7 @@ ghost use lib.ListN.{length, drop, getD};
 ghost use Rattle.cbor.specs.Byte.{be};
 ghost use Rattle.cbor.specs.Head.{leadBytes};
 ghost use Rattle.slots.specs.Code.{slotOf};
-ghost use Rattle.spell.specs.Put.{Put};
+ghost use Rattle.cbor.specs.Put.{Put};
 ghost use Rattle.spell.specs.Ways.{wayAt, afterBy};
 ghost use Rattle.text.specs.Parse.{ends, starts, push, number, unhex, any, unescape, unhexes, leadOf, integerOf, literalOf, nameOf, typeOf, typeNumber, startsNumber, past, opened, commas, count, parts, takeWord, takeReference, takeAri, takeGroup, takeAt};
 ghost use Rattle.text.specs.Text.{names};

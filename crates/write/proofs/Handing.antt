@@ -21,7 +21,8 @@ use Rattle.text.specs.Text.{texts, anAriDue, isRelative, isSet, textOf}
 use Rattle.text.specs.Answer.{Spelled, Output, refused, output, writeText, lent}
 use Rattle.text.proofs.Outer.{inward, texted}
 use Rattle.text.proofs.Round.{write-exactly, first-short}
-use Rattle.spell.specs.Put.{Put}
+use Rattle.cbor.specs.Put.{Put}
+use Rattle.cbor.proofs.Putting.{put-size, put-end}
 use Rattle.write.specs.declared.Spelling.{Spelling}
 use Rattle.write.specs.declared.Spelling.the-variants.{Has, None}
 use Rattle.write.specs.declared.Written.{Written}
@@ -59,16 +60,13 @@ module _ (b : List ℕ) (count : ℕ) (room : List ℕ) where
   no-room-kept g = rw (lt-ltb (length room) (length b) g)
 
   module _ (g : length b ≤ length room) {r : ℕ} {room′ : List ℕ} (p : Put room room′ 0 r b) where
-    put-told : (r ≡ 0 + length b) × (room′ ≡ sets room 0 b)
-    put-told = p .told (omega arith)
-
     pub room-enough : Bytes r count ≡ writtenOf (lent (length room) (output b count))
-    room-enough = rw (le-ltb (length room) (length b) g) (ap (λ (x : ℕ). Bytes x count) (omega (arith, put-told .0)))
+    room-enough = rw (le-ltb (length room) (length b) g) (ap (λ (x : ℕ). Bytes x count) (omega (arith, put-end p (omega arith))))
 
     pub room-filled : room′ ≡ roomAfter room (lent (length room) (output b count))
     room-filled =
         let z : 0 + length b ≡ length b = omega arith in
-        let y : room′ ≡ b ++ drop (length b) room = put-told .1 ∙ sets-eq b room 0 (omega arith) ∙ rw z in
+        let y : room′ ≡ b ++ drop (length b) room = p .bytes ∙ sets-eq b room 0 (omega arith) ∙ rw z in
         rw (le-ltb (length room) (length b) g) y
 
 -- an ARI with a text form may stand inside another
@@ -111,17 +109,17 @@ module _ (b : List ℕ) (bs : all isByte b ≡ true) {f : Spelling} (e : f ≡ s
     short : length t ≤ 32768
     short = first-short t b n bs (the-text .is-written)
 
-    told : (r ≡ 0 + length t) × (room′ ≡ sets room 0 t)
-    told = put-it .told (omega (arith, short))
+    its-end : r ≡ 0 + length t
+    its-end = put-end put-it (omega (arith, short))
 
     pub in-scratch : r ≤ length room′
-    in-scratch = omega (arith, told .0, short, put-it .size)
+    in-scratch = omega (arith, its-end, short, put-size put-it)
 
     taken : take r room′ ≡ t
     taken =
-        let z : r ≡ length t = omega (arith, told .0) in
+        let z : r ≡ length t = omega (arith, its-end) in
         let y : 0 + length t ≡ length t = omega arith in
-        let c : room′ ≡ t ++ drop (length t) room = told .1 ∙ sets-eq t room 0 (omega (arith, short)) ∙ rw y in
+        let c : room′ ≡ t ++ drop (length t) room = put-it .bytes ∙ sets-eq t room 0 (omega (arith, short)) ∙ rw y in
         rw (z, c) (take-append-seam t (drop (length t) room))
 
     pub handed-is : output (take (r - 0) room′) n ≡ writeText firstLimits b

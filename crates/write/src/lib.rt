@@ -11,7 +11,7 @@ ghost use Rattle.slots.specs.Code.{slotOf};
 ghost use Rattle.slots.proofs.Right.{IsSlot};
 ghost use Rattle.read.specs.Steps.{part};
 ghost use Rattle.read.specs.Walks.{insideLevel};
-ghost use Rattle.spell.specs.Put.{Put};
+ghost use Rattle.cbor.specs.Put.{Put};
 ghost use Rattle.spell.specs.Ways.{wayAt, beforeBy, afterBy};
 ghost use Rattle.write.specs.Said.{ItemAt, Said};
 ghost use lib.ListN.{take};

@@ -1,6 +1,6 @@
 -- `show::item` meets its contract: text after text.
 use borrow.Author.Needs.{needs}
-use Rattle.show.proofs.Putting.{put-both}
+use Rattle.cbor.proofs.Putting.{put-both}
 use Rattle.show.proofs.item.Statement.{statement}
 use Rattle.show.proofs.item.Tie as tie
 

@@ -2,13 +2,13 @@
 use Prim.Native.Nat.{_-_, _≤_}
 use borrow.Author.Needs.{needs}
 use lib.ListN.{length, take}
-use Rattle.show.specs.Put.{Put}
+use Rattle.cbor.specs.Put.{Put}
 use Rattle.show.proofs.Putting.{putting}
 use Rattle.show.proofs.put.Statement.{statement}
 use Rattle.show.proofs.put.Tie as tie
 
 abbrev Inv-loop : tie.InvT-loop
-Inv-loop out₀ at text p₀ i₀ out p i = (i ≤ length text) × Put out₀ at (take i text) out p
+Inv-loop out₀ at text p₀ i₀ out p i = (i ≤ length text) × Put out₀ out at p (take i text)
 
 abbrev μ-loop : tie.MeasureT-loop
 μ-loop out₀ at text p₀ i₀ out p i = length text - i

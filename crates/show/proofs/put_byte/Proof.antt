@@ -1,6 +1,6 @@
 -- `show::put_byte` meets its contract: where there is no room nothing is stored.
 use borrow.Author.Needs.{needs}
-use Rattle.show.proofs.Putting.{put-full}
+use Rattle.cbor.proofs.Putting.{put-full}
 use Rattle.show.proofs.put_byte.Statement.{statement}
 use Rattle.show.proofs.put_byte.Tie as tie
 

@@ -1,6 +1,6 @@
 -- `show::refused` meets its contract: text after text.
 use borrow.Author.Needs.{needs}
-use Rattle.show.proofs.Putting.{putting}
+use Rattle.cbor.proofs.Putting.{put-both}
 use Rattle.show.proofs.refused.Statement.{statement}
 use Rattle.show.proofs.refused.Tie as tie
 
@@ -14,4 +14,4 @@ refused-spec =
     (λ c κs. search needs)
     (λ c κs. search needs)
     (λ c. search needs)
-    (λ c. search (putting, needs)))
+    (λ c. search (put-both, needs)))

@@ -1,14 +1,14 @@
 -- `show::repeat` meets its contract. The invariant: so many copies are written.
 use Prim.Native.Nat.{_-_, _≤_}
 use borrow.Author.Needs.{needs}
-use Rattle.show.specs.Put.{Put}
+use Rattle.cbor.specs.Put.{Put}
 use Rattle.show.specs.Texts.{repeated}
 use Rattle.show.proofs.Putting.{putting}
 use Rattle.show.proofs.repeat.Statement.{statement}
 use Rattle.show.proofs.repeat.Tie as tie
 
 abbrev Inv-loop : tie.InvT-loop
-Inv-loop out₀ at text times p₀ i₀ out p i = (i ≤ times) × Put out₀ at (repeated i text) out p
+Inv-loop out₀ at text times p₀ i₀ out p i = (i ≤ times) × Put out₀ out at p (repeated i text)
 
 abbrev μ-loop : tie.MeasureT-loop
 μ-loop out₀ at text times p₀ i₀ out p i = times - i

@@ -6,6 +6,7 @@ use Rattle.ari.specs.Table.{due}
 use Rattle.slots.specs.Code.{slotOf}
 use Rattle.slots.proofs.Right.{IsSlot}
 use Rattle.read.proofs.Bounds.{opens, less-deep, inner-slot}
+use Rattle.cbor.proofs.Putting.{put-size}
 use Rattle.write.proofs.Saying.{Leads, begins, again, next-slotted, falls-on, taken-on, taken-order, taken-in, saying}
 use borrow.Fn.Kinds.{In}
 use borrow.Fn.PlainCycle.{Measures, is, falls, and}
@@ -93,7 +94,7 @@ say-level-loop-again t c =
       again _ _ _ _ _ _ _ _ _ _ _ (l .0) y e (l .1) n p m z q,
       next-slotted _ _ _ _ _ 0 y e (l .1) n z,
       m .within,
-      q .size ∙ c .before .before .before .before .before .before .before .before .before .before .say-inside .kept .1 .1 .1 .1 .1 .1 .0 ∙ p .size ∙ l .3,
+      put-size q ∙ c .before .before .before .before .before .before .before .before .before .before .say-inside .kept .1 .1 .1 .1 .1 .1 .0 ∙ put-size p ∙ l .3,
     )
 
 pub +say-inside+say-level-spec : {M : Type 1} → statement M
