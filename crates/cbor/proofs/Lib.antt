@@ -6,4 +6,3 @@ pub mod HeadWays
 pub mod TextWays
 pub mod OrderWays
 pub mod Computed
-pub mod Putting

@@ -2,4 +2,3 @@ pub mod Byte
 pub mod Head
 pub mod Utf8
 pub mod Answer
-pub mod Put

@@ -8,9 +8,9 @@ use borrow.Author.Tests.{le-leb, lt-leb, ne-eqb}
 use Rattle.cbor.specs.declared.Head.{Head}
 use Rattle.cbor.specs.declared.Head.the-variants.{Bad, Good}
 use Rattle.cbor.specs.Answer.{headAt}
-use Rattle.cbor.specs.Put.{Put}
+use Rattle.room.specs.Put.{Put}
 use Rattle.show.specs.Texts.{fieldOf}
-use Rattle.cbor.proofs.Putting.{put-nothing, put-both}
+use Rattle.room.proofs.Putting.{put-nothing, put-both}
 use Rattle.grants.specs.Bytes.{wordAt}
 use Rattle.entries.specs.Words.{integerOf}
 use Rattle.entries.specs.Lines.{nameOf, spaceOf, lineOf, entryOf}

@@ -1,6 +1,6 @@
 // What the programs print of bytes: big-endian numbers, and the entries of a listing. Written as the crate `show` writes.
 ghost use mathlib.Core.Path.{_≡_};
-ghost use Rattle.cbor.specs.Put.{Put};
+ghost use Rattle.room.specs.Put.{Put};
 ghost use Rattle.entries.specs.Words.{integerOf};
 ghost use Rattle.entries.specs.Lines.{nameOf, spaceOf, lineOf, entryOf};
 ghost use Rattle.cbor.specs.Answer.{headAt};
@@ -31,7 +31,7 @@ fn name(out: &mut [u8], at: usize, s: &[u8], place: usize) -> usize
         return at;
     }
     let end = next + size;
-    show::put(out, at, &s[next..end])
+    room::put_all(out, at, &s[next..end])
 }
 
 // A namespace by an entry's kind and word: a number, a name as its text, a relative one as a full stop.
@@ -42,7 +42,7 @@ fn namespace(out: &mut [u8], at: usize, s: &[u8], kind: u64, w: u64) -> usize
         return name(out, at, s, w as usize);
     }
     if kind == 2 {
-        return show::put_byte(out, at, b'.');
+        return room::put(out, at, b'.');
     }
     integer(out, at, w)
 }
@@ -54,7 +54,7 @@ fn line(out: &mut [u8], at: usize, s: &[u8], ends: u64, kind: u64, w: u64) -> us
     let a = show::field(out, at, ends / 4294967296);
     let b = show::field(out, a, ends % 4294967296);
     let c = namespace(out, b, s, kind, w);
-    show::put_byte(out, c, b'\n')
+    room::put(out, c, b'\n')
 }
 
 // An entry of a listing, its 24 bytes from a place on: first byte, byte after, namespace, and a line end.

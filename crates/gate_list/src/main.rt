@@ -15,7 +15,7 @@ fn lines(out: &mut [u8], at: usize, s: &[u8], room: &[u8], listed: usize) -> usi
 fn counted(out: &mut [u8], at: usize, word: &[u8], n: usize) -> usize {
     let a = show::fresh_line(out, at);
     let b = show::numbered(out, a, word, n as u64);
-    show::put_byte(out, b, b'\n')
+    room::put(out, b, b'\n')
 }
 
 fn show_listing(s: &[u8], out: &mut [u8], room: &mut [u8]) {

@@ -3,7 +3,7 @@
 // granted, or the message's refusal.
 
 fn show_no(s: &[u8], k: usize, listing: &mut [u8], out: &mut [u8]) {
-    let a = show::put(out, 0, b"no ");
+    let a = room::put_all(out, 0, b"no ");
     let b = show::field(out, a, k as u64);
     match list::list_message(s, listing) {
         list::Listed::Entries {
@@ -25,7 +25,7 @@ fn show_no(s: &[u8], k: usize, listing: &mut [u8], out: &mut [u8]) {
 fn judge(s: &[u8], table: &[u8], subscriber: u64, listing: &mut [u8], out: &mut [u8]) {
     match list::release(s, table, subscriber) {
         list::Released::Yes => {
-            let a = show::put(out, 0, b"yes\n");
+            let a = room::put_all(out, 0, b"yes\n");
             show::flush(out, a);
         }
         list::Released::No(k) => show_no(s, k, listing, out),

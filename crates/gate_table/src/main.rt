@@ -67,17 +67,17 @@ fn put_row(out: &mut [u8], at: usize, word: &[u8], t: &[u8], row: u64) -> usize 
 // `row 3: subscriber 9 holds private namespace -20 of row 1: subscriber 7`
 fn put_clash(out: &mut [u8], at: usize, t: &[u8], row: u64) -> usize {
     let a = put_row(out, at, b"row ", t, row);
-    let b = show::put(out, a, b" holds private namespace ");
+    let b = room::put_all(out, a, b" holds private namespace ");
     let c = entries::integer(out, b, namespace_of(t, row));
     let d = put_row(out, c, b" of row ", t, partner(t, row));
-    show::put_byte(out, d, b'\n')
+    room::put(out, d, b'\n')
 }
 
 fn judge(t: &[u8], out: &mut [u8]) {
     match grants::check_table(t) {
         grants::Verdict::Passes => {
             let a = show::numbered(out, 0, b"passes ", (t.len() / 16) as u64);
-            let b = show::put_byte(out, a, b'\n');
+            let b = room::put(out, a, b'\n');
             show::flush(out, b);
         }
         grants::Verdict::Refused(row) => {

@@ -102,7 +102,7 @@ fn refused_line(out: &mut [u8], at: usize, number: u64, place: usize) -> usize {
 fn started(out: &mut [u8], at: usize, word: &[u8], count: usize) -> usize {
     let p = show::fresh_line(out, at);
     let q = show::numbered(out, p, word, count as u64);
-    show::put_byte(out, q, b' ')
+    room::put(out, q, b' ')
 }
 
 fn wide(x: u8) -> u64 {
@@ -128,7 +128,7 @@ fn write_in(s: &[u8], room: &mut [u8], out: &mut [u8], at: usize) -> usize {
             let p = started(out, at, b"text ", count);
             show::flush(out, p);
             show::flush(room, length);
-            show::put_byte(out, 0, b'\n')
+            room::put(out, 0, b'\n')
         }
         write::Written::Refused { number, place } => refused_line(out, at, number, place),
     }
@@ -139,7 +139,7 @@ fn read_in(t: &[u8], room: &mut [u8], out: &mut [u8], at: usize) -> usize {
         write::Written::Bytes { length, count } => {
             let p = started(out, at, b"bytes ", count);
             let q = digits_of(room, length, out, p);
-            show::put_byte(out, q, b'\n')
+            room::put(out, q, b'\n')
         }
         write::Written::Refused { number, place } => refused_line(out, at, number, place),
     }
@@ -158,7 +158,7 @@ fn read_input(t: &[u8], out: &mut [u8], at: usize) -> usize {
 fn bad_line(out: &mut [u8], at: usize, line: u64) -> usize {
     let p = show::fresh_line(out, at);
     let q = show::numbered(out, p, b"bad line ", line);
-    show::put_byte(out, q, b'\n')
+    room::put(out, q, b'\n')
 }
 
 fn answer_call(call: Call, s: &[u8], line: u64, out: &mut [u8], at: usize) -> usize {

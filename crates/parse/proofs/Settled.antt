@@ -18,8 +18,8 @@ use Rattle.text.specs.Parse.{starts, same, parse, level, candidate}
 use Rattle.text.specs.Answer.{Output, refused, output, written, writeText, checked, readText, lent}
 use Rattle.text.proofs.Round.{same-is, same-self, write-exactly, read-exactly, read-no-text}
 use Rattle.ari.specs.Table.{max64}
-use Rattle.cbor.specs.Put.{Put}
-use Rattle.cbor.proofs.Putting.{put-size, put-end}
+use Rattle.room.specs.Put.{Put}
+use Rattle.room.proofs.Putting.{put-size, put-end}
 use Rattle.write.specs.declared.Spelling.{Spelling}
 use Rattle.write.specs.declared.Spelling.the-variants.{Has, None}
 use Rattle.write.specs.declared.Written.{Written}

@@ -18,9 +18,9 @@ use Rattle.slots.specs.declared.Next.the-variants.{Done, Due}
 use Rattle.slots.specs.Code.{slotOf, levelOf, wordOf, field, nextCode, insideCode}
 use Rattle.slots.proofs.Right.{IsSlot, Stands, Slotted, next-stands, adds-type, inside-right}
 use Rattle.read.specs.Walks.{insideLevel}
-use Rattle.cbor.specs.Put.{Put}
+use Rattle.room.specs.Put.{Put}
 use Rattle.spell.specs.Ways.{wayAt, afterBy}
-use Rattle.cbor.proofs.Putting.{put-nothing, put-out, put-other, put-size, put-end, put-over, put-both}
+use Rattle.room.proofs.Putting.{put-nothing, put-out, put-other, put-size, put-end, put-over, put-both}
 use Rattle.spell.proofs.Spelled.{isDue, after-is}
 use Rattle.text.specs.Text.{spell}
 use Rattle.text.specs.Parse.{starts, startsBy, Taken, takeAt, Run, nothing, level, parse}

@@ -6,7 +6,7 @@ use mathlib.Core.Bool.{cond}
 use mathlib.Core.List.{List}
 use lib.ListN.{length, drop}
 use Rattle.ari.specs.Items.{encode}
-use Rattle.cbor.specs.Put.{Put}
+use Rattle.room.specs.Put.{Put}
 use Rattle.ari.specs.Limits.{firstLimits}
 use Rattle.text.specs.Parse.{starts, Run, candidate}
 use Rattle.parse.specs.declared.Pos.{Pos}

@@ -9,7 +9,7 @@ ghost use Rattle.ari.specs.Items.{encode};
 ghost use Rattle.slots.specs.Code.{slotOf};
 ghost use Rattle.slots.proofs.Right.{IsSlot};
 ghost use Rattle.read.specs.Walks.{insideLevel};
-ghost use Rattle.cbor.specs.Put.{Put};
+ghost use Rattle.room.specs.Put.{Put};
 ghost use Rattle.text.specs.Parse.{same, level, parse, candidate};
 ghost use Rattle.text.specs.Answer.{refused, output, readText, lent};
 ghost use Rattle.write.specs.Written.{writtenOf, roomAfter};

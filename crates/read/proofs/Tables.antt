@@ -7,7 +7,7 @@ use mathlib.Core.List.{List, [], _∷_, _++_, map}
 use native.Mathlib.Omega.{arith}
 use lib.ListN.{length, set, length-append, length-map}
 use lib.Seq.{sets, set-comm}
-use Rattle.cbor.proofs.Putting.{sets-append}
+use Rattle.room.proofs.Putting.{sets-append}
 use Rattle.ari.specs.Table.{Level, done, due, rule, members}
 use Rattle.ari.specs.Reader.{end, push}
 use Rattle.ari.specs.Items.{Items, none, item, encode, heads, Spot, spots, insideAt, spotAt}

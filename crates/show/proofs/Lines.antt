@@ -15,10 +15,10 @@ use Rattle.read.specs.declared.Answer.{Answer}
 use Rattle.items.specs.declared.Found.{Found}
 use Rattle.items.specs.declared.Found.the-variants as found
 use Rattle.items.specs.declared.Record.{Record}
-use Rattle.cbor.specs.Put.{Put}
+use Rattle.room.specs.Put.{Put}
 use Rattle.show.specs.Texts.{lineOf}
 use Rattle.show.specs.Listing.{freshOf, inputOf, checkOf, foundOf, foundLine, answerLine, Listed, none, more}
-use Rattle.cbor.proofs.Putting.{put-nothing}
+use Rattle.room.proofs.Putting.{put-nothing}
 
 module _ {i : Bool} (s : List ℕ) where
   pub check-single : {r : Answer} → i ≡ true → r ≡ answerOf (read firstLimits single s) → r ≡ checkOf i s

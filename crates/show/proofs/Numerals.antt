@@ -9,7 +9,7 @@ use lib.ListN.{take}
 use lib.Dec.{ltb, leb, lit≤}
 use borrow.Author.Tests.{lt-ltb, le-ltb, le-leb, leb-true, leb-false}
 use Rattle.io.specs.Digits.{digits, Fewest, glyph}
-use Rattle.cbor.specs.Put.{Put}
+use Rattle.room.specs.Put.{Put}
 use Rattle.show.specs.Texts.{numeral, decimalOf, hexOf, negativeOf}
 
 pub numeral-digits : (b f k least n : ℕ) → 1 < b → 1 ≤ k → k ≤ f → Fewest b least n k → digits b k n ≡ numeral b f least n

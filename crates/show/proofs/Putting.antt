@@ -8,8 +8,8 @@ use native.Mathlib.Numerals.{add-one}
 use Rattle.items.specs.declared.Literal.{Literal}
 use Rattle.items.specs.declared.Container.{Container}
 use Rattle.items.specs.declared.Kind.{Kind}
-use Rattle.cbor.specs.Put.{Put}
-use Rattle.cbor.proofs.Putting.{put-nothing, put-both, put-turn, put-whole, put-size}
+use Rattle.room.specs.Put.{Put}
+use Rattle.room.proofs.Putting.{put-nothing, put-both, put-turn, put-whole, put-size}
 use Rattle.show.specs.Texts.{repeated, decimalOf, simpleOf, literalOf, containerOf, kindOf}
 
 pub put-then : {xs ys zs v : List ℕ} {b at p q : ℕ} → Put xs ys at p (b ∷ []) → Put ys zs p q v → Put xs zs at q (b ∷ v)

@@ -12,7 +12,7 @@ use Rattle.read.specs.declared.Answer.{Answer}
 use Rattle.read.specs.declared.Answer.the-variants.{Accepted, Refused}
 use Rattle.items.specs.declared.Found.{Found}
 use Rattle.items.specs.declared.Found.the-variants as found
-use Rattle.cbor.specs.Put.{Put}
+use Rattle.room.specs.Put.{Put}
 use Rattle.show.specs.Texts.{lineOf, refusedOf, acceptedOf}
 
 -- where the next line starts: 256 bytes are kept for it

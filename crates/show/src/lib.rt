@@ -4,31 +4,9 @@ ghost use mathlib.Core.Path.{_≡_};
 ghost use mathlib.Core.List.{[], _∷_, _++_};
 ghost use Prim.Native.Nat.{_-_, min, max};
 ghost use lib.ListN.{length};
-ghost use Rattle.cbor.specs.Put.{Put};
+ghost use Rattle.room.specs.Put.{Put};
 ghost use Rattle.show.specs.Texts.{repeated, decimalOf, hexOf, negativeOf, simpleOf, literalOf, containerOf, kindOf, numbersOf, lineOf, refusedOf, acceptedOf, fieldOf};
 ghost use Rattle.show.specs.Listing.{freshOf, checkOf, foundOf, foundLine, answerLine, Listed};
-
-pub fn put_byte(out: &mut [u8], at: usize, b: u8) -> usize
-    ensures { λ r. ⌜ Put (now (out .entry)) (now (out .exit)) at r (b ∷ []) ⌝ }
-{
-    if at < out.len() {
-        out[at] = b;
-        return at + 1;
-    }
-    at
-}
-
-pub fn put(out: &mut [u8], at: usize, text: &[u8]) -> usize
-    ensures { λ r. ⌜ Put (now (out .entry)) (now (out .exit)) at r (now (text .entry)) ⌝ }
-{
-    let mut p = at;
-    let mut i = 0;
-    while i < text.len() {
-        p = put_byte(out, p, text[i]);
-        i += 1;
-    }
-    p
-}
 
 // A text, so many times.
 fn repeat(out: &mut [u8], at: usize, text: &[u8], times: usize) -> usize
@@ -37,7 +15,7 @@ fn repeat(out: &mut [u8], at: usize, text: &[u8], times: usize) -> usize
     let mut p = at;
     let mut i = 0;
     while i < times {
-        p = put(out, p, text);
+        p = room::put_all(out, p, text);
         i += 1;
     }
     p
@@ -48,7 +26,7 @@ pub fn decimal(out: &mut [u8], at: usize, n: u64) -> usize
 {
     let mut digits = [0u8; 20];
     let k = io::decimal(n, &mut digits);
-    put(out, at, &digits[..k])
+    room::put_all(out, at, &digits[..k])
 }
 
 // Lower case, zeros in front up to the width, from 1 to 16.
@@ -57,7 +35,7 @@ pub fn hex(out: &mut [u8], at: usize, n: u64, width: usize) -> usize
 {
     let mut digits = [0u8; 16];
     let k = io::hex(n, width, &mut digits);
-    put(out, at, &digits[..k])
+    room::put_all(out, at, &digits[..k])
 }
 
 // The number -1 - n.
@@ -65,9 +43,9 @@ pub fn negative(out: &mut [u8], at: usize, n: u64) -> usize
     ensures { λ r. ⌜ Put (now (out .entry)) (now (out .exit)) at r (negativeOf n) ⌝ }
 {
     if n == u64::MAX {
-        return put(out, at, b"-18446744073709551616");
+        return room::put_all(out, at, b"-18446744073709551616");
     }
-    let p = put_byte(out, at, b'-');
+    let p = room::put(out, at, b'-');
     decimal(out, p, n + 1)
 }
 
@@ -75,7 +53,7 @@ pub fn negative(out: &mut [u8], at: usize, n: u64) -> usize
 pub fn numbered(out: &mut [u8], at: usize, word: &[u8], n: u64) -> usize
     ensures { λ r. ⌜ Put (now (out .entry)) (now (out .exit)) at r (now (word .entry) ++ decimalOf n) ⌝ }
 {
-    let p = put(out, at, word);
+    let p = room::put_all(out, at, word);
     decimal(out, p, n)
 }
 
@@ -83,14 +61,14 @@ pub fn numbered(out: &mut [u8], at: usize, word: &[u8], n: u64) -> usize
 fn bits(out: &mut [u8], at: usize, word: &[u8], n: u64, width: usize) -> usize
     ensures { λ r. ⌜ Put (now (out .entry)) (now (out .exit)) at r (now (word .entry) ++ hexOf (min (max width 1) 16) n) ⌝ }
 {
-    let p = put(out, at, word);
+    let p = room::put_all(out, at, word);
     hex(out, p, n, width)
 }
 
 fn negated(out: &mut [u8], at: usize, word: &[u8], n: u64) -> usize
     ensures { λ r. ⌜ Put (now (out .entry)) (now (out .exit)) at r (now (word .entry) ++ negativeOf n) ⌝ }
 {
-    let p = put(out, at, word);
+    let p = room::put_all(out, at, word);
     negative(out, p, n)
 }
 
@@ -98,10 +76,10 @@ fn simple(out: &mut [u8], at: usize, n: u64) -> usize
     ensures { λ r. ⌜ Put (now (out .entry)) (now (out .exit)) at r (simpleOf n) ⌝ }
 {
     match n {
-        20 => put(out, at, b"false"),
-        21 => put(out, at, b"true"),
-        22 => put(out, at, b"null"),
-        23 => put(out, at, b"undefined"),
+        20 => room::put_all(out, at, b"false"),
+        21 => room::put_all(out, at, b"true"),
+        22 => room::put_all(out, at, b"null"),
+        23 => room::put_all(out, at, b"undefined"),
         _ => numbered(out, at, b"simple ", n),
     }
 }
@@ -146,7 +124,7 @@ pub fn field(out: &mut [u8], at: usize, n: u64) -> usize
     ensures { λ r. ⌜ Put (now (out .entry)) (now (out .exit)) at r (fieldOf n) ⌝ }
 {
     let p = decimal(out, at, n);
-    put_byte(out, p, b' ')
+    room::put(out, p, b' ')
 }
 
 // The numbers of an item's line.
@@ -168,17 +146,17 @@ pub fn item(out: &mut [u8], at: usize, k: usize, x: items::Record, indent: &[u8]
     let b = repeat(out, a, indent, x.around);
     let g = x.kind;
     let c = kind(out, b, g);
-    put_byte(out, c, b'\n')
+    room::put(out, c, b'\n')
 }
 
 // The line of a refusal.
 pub fn refused(out: &mut [u8], at: usize, number: u64, place: usize) -> usize
     ensures { λ r. ⌜ Put (now (out .entry)) (now (out .exit)) at r (refusedOf number place) ⌝ }
 {
-    let a = put(out, at, b"refused ");
+    let a = room::put_all(out, at, b"refused ");
     let b = field(out, a, number);
     let c = decimal(out, b, place as u64);
-    put_byte(out, c, b'\n')
+    room::put(out, c, b'\n')
 }
 
 // The line of an acceptance.
@@ -186,7 +164,7 @@ pub fn accepted(out: &mut [u8], at: usize, count: usize) -> usize
     ensures { λ r. ⌜ Put (now (out .entry)) (now (out .exit)) at r (acceptedOf count) ⌝ }
 {
     let a = numbered(out, at, b"accepted ", count as u64);
-    put_byte(out, a, b'\n')
+    room::put(out, a, b'\n')
 }
 
 // Writes the part of the buffer before a place to standard output.

@@ -12,16 +12,13 @@ use borrow.Author.Tests.{lt-ltb, le-ltb, eq-eqb, ne-eqb}
 use Rattle.ari.specs.Name.{continuesName}
 use Rattle.text.specs.Chars.{ascii, digits, decimal, integer, hex, hexes, bare, escape, each, textString, byteString, simpleText, literalText, nameText}
 use Rattle.text.specs.Text.{names, nameIn, typeName}
-use Rattle.cbor.specs.Put.{Put}
-use Rattle.cbor.proofs.Putting.{put-nothing, put-byte, put-full, put-size, put-both, put-turn, put-whole}
+use Rattle.room.specs.Put.{Put}
+use Rattle.room.proofs.Putting.{put-nothing, put-size, put-both}
 use Rattle.spell.specs.Head.{headOf}
 
 -- a byte of a text after those before it
 one-more : (s : List ℕ) (i : ℕ) → i < length s → take (i + 1) s ≡ take i s ++ (getD s i 0 ∷ [])
 one-more s i h = rw (add-one i) (take-suc s i 0 h)
-
-pub all-begin : (room s : List ℕ) (at : ℕ) → Put room room at at (take 0 s)
-all-begin room s at = put-nothing room at
 
 -- each byte in its own spelling
 each-append : (f : ℕ → List ℕ) (u v : List ℕ) → each f (u ++ v) ≡ each f u ++ each f v
@@ -213,4 +210,4 @@ untyped room at t a b c d e f g h i j k l m n o p q r s =
 pub down : (f t : ℕ) → 1 ≤ f → f ≡ t → f - 1 < t
 down f t h e = omega arith
 
-pub ruleset puts = (put-byte, put-full, put-size, all-begin, put-turn, put-whole, each-begin, each-on, each-end, few-digits, fewer, tenth-fits, more-digits, as-decimal, low-hex, high-hex, two-hexes, bare-name, bare-other, stands-bare, stands-escaped, a-text, some-bytes, negative-most, a-negative, below-zero, from-zero, is-false, is-true, is-null, is-undefined, literal-unsigned, literal-negative, literal-bytes, literal-text, literal-simple, name-text, name-number, no-literal, untyped)
+pub ruleset puts = (put-size, each-begin, each-on, each-end, few-digits, fewer, tenth-fits, more-digits, as-decimal, low-hex, high-hex, two-hexes, bare-name, bare-other, stands-bare, stands-escaped, a-text, some-bytes, negative-most, a-negative, below-zero, from-zero, is-false, is-true, is-null, is-undefined, literal-unsigned, literal-negative, literal-bytes, literal-text, literal-simple, name-text, name-number, no-literal, untyped)

@@ -13,10 +13,10 @@ use Rattle.ari.specs.Table.{Slot, version, ari, type, value, namespace, objectN
 use Rattle.slots.specs.Code.{slots, slotOf}
 use Rattle.text.specs.Chars.{ascii, literalText, nameText}
 use Rattle.text.specs.Text.{typeName, spell}
-use Rattle.cbor.specs.Put.{Put}
+use Rattle.room.specs.Put.{Put}
 use Rattle.spell.specs.Head.{headOf}
 use Rattle.spell.specs.Ways.{ways, wayAt, ariText, opening, spaceText, beforeBy, closing, afterBy}
-use Rattle.cbor.proofs.Putting.{put-nothing, put-both}
+use Rattle.room.proofs.Putting.{put-nothing, put-both}
 
 pub no-container : (k : ℕ) → k < 4 → false ≡ isContainer k
 unfolding isContainer

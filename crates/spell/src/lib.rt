@@ -4,37 +4,13 @@ ghost use mathlib.Core.Bool.{cond};
 ghost use mathlib.Core.List.{[], _∷_};
 ghost use Prim.Native.Nat.{_+_, _<_, _≤_, _^_};
 ghost use lib.ListN.{length};
-ghost use Rattle.cbor.specs.Put.{Put};
+ghost use Rattle.room.specs.Put.{Put};
 ghost use Rattle.spell.specs.Head.{headOf};
 ghost use Rattle.text.specs.Chars.{digits, decimal, integer, hex, hexes, bare, escape, each, textString, byteString, simpleText, literalText, nameText};
 ghost use Rattle.text.specs.Text.{typeName};
 ghost use mathlib.Core.List.{_++_};
 ghost use Rattle.cbor.specs.Head.{isContainer};
 ghost use Rattle.spell.specs.Ways.{wayAt, ariText, opening, spaceText, beforeBy, closing, afterBy};
-
-// One byte.
-pub fn put(out: &mut [u8], at: usize, x: u8) -> usize
-    ensures { λ r. ⌜ Put (now (out .entry)) (now (out .exit)) at r (x ∷ []) ⌝ }
-{
-    if at < out.len() {
-        out[at] = x;
-        return at + 1;
-    }
-    at
-}
-
-// Bytes as they are.
-pub fn put_all(out: &mut [u8], at: usize, s: &[u8]) -> usize
-    ensures { λ r. ⌜ Put (now (out .entry)) (now (out .exit)) at r (now (s .entry)) ⌝ }
-{
-    let mut r = at;
-    let mut i = 0;
-    while i < s.len() {
-        r = put(out, r, s[i]);
-        i += 1;
-    }
-    r
-}
 
 fn digit(n: u64) -> u8
     requires { ⌜ n < 10 ⌝ }
@@ -49,10 +25,10 @@ fn put_digits(out: &mut [u8], at: usize, f: usize, n: u64) -> usize
     ensures { λ r. ⌜ Put (now (out .entry)) (now (out .exit)) at r (digits f n) ⌝ }
 {
     if n < 10 {
-        return put(out, at, digit(n));
+        return room::put(out, at, digit(n));
     }
     let q = put_digits(out, at, f - 1, n / 10);
-    put(out, q, digit(n % 10))
+    room::put(out, q, digit(n % 10))
 }
 
 fn put_decimal(out: &mut [u8], at: usize, n: u64) -> usize
@@ -77,8 +53,8 @@ fn put_hex(out: &mut [u8], at: usize, ten: u8, x: u8) -> usize
     requires { ⌜ ten < 128 ⌝ }
     ensures { λ r. ⌜ Put (now (out .entry)) (now (out .exit)) at r (hexes ten x) ⌝ }
 {
-    let q = put(out, at, hex_digit(ten, x / 16));
-    put(out, q, hex_digit(ten, x % 16))
+    let q = room::put(out, at, hex_digit(ten, x / 16));
+    room::put(out, q, hex_digit(ten, x % 16))
 }
 
 fn is_bare(x: u8) -> bool
@@ -95,9 +71,9 @@ fn put_escaped(out: &mut [u8], at: usize, x: u8) -> usize
     ensures { λ r. ⌜ Put (now (out .entry)) (now (out .exit)) at r (escape x) ⌝ }
 {
     if is_bare(x) {
-        return put(out, at, x);
+        return room::put(out, at, x);
     }
-    let q = put(out, at, b'%');
+    let q = room::put(out, at, b'%');
     put_hex(out, q, b'A', x)
 }
 
@@ -128,26 +104,26 @@ fn put_hexes(out: &mut [u8], at: usize, s: &[u8]) -> usize
 fn put_text(out: &mut [u8], at: usize, s: &[u8]) -> usize
     ensures { λ r. ⌜ Put (now (out .entry)) (now (out .exit)) at r (textString (now (s .entry))) ⌝ }
 {
-    let q = put_all(out, at, b"%22");
+    let q = room::put_all(out, at, b"%22");
     let r = put_escapes(out, q, s);
-    put_all(out, r, b"%22")
+    room::put_all(out, r, b"%22")
 }
 
 fn put_bytes(out: &mut [u8], at: usize, s: &[u8]) -> usize
     ensures { λ r. ⌜ Put (now (out .entry)) (now (out .exit)) at r (byteString (now (s .entry))) ⌝ }
 {
-    let q = put_all(out, at, b"h%27");
+    let q = room::put_all(out, at, b"h%27");
     let r = put_hexes(out, q, s);
-    put_all(out, r, b"%27")
+    room::put_all(out, r, b"%27")
 }
 
 // An integer below 0: the argument n means -1 - n.
 fn put_negative(out: &mut [u8], at: usize, arg: u64) -> usize
     ensures { λ r. ⌜ Put (now (out .entry)) (now (out .exit)) at r (integer 1 arg) ⌝ }
 {
-    let q = put(out, at, b'-');
+    let q = room::put(out, at, b'-');
     if arg == 18446744073709551615 {
-        return put_all(out, q, b"18446744073709551616");
+        return room::put_all(out, q, b"18446744073709551616");
     }
     put_decimal(out, q, arg + 1)
 }
@@ -165,10 +141,10 @@ fn put_simple(out: &mut [u8], at: usize, arg: u64) -> usize
     ensures { λ r. ⌜ Put (now (out .entry)) (now (out .exit)) at r (simpleText arg) ⌝ }
 {
     match arg {
-        20 => put_all(out, at, b"false"),
-        21 => put_all(out, at, b"true"),
-        22 => put_all(out, at, b"null"),
-        _ => put_all(out, at, b"undefined"),
+        20 => room::put_all(out, at, b"false"),
+        21 => room::put_all(out, at, b"true"),
+        22 => room::put_all(out, at, b"null"),
+        _ => room::put_all(out, at, b"undefined"),
     }
 }
 
@@ -191,7 +167,7 @@ fn put_name(out: &mut [u8], at: usize, kind: u8, arg: u64, s: &[u8]) -> usize
     ensures { λ r. ⌜ Put (now (out .entry)) (now (out .exit)) at r (nameText (headOf kind arg) (now (s .entry))) ⌝ }
 {
     if kind == 3 {
-        return put_all(out, at, s);
+        return room::put_all(out, at, s);
     }
     put_integer(out, at, kind, arg)
 }
@@ -201,25 +177,25 @@ fn put_type(out: &mut [u8], at: usize, arg: u64) -> usize
     ensures { λ r. ⌜ Put (now (out .entry)) (now (out .exit)) at r (typeName arg) ⌝ }
 {
     match arg {
-        0 => put_all(out, at, b"NULL"),
-        1 => put_all(out, at, b"BOOL"),
-        2 => put_all(out, at, b"BYTE"),
-        4 => put_all(out, at, b"INT"),
-        5 => put_all(out, at, b"UINT"),
-        6 => put_all(out, at, b"VAST"),
-        7 => put_all(out, at, b"UVAST"),
-        8 => put_all(out, at, b"REAL32"),
-        9 => put_all(out, at, b"REAL64"),
-        10 => put_all(out, at, b"TEXTSTR"),
-        11 => put_all(out, at, b"BYTESTR"),
-        12 => put_all(out, at, b"TP"),
-        13 => put_all(out, at, b"TD"),
-        14 => put_all(out, at, b"LABEL"),
-        15 => put_all(out, at, b"CBOR"),
-        17 => put_all(out, at, b"AC"),
-        18 => put_all(out, at, b"AM"),
-        20 => put_all(out, at, b"EXECSET"),
-        21 => put_all(out, at, b"RPTSET"),
+        0 => room::put_all(out, at, b"NULL"),
+        1 => room::put_all(out, at, b"BOOL"),
+        2 => room::put_all(out, at, b"BYTE"),
+        4 => room::put_all(out, at, b"INT"),
+        5 => room::put_all(out, at, b"UINT"),
+        6 => room::put_all(out, at, b"VAST"),
+        7 => room::put_all(out, at, b"UVAST"),
+        8 => room::put_all(out, at, b"REAL32"),
+        9 => room::put_all(out, at, b"REAL64"),
+        10 => room::put_all(out, at, b"TEXTSTR"),
+        11 => room::put_all(out, at, b"BYTESTR"),
+        12 => room::put_all(out, at, b"TP"),
+        13 => room::put_all(out, at, b"TD"),
+        14 => room::put_all(out, at, b"LABEL"),
+        15 => room::put_all(out, at, b"CBOR"),
+        17 => room::put_all(out, at, b"AC"),
+        18 => room::put_all(out, at, b"AM"),
+        20 => room::put_all(out, at, b"EXECSET"),
+        21 => room::put_all(out, at, b"RPTSET"),
         _ => at,
     }
 }
@@ -266,7 +242,7 @@ fn put_ari(out: &mut [u8], at: usize, kind: u8, arg: u64, s: &[u8]) -> usize
 {
     if kind == 4 {
         if arg == 2 {
-            return put(out, at, b'/');
+            return room::put(out, at, b'/');
         }
         return at;
     }
@@ -277,7 +253,7 @@ fn put_value(out: &mut [u8], at: usize, kind: u8, arg: u64, s: &[u8]) -> usize
     ensures { λ r. ⌜ Put (now (out .entry)) (now (out .exit)) at r (opening kind (literalText (headOf kind arg) (now (s .entry)))) ⌝ }
 {
     if is_container(kind) {
-        return put(out, at, b'(');
+        return room::put(out, at, b'(');
     }
     put_literal(out, at, kind, arg, s)
 }
@@ -286,15 +262,15 @@ fn put_label(out: &mut [u8], at: usize, kind: u8, s: &[u8]) -> usize
     ensures { λ r. ⌜ Put (now (out .entry)) (now (out .exit)) at r (opening kind (now (s .entry))) ⌝ }
 {
     if is_container(kind) {
-        return put(out, at, b'(');
+        return room::put(out, at, b'(');
     }
-    put_all(out, at, s)
+    room::put_all(out, at, s)
 }
 
 fn put_absolute(out: &mut [u8], at: usize, kind: u8, arg: u64, s: &[u8]) -> usize
     ensures { λ r. ⌜ Put (now (out .entry)) (now (out .exit)) at r (47 ∷ 47 ∷ [] ++ nameText (headOf kind arg) (now (s .entry))) ⌝ }
 {
-    let q = put_all(out, at, b"//");
+    let q = room::put_all(out, at, b"//");
     put_name(out, q, kind, arg, s)
 }
 
@@ -302,7 +278,7 @@ fn put_space(out: &mut [u8], at: usize, kind: u8, arg: u64, s: &[u8]) -> usize
     ensures { λ r. ⌜ Put (now (out .entry)) (now (out .exit)) at r (spaceText kind arg (now (s .entry))) ⌝ }
 {
     if kind == 6 {
-        return put(out, at, b'.');
+        return room::put(out, at, b'.');
     }
     put_absolute(out, at, kind, arg, s)
 }
@@ -320,7 +296,7 @@ pub fn put_before(out: &mut [u8], at: usize, way: u8, kind: u8, arg: u64, s: &[u
         6 => put_space(out, at, kind, arg, s),
         7 => put_name(out, at, kind, arg, s),
         8 => put_name(out, at, kind, arg, s),
-        9 => put(out, at, b'('),
+        9 => room::put(out, at, b'('),
         10 => put_literal(out, at, kind, arg, s),
         _ => at,
     }
@@ -330,7 +306,7 @@ fn put_comma(out: &mut [u8], at: usize, more: bool) -> usize
     ensures { λ r. ⌜ Put (now (out .entry)) (now (out .exit)) at r (cond more (44 ∷ []) []) ⌝ }
 {
     if more {
-        return put(out, at, b',');
+        return room::put(out, at, b',');
     }
     at
 }
@@ -339,7 +315,7 @@ fn put_closing(out: &mut [u8], at: usize, kind: u8) -> usize
     ensures { λ r. ⌜ Put (now (out .entry)) (now (out .exit)) at r (closing kind) ⌝ }
 {
     if is_container(kind) {
-        return put(out, at, b')');
+        return room::put(out, at, b')');
     }
     at
 }
@@ -350,14 +326,14 @@ pub fn put_after(out: &mut [u8], at: usize, way: u8, kind: u8, more: bool) -> us
 {
     match way {
         1 => put_comma(out, at, more),
-        2 => put(out, at, b'/'),
+        2 => room::put(out, at, b'/'),
         3 => put_closing(out, at, kind),
         4 => put_closing(out, at, kind),
-        5 => put(out, at, b'/'),
-        6 => put(out, at, b'/'),
-        7 => put(out, at, b'/'),
-        9 => put(out, at, b')'),
-        10 => put(out, at, b'='),
+        5 => room::put(out, at, b'/'),
+        6 => room::put(out, at, b'/'),
+        7 => room::put(out, at, b'/'),
+        9 => room::put(out, at, b')'),
+        10 => room::put(out, at, b'='),
         _ => at,
     }
 }

@@ -10,20 +10,20 @@ pub enum Held {
 }
 
 fn say(out: &mut [u8], name: &[u8], words: &[u8]) {
-    let a = show::put(out, 0, name);
-    let b = show::put(out, a, words);
+    let a = room::put_all(out, 0, name);
+    let b = room::put_all(out, a, words);
     end_line(out, b);
 }
 
 fn say_line(out: &mut [u8], name: &[u8], line: usize, words: &[u8]) {
-    let a = show::put(out, 0, name);
+    let a = room::put_all(out, 0, name);
     let b = show::numbered(out, a, b": line ", line as u64);
-    let c = show::put(out, b, words);
+    let c = room::put_all(out, b, words);
     end_line(out, c);
 }
 
 fn end_line(out: &mut [u8], at: usize) {
-    let p = show::put_byte(out, at, b'\n');
+    let p = room::put(out, at, b'\n');
     if p < out.len() {
         io::write_all(2, &out[0..p]);
     }

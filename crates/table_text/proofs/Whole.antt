@@ -11,7 +11,7 @@ use lib.Dec.{leb, eqb}
 use borrow.Author.Tests.{le-leb, lt-leb}
 use Rattle.cbor.specs.Byte.{be}
 use Rattle.cbor.proofs.ByteLaws.{length-be}
-use Rattle.cbor.proofs.Putting.{sets-append}
+use Rattle.room.proofs.Putting.{sets-append}
 use Rattle.list.specs.Answers.{wordPut}
 use Rattle.list.proofs.Stored.{joined, word-roomy}
 use Rattle.table_text.specs.declared.Line.{Line}

@@ -16,8 +16,8 @@ use Rattle.cbor.proofs.ByteLaws.{be-join}
 use Rattle.cbor.proofs.HeadLaws.{width-small}
 use Rattle.ari.specs.Table.{max64}
 use Rattle.read.specs.Steps.{part}
-use Rattle.cbor.specs.Put.{Put}
-use Rattle.cbor.proofs.Putting.{put-nothing, put-both}
+use Rattle.room.specs.Put.{Put}
+use Rattle.room.proofs.Putting.{put-nothing, put-both}
 use Rattle.text.specs.Parse.{ends, front, past, startsBy, starts, push, number, unhex, any, first, second, unescape, unhexes, leadOf, startsNumber, opened, commas, count}
 use Rattle.words.specs.declared.Escape.{Escape}
 use Rattle.words.specs.Words.{firstOf, NextTo, WordTo, EscapeAt, strBy, Small, horner, keyOf, commaOf}

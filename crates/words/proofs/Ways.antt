@@ -15,9 +15,9 @@ use Rattle.cbor.proofs.Computed.{allFrom, all-at}
 use Rattle.ari.specs.Table.{Slot, version, ari, type, value, namespace, objectNamespace, objectType, objectId, params, key, entry, nonce, setTime, target, report, reportTime, reportSource}
 use Rattle.slots.specs.Code.{slots, slotOf}
 use Rattle.read.specs.Steps.{part}
-use Rattle.cbor.specs.Put.{Put}
+use Rattle.room.specs.Put.{Put}
 use Rattle.spell.specs.Ways.{ways, wayAt, closing, afterBy}
-use Rattle.cbor.proofs.Putting.{put-both}
+use Rattle.room.proofs.Putting.{put-both}
 use Rattle.spell.proofs.Spelled.{wayOf, way-is}
 use Rattle.text.specs.Chars.{ascii}
 use Rattle.text.specs.Text.{Name, name, names}

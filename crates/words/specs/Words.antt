@@ -9,7 +9,7 @@ use lib.Dec.{ltb, eqb}
 use Rattle.cbor.specs.Head.{bytes, text, array, map, simple, leadBytes}
 use Rattle.ari.specs.Decode.{Headed}
 use Rattle.read.specs.Steps.{part}
-use Rattle.cbor.specs.Put.{Put}
+use Rattle.room.specs.Put.{Put}
 use Rattle.text.specs.Chars.{ascii}
 use Rattle.text.specs.Text.{Name, name}
 use Rattle.text.specs.Parse.{front, past, starts, any, unescape, unhexes, inner, leadOf, headOf, stringOf, literalOf, nameOf, typeOf, Taken, takeWord, takeGroup, takeAri, takeNothing}

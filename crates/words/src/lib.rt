@@ -6,7 +6,7 @@ ghost use lib.ListN.{length, drop, getD};
 ghost use Rattle.cbor.specs.Byte.{be};
 ghost use Rattle.cbor.specs.Head.{leadBytes};
 ghost use Rattle.slots.specs.Code.{slotOf};
-ghost use Rattle.cbor.specs.Put.{Put};
+ghost use Rattle.room.specs.Put.{Put};
 ghost use Rattle.spell.specs.Ways.{wayAt, afterBy};
 ghost use Rattle.text.specs.Parse.{ends, starts, push, number, unhex, any, unescape, unhexes, leadOf, integerOf, literalOf, nameOf, typeOf, typeNumber, startsNumber, past, opened, commas, count, parts, takeWord, takeReference, takeAri, takeGroup, takeAt};
 ghost use Rattle.text.specs.Text.{names};
@@ -209,7 +209,7 @@ fn put_unescaped(u: &[u8], out: &mut [u8], at: usize) -> usize
         if x.size == 0 {
             return r;
         }
-        r = spell::put(out, r, x.byte);
+        r = room::put(out, r, x.byte);
         i += x.size;
     }
     r
@@ -221,7 +221,7 @@ fn put_unhexed(u: &[u8], out: &mut [u8], at: usize) -> usize
     let mut r = at;
     let mut i = 0;
     while i + 1 < u.len() {
-        r = spell::put(out, r, hex_at(u, i));
+        r = room::put(out, r, hex_at(u, i));
         i += 2;
     }
     r
@@ -231,7 +231,7 @@ fn put_string(form: u8, u: &[u8], out: &mut [u8], at: usize) -> usize
     ensures { λ r. ⌜ Put (now (out .entry)) (now (out .exit)) at r (strBy form (now (u .entry))) ⌝ }
 {
     match form {
-        0 => spell::put_all(out, at, u),
+        0 => room::put_all(out, at, u),
         1 => put_unescaped(u, out, at),
         _ => put_unhexed(u, out, at),
     }
@@ -241,7 +241,7 @@ fn put_one(out: &mut [u8], at: usize, x: u64) -> usize
     requires { ⌜ x < 2 ^ 8 ⌝ }
     ensures { λ r. ⌜ Put (now (out .entry)) (now (out .exit)) at r (be 1 x) ⌝ }
 {
-    spell::put(out, at, x as u8)
+    room::put(out, at, x as u8)
 }
 
 fn put_two(out: &mut [u8], at: usize, x: u64) -> usize
@@ -273,24 +273,24 @@ fn put_head(out: &mut [u8], at: usize, kind: u8, arg: u64) -> usize
     ensures { λ r. ⌜ Put (now (out .entry)) (now (out .exit)) at r (leadBytes (leadOf kind arg)) ⌝ }
 {
     if kind == 6 {
-        return spell::put(out, at, 224 + (arg % 32) as u8);
+        return room::put(out, at, 224 + (arg % 32) as u8);
     }
     if arg < 24 {
-        return spell::put(out, at, kind * 32 + arg as u8);
+        return room::put(out, at, kind * 32 + arg as u8);
     }
     if arg < 256 {
-        let q = spell::put(out, at, kind * 32 + 24);
+        let q = room::put(out, at, kind * 32 + 24);
         return put_one(out, q, arg);
     }
     if arg < 65536 {
-        let q = spell::put(out, at, kind * 32 + 25);
+        let q = room::put(out, at, kind * 32 + 25);
         return put_two(out, q, arg);
     }
     if arg < 4294967296 {
-        let q = spell::put(out, at, kind * 32 + 26);
+        let q = room::put(out, at, kind * 32 + 26);
         return put_four(out, q, arg);
     }
-    let q = spell::put(out, at, kind * 32 + 27);
+    let q = room::put(out, at, kind * 32 + 27);
     put_eight(out, q, arg)
 }
 

@@ -32,8 +32,8 @@ use Rattle.read.specs.Steps.{stringEnd}
 use Rattle.text.specs.Text.{Form, spelled, none-at, isFloat, floatIn, isSet, isRelative, form, texts, anAriDue}
 use Rattle.text.specs.Answer.{writeText}
 use Rattle.text.proofs.Leads.{no-string}
-use Rattle.cbor.specs.Put.{Put}
-use Rattle.cbor.proofs.Putting.{put-nothing, put-both}
+use Rattle.room.specs.Put.{Put}
+use Rattle.room.proofs.Putting.{put-nothing, put-both}
 use Rattle.write.specs.declared.Outer.{Outer}
 use Rattle.write.specs.declared.Float.{Float}
 use Rattle.write.specs.declared.Float.the-variants.{At, Nowhere}

@@ -21,8 +21,8 @@ use Rattle.text.specs.Text.{texts, anAriDue, isRelative, isSet, textOf}
 use Rattle.text.specs.Answer.{Spelled, Output, refused, output, writeText, lent}
 use Rattle.text.proofs.Outer.{inward, texted}
 use Rattle.text.proofs.Round.{write-exactly, first-short}
-use Rattle.cbor.specs.Put.{Put}
-use Rattle.cbor.proofs.Putting.{put-size, put-end}
+use Rattle.room.specs.Put.{Put}
+use Rattle.room.proofs.Putting.{put-size, put-end}
 use Rattle.write.specs.declared.Spelling.{Spelling}
 use Rattle.write.specs.declared.Spelling.the-variants.{Has, None}
 use Rattle.write.specs.declared.Written.{Written}

@@ -23,9 +23,9 @@ use Rattle.slots.proofs.Right.{next-slotted as slotted}
 use Rattle.read.specs.Steps.{part}
 use Rattle.read.specs.Walks.{insideLevel}
 use Rattle.text.specs.Text.{spell, texts}
-use Rattle.cbor.specs.Put.{Put}
+use Rattle.room.specs.Put.{Put}
 use Rattle.spell.specs.Ways.{wayAt, beforeBy, afterBy}
-use Rattle.cbor.proofs.Putting.{put-nothing, put-both}
+use Rattle.room.proofs.Putting.{put-nothing, put-both}
 use Rattle.spell.proofs.Spelled.{isDue, before-is, after-is}
 use Rattle.write.specs.declared.Item.{Item}
 use Rattle.write.specs.declared.Item.the-variants.{Taken, Nothing}

@@ -12,7 +12,7 @@ use Rattle.ari.specs.Items.{Items, encode}
 use Rattle.ari.proofs.Due.{Good, Due}
 use Rattle.slots.specs.Code.{slotOf}
 use Rattle.text.specs.Text.{texts}
-use Rattle.cbor.specs.Put.{Put}
+use Rattle.room.specs.Put.{Put}
 use Rattle.write.specs.declared.Item.{Item}
 use Rattle.write.specs.declared.Item.the-variants.{Taken, Nothing}
 use Rattle.write.specs.declared.Pos.{Pos}

@@ -13,7 +13,7 @@ use Rattle.ari.proofs.Due.{Due}
 use Rattle.text.specs.Chars.{ascii}
 use Rattle.text.specs.Text.{texts, anAriDue, isRelative}
 use Rattle.text.specs.Answer.{Output, refused, output, writeText}
-use Rattle.cbor.specs.Put.{Put}
+use Rattle.room.specs.Put.{Put}
 use Rattle.write.specs.declared.Spelling.{Spelling}
 use Rattle.write.specs.declared.Spelling.the-variants.{Has, None}
 use Rattle.write.specs.declared.Written.{Written}

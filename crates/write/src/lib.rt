@@ -11,7 +11,7 @@ ghost use Rattle.slots.specs.Code.{slotOf};
 ghost use Rattle.slots.proofs.Right.{IsSlot};
 ghost use Rattle.read.specs.Steps.{part};
 ghost use Rattle.read.specs.Walks.{insideLevel};
-ghost use Rattle.cbor.specs.Put.{Put};
+ghost use Rattle.room.specs.Put.{Put};
 ghost use Rattle.spell.specs.Ways.{wayAt, beforeBy, afterBy};
 ghost use Rattle.write.specs.Said.{ItemAt, Said};
 ghost use lib.ListN.{take};
@@ -280,7 +280,7 @@ fn put_scheme(relative: bool, out: &mut [u8]) -> usize
     if relative {
         return 0;
     }
-    spell::put_all(out, 0, b"ari:")
+    room::put_all(out, 0, b"ari:")
 }
 
 // The text of an ARI that has one.
@@ -324,7 +324,7 @@ pub fn hand_over(b: &[u8], count: usize, out: &mut [u8]) -> Written
             place: b.len(),
         };
     }
-    let end = spell::put_all(out, 0, b);
+    let end = room::put_all(out, 0, b);
     Written::Bytes { length: end, count }
 }
 

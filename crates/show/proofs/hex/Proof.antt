@@ -8,7 +8,7 @@ use Rattle.show.proofs.hex.Tie as tie
 returns : tie.Need-returns
 returns c =
     let d = c .before .before .before .before .before .hex in
-    put-hex _ _ (d .result) (d .last .1 .1 .0) (omega arith) (c .before .before .put .ensures) (d .ensures .1 .0) (d .ensures .1 .1)
+    put-hex _ _ (d .result) (d .last .1 .1 .0) (omega arith) (c .before .before .put-all .ensures) (d .ensures .1 .0) (d .ensures .1 .1)
 
 pub hex-spec : {M : Type 1} → statement M
 hex-spec =

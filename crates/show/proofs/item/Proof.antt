@@ -1,6 +1,6 @@
 -- `show::item` meets its contract: text after text.
 use borrow.Author.Needs.{needs}
-use Rattle.cbor.proofs.Putting.{put-both}
+use Rattle.room.proofs.Putting.{put-both}
 use Rattle.show.proofs.item.Statement.{statement}
 use Rattle.show.proofs.item.Tie as tie
 
@@ -10,7 +10,7 @@ returns c =
     let e = d .before .before .before .before in
     let f = e .before .before .before .before in
     let g = f .before .before .before .before in
-    put-both (g .numbers .ensures) (put-both (f .repeat .ensures) (put-both (e .kind .ensures) (d .put-byte .ensures)))
+    put-both (g .numbers .ensures) (put-both (f .repeat .ensures) (put-both (e .kind .ensures) (d .put .ensures)))
 
 pub item-spec : {M : Type 1} → statement M
 item-spec =

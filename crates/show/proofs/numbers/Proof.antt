@@ -1,6 +1,6 @@
 -- `show::numbers` meets its contract: number after number.
 use borrow.Author.Needs.{needs}
-use Rattle.cbor.proofs.Putting.{put-both}
+use Rattle.room.proofs.Putting.{put-both}
 use Rattle.show.proofs.numbers.Statement.{statement}
 use Rattle.show.proofs.numbers.Tie as tie
 

@@ -1,6 +1,6 @@
 -- `show::refused` meets its contract: text after text.
 use borrow.Author.Needs.{needs}
-use Rattle.cbor.proofs.Putting.{put-both}
+use Rattle.room.proofs.Putting.{put-both}
 use Rattle.show.proofs.refused.Statement.{statement}
 use Rattle.show.proofs.refused.Tie as tie
 

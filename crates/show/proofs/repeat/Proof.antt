@@ -1,7 +1,7 @@
 -- `show::repeat` meets its contract. The invariant: so many copies are written.
 use Prim.Native.Nat.{_-_, _≤_}
 use borrow.Author.Needs.{needs}
-use Rattle.cbor.specs.Put.{Put}
+use Rattle.room.specs.Put.{Put}
 use Rattle.show.specs.Texts.{repeated}
 use Rattle.show.proofs.Putting.{putting}
 use Rattle.show.proofs.repeat.Statement.{statement}

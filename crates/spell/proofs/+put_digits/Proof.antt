@@ -7,7 +7,7 @@ use Rattle.spell.proofs.put_digits.Reads as put-digits
 use Rattle.spell.proofs.put_digits.Kinds as put-digits-kinds
 use Rattle.spell.proofs.+put_digits.Lts-put_digits as put-digits-lts
 use Rattle.spell.proofs.digit.Reads as digit-reads
-use Rattle.spell.proofs.put.Reads as put-reads
+use Rattle.room.proofs.put.Reads as put-reads
 use Rattle.spell.proofs.+put_digits.{statement}
 use Rattle.spell.proofs.+put_digits.Tie.{close}
 

@@ -1,6 +1,6 @@
 use Prim.Native.Nat.{_-_, _≤_}
 use lib.ListN.{length, take}
-use Rattle.cbor.specs.Put.{Put}
+use Rattle.room.specs.Put.{Put}
 use Rattle.text.specs.Chars.{each, escape, hexes}
 use Rattle.spell.proofs.Puts.{puts}
 use borrow.Author.Needs.{needs}

@@ -6,7 +6,7 @@ use Rattle.ari.specs.Table.{due}
 use Rattle.slots.specs.Code.{slotOf}
 use Rattle.slots.proofs.Right.{IsSlot}
 use Rattle.read.proofs.Bounds.{opens, less-deep, inner-slot}
-use Rattle.cbor.proofs.Putting.{put-size}
+use Rattle.room.proofs.Putting.{put-size}
 use Rattle.write.proofs.Saying.{Leads, begins, again, next-slotted, falls-on, taken-on, taken-order, taken-in, saying}
 use borrow.Fn.Kinds.{In}
 use borrow.Fn.PlainCycle.{Measures, is, falls, and}

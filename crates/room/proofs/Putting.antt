@@ -9,7 +9,7 @@ use lib.ListN.{length, take, getD, set, length-append}
 use lib.Seq.{sets, length-sets, set-out, take-suc, take-all}
 use lib.Dec.{leb}
 use borrow.Author.Tests.{leb-true, leb-false}
-use Rattle.cbor.specs.Put.{Put}
+use Rattle.room.specs.Put.{Put}
 
 sets-out : (u xs : List ℕ) (at : ℕ) → length xs ≤ at → sets xs at u ≡ xs
 sets-out [] xs at h = refl
@@ -75,3 +75,8 @@ put-turn t i p h s = rw (add-one i, take-suc t i 0 h) (put-both p s)
 
 pub put-whole : (t : List ℕ) (i : ℕ) {a b : List ℕ} {at r : ℕ} → Put a b at r (take i t) → length t ≤ i → Put a b at r t
 put-whole t i p h = rw (take-all i t h) at p
+
+pub put-start : (t room : List ℕ) (at : ℕ) → Put room room at at (take 0 t)
+put-start t room at = put-nothing room at
+
+pub ruleset putting = (put-byte, put-full, put-size, put-start, put-turn, put-whole)
