@@ -293,16 +293,17 @@ module _ {m : Limits} {i : Input} {b : List ℕ} {g : Items} {n : ℕ} (c : Is m
   entry-record = rw (entry-first, entry-after, entry-around, entry-slot, entry-head, entry-reference)
 
 -- Item k, from the input's answer and table.
-module _ (i : Input) (b : List ℕ) (bs : all isByte b ≡ true) (k : ℕ) (t : List ℕ) (room : 1024 ≤ length t) where
-  pub entry-is : {t′ : List ℕ} {n : ℕ} (d : Spot) → Is firstLimits i b (decode b) n → t′ ≡ stored t 0 (map entryOf (spotsOf i (decode b))) → k < n
+module _ (i : Input) (b : List ℕ) (k : ℕ) (t : List ℕ) where
+  pub entry-is : {t′ : List ℕ} {n : ℕ} (d : Spot) → Is firstLimits i b (decode b) n → n ≤ length t → t′ ≡ stored t 0 (map entryOf (spotsOf i (decode b))) → k < n
       → getD t′ k 0 ≡ entryOf (getD (spotsOf i (decode b)) k d)
-  entry-is {t′} {n} d c e h =
+  entry-is {t′} {n} d c room e h =
       let ws = map entryOf (spotsOf i (decode b)) in
       let l : length ws ≡ n = length-map (spotsOf i (decode b)) entryOf ∙ spot-count c in
-      let f : 0 + length ws ≤ length t = omega (arith, c .few) in
+      let f : 0 + length ws ≤ length t = omega arith in
       let g : k < length (spotsOf i (decode b)) = omega (arith, spot-count c) in
       rw (e, sets-eq ws t 0 f, List·getD-append ws (drop (0 + length ws) t) 0 k (omega arith)) (getD-entries (spotsOf i (decode b)) k d g)
 
+module _ (i : Input) (b : List ℕ) (bs : all isByte b ≡ true) (k : ℕ) (t : List ℕ) (room : 1024 ≤ length t) where
   item-of : (x : reader.Answer) → read firstLimits i b ≡ x → {t′ : List ℕ} → Kept i b (answerOf x) t t′ → foundFrom b k t′ (answerOf x) ≡ foundOf i b k x
   item-of (refuse r p) e y = refl
   item-of (accept n) e {t′} y = go (ltb k n) refl
@@ -314,7 +315,7 @@ module _ (i : Input) (b : List ℕ) (bs : all isByte b ≡ true) (k : ℕ) (t : 
           → cond u (found.Item (recordFrom b (getD t′ k 0)) n) (found.Refused 17 n) ≡ cond u (found.Item (recordOf (spotNumber i b k)) n) (found.Refused 17 n)
       go true q =
           let h : k < n = ltb-true k n q in
-          ap (λ (z : Record). found.Item z n) (ap (recordFrom b) (entry-is _ c (y .kept) h) ∙ entry-record c (omega arith) (omega arith) k h _)
+          ap (λ (z : Record). found.Item z n) (ap (recordFrom b) (entry-is i b k t _ c (omega (arith, c .few)) (y .kept) h) ∙ entry-record c (omega arith) (omega arith) k h _)
       go false q = refl
 
   pub item-is : {a : Answer} → a ≡ answerOf (read firstLimits i b) → {t′ : List ℕ} → Kept i b a t t′ → {r : Found} → r ≡ foundFrom b k t′ a → r ≡ itemOf firstLimits i b k

@@ -1,6 +1,6 @@
 -- From the message's answer and table to the answers.
-use Prim.Native.Nat.{ℕ, _*_, _/_, _%_, _<_, _≤_}
-use mathlib.Core.Path.{_≡_, refl, sym, _∙_}
+use Prim.Native.Nat.{ℕ, _*_, _/_, _%_, _<_, _≤_, min}
+use mathlib.Core.Path.{_≡_, refl, sym, _∙_, ap}
 use mathlib.Core.Bool.{Bool, true, false, cond}
 use mathlib.Core.List.{List, _++_}
 use native.Mathlib.Omega.{arith}
@@ -18,6 +18,7 @@ use Rattle.ari.specs.Decode.{decode}
 use Rattle.ari.specs.Rules.{Is}
 use Rattle.ari.specs.Listing.{Entry, listing}
 use Rattle.ari.proofs.Demand.{demand-two}
+use Rattle.ari.proofs.Decoded.{heads-encode}
 use Rattle.read.specs.declared.Answer.{Answer}
 use Rattle.read.specs.declared.Answer.the-variants.{Accepted}
 use Rattle.read.specs.declared.Answer.the-variants as answers
@@ -65,6 +66,10 @@ was-refused : (x : reader.Answer) {r p : ℕ} → answers.Refused r p ≡ answer
 was-refused (refuse r p) e = cc
 was-refused (accept m) e = absurd (let z : _≡_ {A = ℕ} 0 1 = cc in omega arith)
 
+-- a message has no more items than bytes
+fewer-than-bytes : {b : List ℕ} {n : ℕ} → Is firstLimits aMessage b (decode b) n → n ≤ length b
+fewer-than-bytes {b} {n} c = omega (arith, c .count, heads-encode (decode b), ap length (c .bytes))
+
 module _ (b : List ℕ) {a : Answer} (e : a ≡ answerOf (read firstLimits aMessage b)) where
   pub accepted : {n : ℕ} → a ≡ Accepted n → read firstLimits aMessage b ≡ accept n
   accepted f = was-accepted (read firstLimits aMessage b) (sym f ∙ e)
@@ -72,12 +77,13 @@ module _ (b : List ℕ) {a : Answer} (e : a ≡ answerOf (read firstLimits aMess
   pub refused : {r p : ℕ} → a ≡ answers.Refused r p → read firstLimits aMessage b ≡ refuse r p
   refused f = was-refused (read firstLimits aMessage b) (sym f ∙ e)
 
-  pub tabled : {t t′ : List ℕ} → Kept aMessage b a t t′ → length t′ ≡ length t → ((i : ℕ) → Fits w8 (getD b i 0)) → 1024 ≤ length t → {n : ℕ} → a ≡ Accepted n → Tabled b n t′
+  pub tabled : {t t′ : List ℕ} → Kept aMessage b a t t′ → length t′ ≡ length t → ((i : ℕ) → Fits w8 (getD b i 0)) → min 1024 (length b) ≤ length t → {n : ℕ} → a ≡ Accepted n → Tabled b n t′
   tabled {t} y l bytes room {n} f =
       let bs : all isByte b ≡ true = all-bytes b bytes in
       let c : Is firstLimits aMessage b (decode b) n = demand-two firstLimits aMessage b n bs .0 (accepted f) in
       let kept = rw f at y in
-      record { is = c; room = omega (arith, c .few); kept = λ k h. entry-is aMessage b bs k t room noSpot c (kept .kept) h }
+      let few : n ≤ length t = omega (arith, room, c .few, fewer-than-bytes c) in
+      record { is = c; room = omega (arith, few, l); kept = λ k h. entry-is aMessage b k t noSpot c few (kept .kept) h }
 
   module _ (out : List ℕ) (w : ℕ) where
     pub list-refused : {r p : ℕ} → a ≡ answers.Refused r p → Refused r p ≡ listIn w firstLimits b out
