@@ -1,14 +1,14 @@
 -- What the candidate's bytes, or whatever stands in their place, come to: the text's own answer.
-use Prim.Native.Nat.{ℕ, _+_, _-_, _≤_, _<_}
+use Prim.Native.Nat.{ℕ, _+_, _-_, _≤_, _<_, min}
 use mathlib.Core.Path.{_≡_, refl, sym, _∙_, ap}
 use mathlib.Core.Bool.{Bool, true, false, not, _&&_, cond}
 use mathlib.Core.List.{List, [], _∷_, _++_}
 use native.Mathlib.Omega.{arith}
 use native.Mathlib.Numerals.{add-one}
 use lib.ListN.{length, take, drop, getD}
-use lib.Seq.{sets, sets-eq, take-append-seam}
-use lib.Dec.{ltb, eqb}
-use borrow.Author.Tests.{lt-ltb, le-ltb, ltb-true, ltb-false, ne-eqb, eq-eqb, not-true, not-false}
+use lib.Seq.{length-take-le}
+use lib.Dec.{ltb, leb, eqb}
+use borrow.Author.Tests.{lt-ltb, le-ltb, ltb-true, ltb-false, leb-true, leb-false, ne-eqb, eq-eqb, not-true, not-false}
 use Rattle.cbor.specs.Byte.{all, isByte}
 use Rattle.ari.specs.Reader.{Limits, read, single}
 use Rattle.ari.specs.Items.{encode}
@@ -25,7 +25,7 @@ use Rattle.write.specs.declared.Spelling.the-variants.{Has, None}
 use Rattle.write.specs.declared.Written.{Written}
 use Rattle.write.specs.declared.Written.the-variants.{Bytes, Refused}
 use Rattle.write.specs.Written.{writtenOf, roomAfter, spellingOf, Whole}
-use Rattle.write.proofs.Handing.{writes-none, handed-is}
+use Rattle.write.proofs.Handing.{writes-none, Own, own-text, put-taken}
 use Rattle.words.proofs.Leaves.{here, beyond}
 use Rattle.parse.specs.declared.Pos.{Pos}
 use Rattle.parse.specs.Parsed.{Parsed, Tried, Begins}
@@ -122,10 +122,24 @@ module _ (t : List ℕ) where
       pub none-kept : {r p : ℕ} (room : List ℕ) (m : ℕ) → f ≡ None r p → room ≡ roomAfter room (lent m (readText firstLimits t))
       none-kept room m q = rw (none-is q)
 
-      module _ {x : Bool} {n : ℕ} (q : f ≡ Has x n) {r : ℕ} {text text′ : List ℕ} (w : Whole c x r text text′) (h : 32768 ≤ length text)
-          {y : Bool} (d : y ≡ same (take (r - 0) text′) t) where
+      module _ {x : Bool} {n : ℕ} (q : f ≡ Has x n) {r : ℕ} {text text′ : List ℕ} (w : Whole c x r text text′)
+          (h : min 32768 (length t + 1) ≤ length text) {y : Bool} (d : y ≡ same (take (r - 0) text′) t) where
+        abbrev own : Own c n r text text′
+        own = own-text c cs e q w
+
+        -- a text that the scratch has no room for is longer than t, and so is what stands in it
+        same-own : (u : Bool) → leb (length (own .text)) (length text) ≡ u → same (take (r - 0) text′) t ≡ same (own .text) t
+        same-own true z = rw (put-taken (own .put) (leb-true (length (own .text)) (length text) z))
+        same-own false z =
+            let over : length text < length (own .text) = leb-false (length (own .text)) (length text) z in
+            let full : r ≡ length text = omega (arith, own .put .place, over) in
+            let cut : length (take (r - 0) text′) ≡ length text
+            = length-take-le (r - 0) text′ (omega (arith, full, put-size (own .put))) ∙ omega (arith, full) in
+            same-length (take (r - 0) text′) t (λ z. omega (arith, z, cut, over, h, own .short))
+            ∙ sym (same-length (own .text) t (λ z. omega (arith, z, over, h, own .short)))
+
         judged : readText firstLimits t ≡ cond y (output c n) (refused 15 0)
-        judged = sym settled ∙ rw (← handed-is c cs e q w h, ← d)
+        judged = sym settled ∙ rw (own .is, ← same-own (leb (length (own .text)) (length text)) refl, ← d)
 
         pub text-answers : (m : ℕ) {a : Written} → a ≡ writtenOf (lent m (cond y (output c n) (refused 15 0))) → a ≡ writtenOf (lent m (readText firstLimits t))
         text-answers m o = rw judged o
@@ -141,17 +155,13 @@ module _ (t : List ℕ) where
   pub long-kept : (room : List ℕ) (m : ℕ) → 32768 < length t → room ≡ roomAfter room (lent m (readText firstLimits t))
   long-kept room m h = rw (long-is h)
 
+  -- a candidate that leaves room
+  pub tried-short : {room room′ : List ℕ} {r : ℕ} → Put room room′ 0 r tried → r < length room′ → length t < 128 → Tried t (take (r - 0) room′)
+  tried-short p h l = record { short = omega arith; is = λ f. put-taken p (omega (arith, p .place, h, put-size p)) }
+
   module _ {room room′ : List ℕ} {r : ℕ} (p : Put room room′ 0 r tried) (h : 4096 ≤ length room) (l : length t ≤ 32768) where
     pub tried-is : r ≤ length room′ → Tried t (take (r - 0) room′)
-    tried-is g = record { short = l; is = fits }
-      where
-        fits : length tried ≤ 4096 → take (r - 0) room′ ≡ tried
-        fits f =
-            let e = put-end p (omega arith) in
-            let z : r - 0 ≡ length tried = omega arith in
-            let y : 0 + length tried ≡ length tried = omega arith in
-            let c : room′ ≡ tried ++ drop (length tried) room = p .bytes ∙ sets-eq tried room 0 (omega arith) ∙ rw y in
-            rw (z, c) (take-append-seam tried (drop (length tried) room))
+    tried-is g = record { short = l; is = λ f. put-taken p (omega arith) }
 
     none-fits : length room′ < r → readText firstLimits t ≡ refused 15 0
     none-fits g = long-none l (go (ltb 4096 (length tried)) refl)
@@ -166,4 +176,4 @@ module _ (t : List ℕ) where
     pub full-kept : (o : List ℕ) (m : ℕ) → length room′ < r → o ≡ roomAfter o (lent m (readText firstLimits t))
     full-kept o m g = rw (none-fits g)
 
-pub ruleset settling = (whole-candidate, lengths-differ, bytes-differ, bytes-agree, all-agree, long-refused, long-kept, tried-is, full-refused, full-kept)
+pub ruleset settling = (whole-candidate, lengths-differ, bytes-differ, bytes-agree, all-agree, long-refused, long-kept, tried-is, tried-short, full-refused, full-kept)

@@ -1,7 +1,7 @@
 // An ARI's text is read: one walk along the slots puts a candidate's bytes, which count only if they are an accepted ARI whose own text is the text that was read.
 ghost use mathlib.Core.Path.{_≡_};
 ghost use mathlib.Core.Bool.{cond};
-ghost use Prim.Native.Nat.{_≤_};
+ghost use Prim.Native.Nat.{_+_, _<_, _≤_, min};
 ghost use lib.ListN.{length, drop};
 ghost use Rattle.ari.specs.Table.{due};
 ghost use Rattle.ari.specs.Limits.{firstLimits};
@@ -152,7 +152,7 @@ fn give(told: bool, b: &[u8], count: usize, out: &mut [u8]) -> Written
 
 // The candidate's bytes are handed over, if they are an ARI whose text is t.
 fn confirm(t: &[u8], b: &[u8], text: &mut [u8], out: &mut [u8]) -> Written
-    requires { ⌜ (32768 ≤ length (now text)) × Tried (now t) (now b) ⌝ }
+    requires { ⌜ (min 32768 (length (now t) + 1) ≤ length (now text)) × Tried (now t) (now b) ⌝ }
     ensures { λ r. ⌜ r ≡ writtenOf (lent (length (now (out .entry))) (readText firstLimits (now (t .entry)))) ⌝ }
     ensures { λ r. ⌜ now (out .exit) ≡ roomAfter (now (out .entry)) (lent (length (now (out .entry))) (readText firstLimits (now (t .entry)))) ⌝ }
 {
@@ -189,12 +189,37 @@ fn read_in(t: &[u8], bytes: &mut [u8], text: &mut [u8], out: &mut [u8]) -> Writt
     confirm(t, &bytes[0..size], text, out)
 }
 
-// The binary form of the single ARI that a text is.
-pub fn read_text(t: &[u8], out: &mut [u8]) -> Written
+fn read_long(t: &[u8], out: &mut [u8]) -> Written
     ensures { λ r. ⌜ r ≡ writtenOf (lent (length (now (out .entry))) (readText firstLimits (now (t .entry)))) ⌝ }
     ensures { λ r. ⌜ now (out .exit) ≡ roomAfter (now (out .entry)) (lent (length (now (out .entry))) (readText firstLimits (now (t .entry)))) ⌝ }
 {
     let mut bytes = [0u8; 4096];
     let mut text = [0u8; 32768];
     read_in(t, &mut bytes, &mut text, out)
+}
+
+// A short text, with little room to clear: should its candidate fill that room, the text is read as a long one.
+fn read_short(t: &[u8], out: &mut [u8]) -> Written
+    requires { ⌜ length (now t) < 128 ⌝ }
+    ensures { λ r. ⌜ r ≡ writtenOf (lent (length (now (out .entry))) (readText firstLimits (now (t .entry)))) ⌝ }
+    ensures { λ r. ⌜ now (out .exit) ≡ roomAfter (now (out .entry)) (lent (length (now (out .entry))) (readText firstLimits (now (t .entry)))) ⌝ }
+{
+    let mut bytes = [0u8; 128];
+    let mut text = [0u8; 128];
+    let size = put_candidate(t, &mut bytes);
+    if bytes.len() <= size {
+        return read_long(t, out);
+    }
+    confirm(t, &bytes[0..size], &mut text, out)
+}
+
+// The binary form of the single ARI that a text is.
+pub fn read_text(t: &[u8], out: &mut [u8]) -> Written
+    ensures { λ r. ⌜ r ≡ writtenOf (lent (length (now (out .entry))) (readText firstLimits (now (t .entry)))) ⌝ }
+    ensures { λ r. ⌜ now (out .exit) ≡ roomAfter (now (out .entry)) (lent (length (now (out .entry))) (readText firstLimits (now (t .entry)))) ⌝ }
+{
+    if t.len() < 128 {
+        return read_short(t, out);
+    }
+    read_long(t, out)
 }

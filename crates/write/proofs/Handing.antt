@@ -1,5 +1,5 @@
 -- The text that was put is the one that the definition gives, and it is handed over or refused for want of room.
-use Prim.Native.Nat.{ℕ, _+_, _-_, _≤_, _<_}
+use Prim.Native.Nat.{ℕ, _+_, _-_, _*_, _≤_, _<_, min}
 use mathlib.Core.Path.{_≡_, refl, sym, _∙_, ap}
 use mathlib.Core.Bool.{Bool, true, false, cond}
 use mathlib.Core.List.{List, [], _∷_, _++_}
@@ -16,11 +16,12 @@ use Rattle.ari.specs.Decode.{decode}
 use Rattle.ari.specs.Rules.{Is, Stands, an-ari}
 use Rattle.ari.specs.Limits.{firstLimits}
 use Rattle.ari.proofs.Due.{Fit, Due, unsplit}
+use Rattle.ari.proofs.Decoded.{heads-encode}
 use Rattle.ari.proofs.RulesFit.{here-ari}
 use Rattle.text.specs.Text.{texts, anAriDue, isRelative, isSet, textOf}
 use Rattle.text.specs.Answer.{Spelled, Output, refused, output, writeText, lent}
 use Rattle.text.proofs.Outer.{inward, texted}
-use Rattle.text.proofs.Round.{write-exactly, first-short}
+use Rattle.text.proofs.Round.{write-exactly, text-bound, first-short}
 use Rattle.room.specs.Put.{Put}
 use Rattle.room.proofs.Putting.{put-size, put-end}
 use Rattle.write.specs.declared.Spelling.{Spelling}
@@ -74,6 +75,20 @@ inside-fit : {g : Items} → Stands single g → isSet g ≡ false → Fit g fal
 unfolding rule
 inside-fit (an-ari a) n = let h = here-ari [] (inward a n) in (h .good, h .holds, tt)
 
+-- an ARI's own text as it was put into a scratch
+pub record Own (b : List ℕ) (n r : ℕ) (room room′ : List ℕ) : Type 0 where
+  pub text : List ℕ
+  pub is : writeText firstLimits b ≡ output text n
+  pub short : length text ≤ 32768
+  pub put : Put room room′ 0 r text
+
+pub put-taken : {room room′ : List ℕ} {r : ℕ} {u : List ℕ} → Put room room′ 0 r u → length u ≤ length room → take (r - 0) room′ ≡ u
+put-taken {room} {room′} {r} {u} p h =
+    let z : r - 0 ≡ length u = omega (arith, put-end p (omega arith)) in
+    let y : 0 + length u ≡ length u = omega arith in
+    let c : room′ ≡ u ++ drop (length u) room = p .bytes ∙ sets-eq u room 0 (omega arith) ∙ rw y in
+    rw (z, c) (take-append-seam u (drop (length u) room))
+
 record Text-of (b : List ℕ) (x : Bool) (n : ℕ) : Type 0 where
   text : List ℕ
   is-written : writeText firstLimits b ≡ output text n
@@ -101,7 +116,7 @@ module _ (b : List ℕ) (bs : all isByte b ≡ true) {f : Spelling} (e : f ≡ s
   stands-inside =
       unsplit (decode b) false anAriDue [] 12 (inside-fit (facts .is .stands) (texted (decode b) (facts .has-text) .0)) (facts .is .shallow)
 
-  module _ {r : ℕ} {room room′ : List ℕ} (w : Whole b x r room room′) (h : 32768 ≤ length room) where
+  module _ {r : ℕ} {room room′ : List ℕ} (w : Whole b x r room room′) where
     put-it : Put room room′ 0 r t
     unfolding textOf
     put-it = rw (facts .the-text) at (rw (the-text .relative-is) at (w .told (decode b) stands-inside (facts .is .bytes)))
@@ -109,26 +124,26 @@ module _ (b : List ℕ) (bs : all isByte b ≡ true) {f : Spelling} (e : f ≡ s
     short : length t ≤ 32768
     short = first-short t b n bs (the-text .is-written)
 
-    its-end : r ≡ 0 + length t
-    its-end = put-end put-it (omega (arith, short))
+    pub own-text : Own b n r room room′
+    own-text = record { text = t; is = the-text .is-written; short = short; put = put-it }
 
     pub in-scratch : r ≤ length room′
-    in-scratch = omega (arith, its-end, short, put-size put-it)
+    in-scratch = omega (arith, put-it .place, put-size put-it)
 
-    taken : take r room′ ≡ t
-    taken =
-        let z : r ≡ length t = omega (arith, its-end) in
-        let y : 0 + length t ≡ length t = omega arith in
-        let c : room′ ≡ t ++ drop (length t) room = put-it .bytes ∙ sets-eq t room 0 (omega (arith, short)) ∙ rw y in
-        rw (z, c) (take-append-seam t (drop (length t) room))
+    module _ (h : min 32768 (4 + 19 * length b) ≤ length room) where
+      -- no text is longer, as an ARI has no more items than bytes
+      fits : length t ≤ length room
+      fits =
+          let few : n ≤ length b = omega (arith, facts .is .count, heads-encode (decode b), ap length (facts .is .bytes)) in
+          omega (arith, h, few, short, text-bound firstLimits t b n bs (the-text .is-written))
 
-    pub handed-is : output (take (r - 0) room′) n ≡ writeText firstLimits b
-    handed-is = let z : r - 0 ≡ r = omega arith in rw (z, taken) (sym (the-text .is-written))
+      handed-is : output (take (r - 0) room′) n ≡ writeText firstLimits b
+      handed-is = rw (put-taken put-it fits) (sym (the-text .is-written))
 
-    pub answers-text : (m : ℕ) {a : Written} → a ≡ writtenOf (lent m (output (take (r - 0) room′) n)) → a ≡ writtenOf (lent m (writeText firstLimits b))
-    answers-text m c = c ∙ ap (λ (o : Output). writtenOf (lent m o)) handed-is
+      pub answers-text : (m : ℕ) {a : Written} → a ≡ writtenOf (lent m (output (take (r - 0) room′) n)) → a ≡ writtenOf (lent m (writeText firstLimits b))
+      answers-text m c = c ∙ ap (λ (o : Output). writtenOf (lent m o)) handed-is
 
-    pub fills-room : (m : ℕ) (z : List ℕ) {z′ : List ℕ} → z′ ≡ roomAfter z (lent m (output (take (r - 0) room′) n)) → z′ ≡ roomAfter z (lent m (writeText firstLimits b))
-    fills-room m z c = c ∙ ap (λ (o : Output). roomAfter z (lent m o)) handed-is
+      pub fills-room : (m : ℕ) (z : List ℕ) {z′ : List ℕ} → z′ ≡ roomAfter z (lent m (output (take (r - 0) room′) n)) → z′ ≡ roomAfter z (lent m (writeText firstLimits b))
+      fills-room m z c = c ∙ ap (λ (o : Output). roomAfter z (lent m o)) handed-is
 
 pub ruleset handing = (none-refused, none-has, answers-none, keeps-room, no-room, no-room-kept, room-enough, room-filled, in-scratch, answers-text, fills-room)

@@ -2,7 +2,7 @@
 ghost use mathlib.Core.Path.{_≡_};
 ghost use mathlib.Core.Bool.{true, false, _&&_};
 ghost use Rattle.cbor.specs.Byte.{all, isByte};
-ghost use Prim.Native.Nat.{pred, _≤_};
+ghost use Prim.Native.Nat.{pred, _+_, _*_, _≤_, min};
 ghost use lib.ListN.{length};
 ghost use lib.Dec.{eqb};
 ghost use Rattle.cbor.specs.Head.{isContainer};
@@ -329,7 +329,7 @@ pub fn hand_over(b: &[u8], count: usize, out: &mut [u8]) -> Written
 }
 
 fn write_in(s: &[u8], scratch: &mut [u8], out: &mut [u8]) -> Written
-    requires { ⌜ 32768 ≤ length (now scratch) ⌝ }
+    requires { ⌜ min 32768 (4 + 19 * length (now s)) ≤ length (now scratch) ⌝ }
     ensures { λ r. ⌜ r ≡ writtenOf (lent (length (now (out .entry))) (writeText firstLimits (now (s .entry)))) ⌝ }
     ensures { λ r. ⌜ now (out .exit) ≡ roomAfter (now (out .entry)) (lent (length (now (out .entry))) (writeText firstLimits (now (s .entry)))) ⌝ }
 {
@@ -341,11 +341,24 @@ fn write_in(s: &[u8], scratch: &mut [u8], out: &mut [u8]) -> Written
     hand_over(&scratch[0..size], count, out)
 }
 
+// A text has at most 4 bytes, and 19 for each byte of the ARI: a small one needs a small scratch, which is cleared in a fraction of the time.
+fn write_small(s: &[u8], out: &mut [u8]) -> Written
+    requires { ⌜ length (now s) ≤ 64 ⌝ }
+    ensures { λ r. ⌜ r ≡ writtenOf (lent (length (now (out .entry))) (writeText firstLimits (now (s .entry)))) ⌝ }
+    ensures { λ r. ⌜ now (out .exit) ≡ roomAfter (now (out .entry)) (lent (length (now (out .entry))) (writeText firstLimits (now (s .entry)))) ⌝ }
+{
+    let mut scratch = [0u8; 1220];
+    write_in(s, &mut scratch, out)
+}
+
 // The text of a single ARI in binary form is written into lent room.
 pub fn write_text(s: &[u8], out: &mut [u8]) -> Written
     ensures { λ r. ⌜ r ≡ writtenOf (lent (length (now (out .entry))) (writeText firstLimits (now (s .entry)))) ⌝ }
     ensures { λ r. ⌜ now (out .exit) ≡ roomAfter (now (out .entry)) (lent (length (now (out .entry))) (writeText firstLimits (now (s .entry)))) ⌝ }
 {
+    if s.len() <= 64 {
+        return write_small(s, out);
+    }
     let mut scratch = [0u8; 32768];
     write_in(s, &mut scratch, out)
 }

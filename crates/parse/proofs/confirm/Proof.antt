@@ -14,7 +14,7 @@ returns c =
 part-same-end : tie.Need-part-same-end
 part-same-end c =
     let cs = all-bytes (c .before .before .before .before .before .before .before .before .before .before .before .before .before .args .b .now) (c .before .before .before .before .before .before .before .before .before .before .before .shared-slice-known2 .given) in
-    let h = in-scratch _ cs (c .before .before .before .before .before .before .before .before .judge .ensures) (c .before .before .before .before .before .before .f .given .1) (c .before .before .before .put-text .ensures) (c .before .before .before .before .before .before .before .before .before .before .before .before .before .pre .0) in
+    let h = in-scratch _ cs (c .before .before .before .before .before .before .before .before .judge .ensures) (c .before .before .before .before .before .before .f .given .1) (c .before .before .before .put-text .ensures) in
     search (h, needs)
 
 returns-2 : tie.Need-returns-2

@@ -7,7 +7,7 @@ use Rattle.write.proofs.write_in.Tie as tie
 part-hand-over-end : tie.Need-part-hand-over-end
 part-hand-over-end c =
     let b = all-bytes (c .before .before .before .before .before .before .before .before .before .before .before .before .args .s .now) (c .before .before .before .before .before .before .before .before .before .before .before .shared-slice-known .given) in
-    let h = in-scratch _ b (c .before .before .before .before .before .before .before .before .judge .ensures) (c .before .before .before .before .before .before .f .given .1) (c .before .before .before .put-text .ensures) (c .before .before .before .before .before .before .before .before .before .before .before .before .pre) in
+    let h = in-scratch _ b (c .before .before .before .before .before .before .before .before .judge .ensures) (c .before .before .before .before .before .before .f .given .1) (c .before .before .before .put-text .ensures) in
     search (h, needs)
 
 returns-2 : tie.Need-returns-2
