@@ -159,7 +159,7 @@ fn message_in(s: &[u8], k: usize, table: &mut [u64]) -> Found
 pub fn item_single(s: &[u8], k: usize) -> Found
     ensures { λ r. ⌜ r ≡ itemOf firstLimits single (now (s .entry)) k ⌝ }
 {
-    let mut table = [0u64; 1024];
+    let mut table = [0u64; read::ITEMS];
     single_in(s, k, &mut table)
 }
 
@@ -167,6 +167,6 @@ pub fn item_single(s: &[u8], k: usize) -> Found
 pub fn item_message(s: &[u8], k: usize) -> Found
     ensures { λ r. ⌜ r ≡ itemOf firstLimits aMessage (now (s .entry)) k ⌝ }
 {
-    let mut table = [0u64; 1024];
+    let mut table = [0u64; read::ITEMS];
     message_in(s, k, &mut table)
 }

@@ -236,7 +236,7 @@ pub fn list_message(s: &[u8], out: &mut [u8]) -> Listed
     if s.len() <= 128 {
         return list_small(s, out);
     }
-    let mut table = [0u64; 1024];
+    let mut table = [0u64; read::ITEMS];
     list_in(s, out, &mut table)
 }
 
@@ -302,7 +302,7 @@ pub fn list_words(s: &[u8], out: &mut [u64]) -> Listed
     ensures { λ r. ⌜ r ≡ listIn 2 firstLimits (now (s .entry)) (now (out .entry)) ⌝ }
     ensures { λ r. ⌜ now (out .exit) ≡ writtenIn 2 entryWords firstLimits (now (s .entry)) (now (out .entry)) ⌝ }
 {
-    let mut table = [0u64; 1024];
+    let mut table = [0u64; read::ITEMS];
     words_in(s, out, &mut table)
 }
 
@@ -377,6 +377,6 @@ pub fn release(s: &[u8], t: &[u8], subscriber: u64) -> Released
     if s.len() <= 128 {
         return release_small(s, t, subscriber);
     }
-    let mut table = [0u64; 1024];
+    let mut table = [0u64; read::ITEMS];
     release_in(s, t, subscriber, &mut table)
 }

@@ -116,7 +116,7 @@ fn put_candidate(t: &[u8], out: &mut [u8]) -> usize
     ensures { λ r. ⌜ Put (now (out .entry)) (now (out .exit)) 0 r (encode (candidate firstLimits (now (t .entry)))) ⌝ }
 {
     let p = begin(t);
-    let w = read_level(t, p, 1024, 12, 3, 0, out, 0);
+    let w = read_level(t, p, read::ITEMS, read::CONTAINERS, 3, 0, out, 0);
     w.end
 }
 
@@ -173,7 +173,7 @@ fn read_in(t: &[u8], bytes: &mut [u8], text: &mut [u8], out: &mut [u8]) -> Writt
     ensures { λ r. ⌜ r ≡ writtenOf (lent (length (now (out .entry))) (readText firstLimits (now (t .entry)))) ⌝ }
     ensures { λ r. ⌜ now (out .exit) ≡ roomAfter (now (out .entry)) (lent (length (now (out .entry))) (readText firstLimits (now (t .entry)))) ⌝ }
 {
-    if 32768 < t.len() {
+    if read::TEXT < t.len() {
         return Written::Refused {
             number: 1,
             place: 0,
@@ -193,8 +193,8 @@ fn read_long(t: &[u8], out: &mut [u8]) -> Written
     ensures { λ r. ⌜ r ≡ writtenOf (lent (length (now (out .entry))) (readText firstLimits (now (t .entry)))) ⌝ }
     ensures { λ r. ⌜ now (out .exit) ≡ roomAfter (now (out .entry)) (lent (length (now (out .entry))) (readText firstLimits (now (t .entry)))) ⌝ }
 {
-    let mut bytes = [0u8; 4096];
-    let mut text = [0u8; 32768];
+    let mut bytes = [0u8; read::BYTES];
+    let mut text = [0u8; read::TEXT];
     read_in(t, &mut bytes, &mut text, out)
 }
 

@@ -410,12 +410,14 @@ pub enum Answer {
     Refused { number: u64, place: usize },
 }
 
-// The limits of document 01.
-const BYTES: usize = 4096;
+// The limits of document 01, for all crates.
+pub const BYTES: usize = 4096;
 
-const ITEMS: usize = 1024;
+pub const ITEMS: usize = 1024;
 
-const CONTAINERS: usize = 12;
+pub const CONTAINERS: usize = 12;
+
+pub const TEXT: usize = 32768;
 
 // A walk's refusal is the input's.
 fn refusal(w: Walk) -> Answer

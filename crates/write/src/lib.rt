@@ -288,7 +288,7 @@ pub fn put_text(s: &[u8], relative: bool, out: &mut [u8]) -> usize
     ensures { λ r. ⌜ Whole (now (s .entry)) relative r (now (out .entry)) (now (out .exit)) ⌝ }
 {
     let q = put_scheme(relative, out);
-    let w = say_level(s, 0, 12, 3, 0, out, q);
+    let w = say_level(s, 0, read::CONTAINERS, 3, 0, out, q);
     w.end
 }
 
@@ -359,6 +359,6 @@ pub fn write_text(s: &[u8], out: &mut [u8]) -> Written
     if s.len() <= 64 {
         return write_small(s, out);
     }
-    let mut scratch = [0u8; 32768];
+    let mut scratch = [0u8; read::TEXT];
     write_in(s, &mut scratch, out)
 }
