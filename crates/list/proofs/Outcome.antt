@@ -1,11 +1,11 @@
 -- From the message's answer and table to the answers.
-use Prim.Native.Nat.{ℕ, _*_, _/_, _%_, _<_, _≤_, min}
+use Prim.Native.Nat.{ℕ, suc, _*_, _/_, _%_, _<_, _≤_, min}
 use mathlib.Core.Path.{_≡_, refl, sym, _∙_, ap}
 use mathlib.Core.Bool.{Bool, true, false, cond}
-use mathlib.Core.List.{List, _++_}
+use mathlib.Core.List.{List, [], _∷_, _++_}
 use native.Mathlib.Omega.{arith}
 use native.Mathlib.Nat.{le-trans, mul-le-mul-left, mul-div-le}
-use lib.ListN.{length, getD, drop}
+use lib.ListN.{length, getD, drop, length-map}
 use lib.Dec.{ltb}
 use mir.Syntax.{w8}
 use mir.Val.{Fits}
@@ -16,7 +16,10 @@ use Rattle.ari.specs.Reader as reader
 use Rattle.ari.specs.Limits.{firstLimits}
 use Rattle.ari.specs.Decode.{decode}
 use Rattle.ari.specs.Rules.{Is}
-use Rattle.ari.specs.Listing.{Entry, listing}
+use Rattle.ari.specs.Items.{Spot, spotsOf}
+use Rattle.ari.specs.Table.{isReference}
+use Rattle.ari.specs.Listing.{Entry, referring, listing}
+use Rattle.ari.proofs.Spots.{spot-count}
 use Rattle.ari.proofs.Demand.{demand-two}
 use Rattle.ari.proofs.Decoded.{heads-encode}
 use Rattle.read.specs.declared.Answer.{Answer}
@@ -25,7 +28,7 @@ use Rattle.read.specs.declared.Answer.the-variants as answers
 use Rattle.read.specs.Answers.{answerOf, Kept}
 use Rattle.read.proofs.Whole.{all-bytes}
 use Rattle.grants.specs.Grants.{granted, Release, judgeFrom, release}
-use Rattle.grants.specs.Bytes.{rows, releaseBytes}
+use Rattle.grants.specs.Bytes.{rows, entryBytes, releaseBytes}
 use Rattle.items.specs.Records.{noSpot}
 use Rattle.items.proofs.Entries.{entry-is}
 use Rattle.list.specs.declared.Listed.{Listed}
@@ -48,6 +51,28 @@ module _ (es : List Entry) (n m w : ℕ) {r : Listed} (e : r ≡ listedOf (accep
       go true h q = absurd (let z : _≡_ {A = ℕ} 0 1 = cc in omega arith)
       go false h q = le-trans (mul-le-mul-left w (ltb-false (m / w) (length es) h)) (mul-div-le m w)
 
+-- no more references than items, so room for all items is room for them
+fewer-referring : (xs : List Spot) → length (referring xs) ≤ length xs
+fewer-referring [] = omega arith
+fewer-referring (x ∷ xs) = go (isReference (x .slot) (x .lead)) (fewer-referring xs)
+  where
+    go : (t : Bool) → length (referring xs) ≤ length xs → length (cond t (x ∷ referring xs) (referring xs)) ≤ suc (length xs)
+    go true h = omega arith
+    go false h = omega arith
+
+fewer-listed : {b t : List ℕ} {n : ℕ} → Tabled b n t → length (listing b) ≤ n
+unfolding listing
+fewer-listed {b} c = rw length-map (omega (arith, fewer-referring (spotsOf aMessage (decode b)), spot-count (c .is)))
+
+module _ (m : ℕ) {b t : List ℕ} {n : ℕ} (c : Tabled b n t) (h : n ≤ m / 24) where
+  pub room-for-all : 24 * length (listing b) ≤ m
+  room-for-all = omega (arith, fewer-listed c)
+
+  pub all-listed : {end : ℕ} → end ≡ 24 * length (listing b) → Entries (end / 24) n ≡ listedOf (accept n) (listing b) (m / 24)
+  all-listed {end} e =
+      let z : end / 24 ≡ length (listing b) = omega arith in
+      room-enough (listing b) n (m / 24) z (omega (arith, z, fewer-listed c))
+
 -- what is answered tells what is written
 module _ (w : ℕ) (put : Entry → List ℕ) (es : List Entry) (out : List ℕ) {r : Listed} {k j : ℕ} where
   pub answer-written : r ≡ Entries k j → {out′ : List ℕ} → out′ ≡ each put es ++ drop (w * length es) out → out′ ≡ writtenBy w put r es out
@@ -56,7 +81,7 @@ module _ (w : ℕ) (put : Entry → List ℕ) (es : List Entry) (out : List ℕ)
   pub answer-unwritten : r ≡ Refused k j → out ≡ writtenBy w put r es out
   answer-unwritten f = rw f
 
-pub ruleset rooms = (room-short, room-enough, room-for, answer-written, answer-unwritten)
+pub ruleset rooms = (room-for-all, all-listed, room-short, room-enough, room-for, answer-written, answer-unwritten)
 
 was-accepted : (x : reader.Answer) {n : ℕ} → Accepted n ≡ answerOf x → x ≡ accept n
 was-accepted (refuse r p) e = absurd (let z : _≡_ {A = ℕ} 0 1 = cc in omega arith)

@@ -70,10 +70,13 @@ module _ {b t : List ℕ} {n : ℕ} (c : Tabled b n t) {w : ℕ} {put : Entry �
   written-start h = record { lengths = refl; room = h; place = rw (from-start c) (zero-add _); front = rw (from-start c); behind = refl }
 
   module _ {k at : ℕ} {out : List ℕ} (i : Written w put b out₀ k at out) where
+    pub written-place : n ≤ k → k ≤ n → at ≡ w * length (listing b)
+    written-place h l = rw (from-end c k h l, mul-zero, add-zero) at (i .place)
+
     pub written-end : n ≤ k → k ≤ n → out ≡ each put (listing b) ++ drop (w * length (listing b)) out₀
     written-end h l =
         let e : listingFrom b k ≡ [] = from-end c k h l in
-        let p : at ≡ w * length (listing b) = rw (e, mul-zero, add-zero) at (i .place) in
+        let p : at ≡ w * length (listing b) = written-place h l in
         let f : take at out ≡ each put (listing b) = sym (append-nil (take at out)) ∙ rw e at (i .front) in
         sym (take-append-drop at out) ∙ rw (f, i .behind, p)
 
@@ -117,4 +120,4 @@ module _ {b t : List ℕ} {n : ℕ} {out₀ : List ℕ} {k at : ℕ} {out out′
       → Written 2 entryWords b out₀ (k + 1) (at + 2) out′
   words-written s i e g f h c = written-one c i h f g (pair v) refl (here-words (here c k h f g) e) s
 
-pub ruleset writes = (written-start, written-end, written-none, entry-room, words-written)
+pub ruleset writes = (written-start, written-place, written-end, written-none, entry-room, words-written)

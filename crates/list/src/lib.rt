@@ -148,10 +148,11 @@ fn put_entry(out: &mut [u8], at: usize, ends: u64, kind: u64, word: u64)
     put8(out, at + 16, word);
 }
 
-// The entries of a table's references, where there is room for them.
-fn write_entries(s: &[u8], count: usize, table: &[u64], out: &mut [u8])
+// The entries of a table's references, where there is room for them, and the place behind them.
+fn write_entries(s: &[u8], count: usize, table: &[u64], out: &mut [u8]) -> usize
     requires { ⌜ Tabled (now s) count (now table) ⌝ }
     requires { ⌜ 24 * length (listing (now s)) ≤ length (now out) ⌝ }
+    ensures { λ r. ⌜ r ≡ 24 * length (listing (now (s .entry))) ⌝ }
     ensures { λ _. ⌜ now (out .exit) ≡ listingBytes (listing (now (s .entry))) ++ drop (24 * length (listing (now (s .entry)))) (now (out .entry)) ⌝ }
 {
     let mut at = 0;
@@ -175,6 +176,7 @@ fn write_entries(s: &[u8], count: usize, table: &[u64], out: &mut [u8])
             }
         }
     }
+    at
 }
 
 // What a table's message answers where there is room for so many entries.
@@ -197,6 +199,14 @@ fn list_table(s: &[u8], count: usize, table: &[u64], out: &mut [u8]) -> Listed
     ensures { λ r. ⌜ r ≡ listedOf (accept count) (listing (now (s .entry))) (length (now (out .entry)) / 24) ⌝ }
     ensures { λ r. ⌜ now (out .exit) ≡ writtenBy 24 entryBytes r (listing (now (s .entry))) (now (out .entry)) ⌝ }
 {
+    if count <= out.len() / 24 {
+        // room for every item: the references need not be counted before
+        let end = write_entries(s, count, table, out);
+        return Listed::Entries {
+            listed: end / 24,
+            count,
+        };
+    }
     let r = answer_in(s, count, table, out.len() / 24);
     if let Listed::Entries {
         listed: _,

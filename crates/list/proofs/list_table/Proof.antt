@@ -8,10 +8,13 @@ pub list-table-spec : {M : Type 1} → statement M
 list-table-spec =
     tie.close
     (tie.spec
+    (λ c κs. search (rooms, needs))
+    (λ c. search needs)
+    (λ c. search (rooms, needs))
     (λ c κs. search needs)
     (λ c. search needs)
     (λ c κs. search (rooms, needs))
     (λ c. search needs)
     (λ c. search needs)
     (λ c. search (rooms, needs))
-    (λ c. search (rooms, needs)))
+    (λ c. search needs))
