@@ -25,15 +25,15 @@ fn asked() -> Choice {
 }
 
 fn show_input(s: &[u8], single: bool, out: &mut [u8]) {
-    let a = show::check(s, single);
+    let a = print::check(s, single);
     match a {
-        read::Answer::Accepted(count) => {
-            let p = show::items(out, 0, s, single, count, b"  ");
-            show::flush(out, p);
+        reader::Answer::Accepted(count) => {
+            let p = print::items(out, 0, s, single, count, b"  ");
+            print::flush(out, p);
         }
-        read::Answer::Refused { number, place } => {
-            let p = show::refused(out, 0, number, place);
-            show::flush(out, p);
+        reader::Answer::Refused { number, place } => {
+            let p = print::refused(out, 0, number, place);
+            print::flush(out, p);
         }
     }
 }

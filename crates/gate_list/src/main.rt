@@ -5,30 +5,30 @@ fn lines(out: &mut [u8], at: usize, s: &[u8], room: &[u8], listed: usize) -> usi
     let mut p = at;
     let mut k = 0;
     while k < listed && k < 1024 {
-        p = show::fresh_line(out, p);
-        p = entries::entry(out, p, s, room, k * 24);
+        p = print::fresh_line(out, p);
+        p = print::entry(out, p, s, room, k * 24);
         k += 1;
     }
     p
 }
 
 fn counted(out: &mut [u8], at: usize, word: &[u8], n: usize) -> usize {
-    let a = show::fresh_line(out, at);
-    let b = show::numbered(out, a, word, n as u64);
-    room::put(out, b, b'\n')
+    let a = print::fresh_line(out, at);
+    let b = print::numbered(out, a, word, n as u64);
+    buffer::put(out, b, b'\n')
 }
 
 fn show_listing(s: &[u8], out: &mut [u8], room: &mut [u8]) {
     match list::list_message(s, room) {
         list::Listed::Refused { number, place } => {
-            let p = show::refused(out, 0, number, place);
-            show::flush(out, p);
+            let p = print::refused(out, 0, number, place);
+            print::flush(out, p);
         }
         list::Listed::Entries { listed, count } => {
             let a = counted(out, 0, b"refs ", listed);
             let b = lines(out, a, s, room, listed);
             let c = counted(out, b, b"items ", count);
-            show::flush(out, c);
+            print::flush(out, c);
         }
     }
 }

@@ -3,21 +3,21 @@
 // granted, or the message's refusal.
 
 fn show_no(s: &[u8], k: usize, listing: &mut [u8], out: &mut [u8]) {
-    let a = room::put_all(out, 0, b"no ");
-    let b = show::field(out, a, k as u64);
+    let a = buffer::put_all(out, 0, b"no ");
+    let b = print::field(out, a, k as u64);
     match list::list_message(s, listing) {
         list::Listed::Entries {
             listed: _,
             count: _,
         } => {
             if k < 1024 {
-                let c = entries::entry(out, b, s, listing, k * 24);
-                show::flush(out, c);
+                let c = print::entry(out, b, s, listing, k * 24);
+                print::flush(out, c);
             }
         }
         list::Listed::Refused { number, place } => {
-            let c = show::refused(out, 0, number, place);
-            show::flush(out, c);
+            let c = print::refused(out, 0, number, place);
+            print::flush(out, c);
         }
     }
 }
@@ -25,13 +25,13 @@ fn show_no(s: &[u8], k: usize, listing: &mut [u8], out: &mut [u8]) {
 fn judge(s: &[u8], table: &[u8], subscriber: u64, listing: &mut [u8], out: &mut [u8]) {
     match list::release(s, table, subscriber) {
         list::Released::Yes => {
-            let a = room::put_all(out, 0, b"yes\n");
-            show::flush(out, a);
+            let a = buffer::put_all(out, 0, b"yes\n");
+            print::flush(out, a);
         }
         list::Released::No(k) => show_no(s, k, listing, out),
         list::Released::Refused { number, place } => {
-            let a = show::refused(out, 0, number, place);
-            show::flush(out, a);
+            let a = print::refused(out, 0, number, place);
+            print::flush(out, a);
         }
     }
 }
@@ -59,28 +59,28 @@ fn judge_file(path: &[u8], subscriber: u64, room: &mut [u8]) {
         os::fail(path);
         return;
     }
-    match table_file::load(fd, path, room) {
-        table_file::Held::Rows(n) => judge_rows(room, n, subscriber),
-        table_file::Held::Nothing => {}
+    match grant_file::load(fd, path, room) {
+        grant_file::Held::Rows(n) => judge_rows(room, n, subscriber),
+        grant_file::Held::Nothing => {}
     }
     libc::close(fd);
 }
 
 fn judge_under(path: &[u8], subscriber: u64) {
-    let mut room = table_file::buffer();
+    let mut room = grant_file::buffer();
     judge_file(path, subscriber, &mut room);
 }
 
 // The second argument: a number as in a table.
-fn subscriber() -> table_text::Number {
+fn subscriber() -> grant_text::Number {
     let mut word = [0u8; 32];
     let n = os::arg(2, &mut word);
-    table_text::unsigned(&word[..n])
+    grant_text::unsigned(&word[..n])
 }
 
 fn run() {
     match subscriber() {
-        table_text::Number::Value(s) => {
+        grant_text::Number::Value(s) => {
             let mut path = io::buffer();
             let n = os::arg(1, &mut path);
             if os::errno() != 0 {
@@ -89,7 +89,7 @@ fn run() {
             }
             judge_under(&path[..n], s);
         }
-        table_text::Number::Bad => {
+        grant_text::Number::Bad => {
             io::write_all(
                 2,
                 b"SUBSCRIBER is no number from 0 to 18446744073709551615\n",

@@ -60,30 +60,30 @@ fn partner(t: &[u8], row: u64) -> u64 {
 }
 
 fn put_row(out: &mut [u8], at: usize, word: &[u8], t: &[u8], row: u64) -> usize {
-    let a = show::numbered(out, at, word, row);
-    show::numbered(out, a, b": subscriber ", subscriber_of(t, row))
+    let a = print::numbered(out, at, word, row);
+    print::numbered(out, a, b": subscriber ", subscriber_of(t, row))
 }
 
 // `row 3: subscriber 9 holds private namespace -20 of row 1: subscriber 7`
 fn put_clash(out: &mut [u8], at: usize, t: &[u8], row: u64) -> usize {
     let a = put_row(out, at, b"row ", t, row);
-    let b = room::put_all(out, a, b" holds private namespace ");
-    let c = entries::integer(out, b, namespace_of(t, row));
+    let b = buffer::put_all(out, a, b" holds private namespace ");
+    let c = print::integer(out, b, namespace_of(t, row));
     let d = put_row(out, c, b" of row ", t, partner(t, row));
-    room::put(out, d, b'\n')
+    buffer::put(out, d, b'\n')
 }
 
 fn judge(t: &[u8], out: &mut [u8]) {
     match grants::check_table(t) {
         grants::Verdict::Passes => {
-            let a = show::numbered(out, 0, b"passes ", (t.len() / 16) as u64);
-            let b = room::put(out, a, b'\n');
-            show::flush(out, b);
+            let a = print::numbered(out, 0, b"passes ", (t.len() / 16) as u64);
+            let b = buffer::put(out, a, b'\n');
+            print::flush(out, b);
         }
         grants::Verdict::Refused(row) => {
-            let a = show::refused(out, 0, 18, row as usize);
+            let a = print::refused(out, 0, 18, row as usize);
             let b = put_clash(out, a, t, row);
-            show::flush(out, b);
+            print::flush(out, b);
         }
     }
 }
@@ -94,7 +94,7 @@ fn answer(room: &[u8], rows: usize, pack: bool) {
     }
     let size = rows * 16;
     if pack {
-        show::flush(room, size);
+        print::flush(room, size);
         return;
     }
     let mut out = [0u8; 1024];
@@ -102,14 +102,14 @@ fn answer(room: &[u8], rows: usize, pack: bool) {
 }
 
 fn answer_in(room: &mut [u8], pack: bool) {
-    match table_file::load(0, b"table", room) {
-        table_file::Held::Rows(n) => answer(room, n, pack),
-        table_file::Held::Nothing => {}
+    match grant_file::load(0, b"table", room) {
+        grant_file::Held::Rows(n) => answer(room, n, pack),
+        grant_file::Held::Nothing => {}
     }
 }
 
 fn answer_input(pack: bool) {
-    let mut room = table_file::buffer();
+    let mut room = grant_file::buffer();
     answer_in(&mut room, pack);
 }
 

@@ -25,26 +25,26 @@ fn asked() -> Choice {
 }
 
 // What was written into a lent buffer, or the refusal.
-fn send(answer: write::Written, room: &[u8]) {
+fn send(answer: text_write::Written, room: &[u8]) {
     match answer {
-        write::Written::Bytes { length, count: _ } => {
-            show::flush(room, length);
+        text_write::Written::Bytes { length, count: _ } => {
+            print::flush(room, length);
         }
-        write::Written::Refused { number, place } => {
+        text_write::Written::Refused { number, place } => {
             let mut out = io::buffer();
-            let p = show::refused(&mut out, 0, number, place);
-            show::flush(&out, p);
+            let p = print::refused(&mut out, 0, number, place);
+            print::flush(&out, p);
         }
     }
 }
 
 fn write_ari(ari: &[u8], room: &mut [u8]) {
-    let answer = write::write_text(ari, room);
+    let answer = text_write::write_text(ari, room);
     send(answer, room);
 }
 
 fn read_ari(text: &[u8], room: &mut [u8]) {
-    let answer = parse::read_text(text, room);
+    let answer = text_read::read_text(text, room);
     send(answer, room);
 }
 

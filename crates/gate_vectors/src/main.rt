@@ -80,29 +80,29 @@ fn unhex(digits: &[u8], buffer: &mut [u8]) -> Bytes
 }
 
 fn check_input(s: &[u8], single: bool, out: &mut [u8], at: usize) -> usize {
-    let a = show::check(s, single);
-    show::answer(out, at, a)
+    let a = print::check(s, single);
+    print::answer(out, at, a)
 }
 
 fn list_input(s: &[u8], single: bool, out: &mut [u8], at: usize) -> usize {
-    let a = show::check(s, single);
-    let read::Answer::Accepted(count) = a else {
-        return show::answer(out, at, a);
+    let a = print::check(s, single);
+    let reader::Answer::Accepted(count) = a else {
+        return print::answer(out, at, a);
     };
-    let p = show::items(out, at, s, single, count, b"");
-    show::answer(out, p, a)
+    let p = print::items(out, at, s, single, count, b"");
+    print::answer(out, p, a)
 }
 
 fn refused_line(out: &mut [u8], at: usize, number: u64, place: usize) -> usize {
-    let p = show::fresh_line(out, at);
-    show::refused(out, p, number, place)
+    let p = print::fresh_line(out, at);
+    print::refused(out, p, number, place)
 }
 
 // The start of an acceptance's line: a word and the item count.
 fn started(out: &mut [u8], at: usize, word: &[u8], count: usize) -> usize {
-    let p = show::fresh_line(out, at);
-    let q = show::numbered(out, p, word, count as u64);
-    room::put(out, q, b' ')
+    let p = print::fresh_line(out, at);
+    let q = print::numbered(out, p, word, count as u64);
+    buffer::put(out, q, b' ')
 }
 
 fn wide(x: u8) -> u64 {
@@ -114,8 +114,8 @@ fn digits_of(room: &[u8], length: usize, out: &mut [u8], at: usize) -> usize {
     let mut p = at;
     let mut i = 0;
     while i < length && i < room.len() {
-        p = show::fresh_line(out, p);
-        p = show::hex(out, p, wide(room[i]), 2);
+        p = print::fresh_line(out, p);
+        p = print::hex(out, p, wide(room[i]), 2);
         i += 1;
     }
     p
@@ -123,25 +123,25 @@ fn digits_of(room: &[u8], length: usize, out: &mut [u8], at: usize) -> usize {
 
 // A text may be longer than the room that is kept for a line: it goes out by itself.
 fn write_in(s: &[u8], room: &mut [u8], out: &mut [u8], at: usize) -> usize {
-    match write::write_text(s, room) {
-        write::Written::Bytes { length, count } => {
+    match text_write::write_text(s, room) {
+        text_write::Written::Bytes { length, count } => {
             let p = started(out, at, b"text ", count);
-            show::flush(out, p);
-            show::flush(room, length);
-            room::put(out, 0, b'\n')
+            print::flush(out, p);
+            print::flush(room, length);
+            buffer::put(out, 0, b'\n')
         }
-        write::Written::Refused { number, place } => refused_line(out, at, number, place),
+        text_write::Written::Refused { number, place } => refused_line(out, at, number, place),
     }
 }
 
 fn read_in(t: &[u8], room: &mut [u8], out: &mut [u8], at: usize) -> usize {
-    match parse::read_text(t, room) {
-        write::Written::Bytes { length, count } => {
+    match text_read::read_text(t, room) {
+        text_write::Written::Bytes { length, count } => {
             let p = started(out, at, b"bytes ", count);
             let q = digits_of(room, length, out, p);
-            room::put(out, q, b'\n')
+            buffer::put(out, q, b'\n')
         }
-        write::Written::Refused { number, place } => refused_line(out, at, number, place),
+        text_write::Written::Refused { number, place } => refused_line(out, at, number, place),
     }
 }
 
@@ -156,9 +156,9 @@ fn read_input(t: &[u8], out: &mut [u8], at: usize) -> usize {
 }
 
 fn bad_line(out: &mut [u8], at: usize, line: u64) -> usize {
-    let p = show::fresh_line(out, at);
-    let q = show::numbered(out, p, b"bad line ", line);
-    room::put(out, q, b'\n')
+    let p = print::fresh_line(out, at);
+    let q = print::numbered(out, p, b"bad line ", line);
+    buffer::put(out, q, b'\n')
 }
 
 fn answer_call(call: Call, s: &[u8], line: u64, out: &mut [u8], at: usize) -> usize {
@@ -343,7 +343,7 @@ fn run(input: &mut [u8], buffer: &mut [u8], out: &mut [u8]) {
         s = turn(input, s, buffer, out);
         turns -= 1;
     }
-    show::flush(out, s.at);
+    print::flush(out, s.at);
 }
 
 // A line has room for a text of 32,769 bytes, two digits a byte.

@@ -22,15 +22,15 @@ use Rattle.ari.specs.Listing.{Entry, referring, listing}
 use Rattle.ari.proofs.Spots.{spot-count}
 use Rattle.ari.proofs.Demand.{demand-two}
 use Rattle.ari.proofs.Decoded.{heads-encode}
-use Rattle.read.specs.declared.Answer.{Answer}
-use Rattle.read.specs.declared.Answer.the-variants.{Accepted}
-use Rattle.read.specs.declared.Answer.the-variants as answers
-use Rattle.read.specs.Answers.{answerOf, Kept}
-use Rattle.read.proofs.Whole.{all-bytes}
+use Rattle.reader.specs.declared.Answer.{Answer}
+use Rattle.reader.specs.declared.Answer.the-variants.{Accepted}
+use Rattle.reader.specs.declared.Answer.the-variants as answers
+use Rattle.reader.specs.Answers.{answerOf, Kept}
+use Rattle.reader.proofs.Whole.{all-bytes}
 use Rattle.grants.specs.Grants.{granted, Release, judgeFrom, release}
 use Rattle.grants.specs.Bytes.{rows, entryBytes, releaseBytes}
-use Rattle.items.specs.Records.{noSpot}
-use Rattle.items.proofs.Entries.{entry-is}
+use Rattle.item_records.specs.Records.{noSpot}
+use Rattle.item_records.proofs.Entries.{entry-is}
 use Rattle.list.specs.declared.Listed.{Listed}
 use Rattle.list.specs.declared.Listed.the-variants.{Entries, Refused}
 use Rattle.list.specs.Answers.{each, listedOf, listIn, writtenBy, writtenIn}

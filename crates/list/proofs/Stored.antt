@@ -8,7 +8,7 @@ use lib.Seq.{sets}
 use borrow.Author.Tests.{le-leb, lt-leb}
 use Rattle.cbor.specs.Byte.{be}
 use Rattle.cbor.proofs.ByteLaws.{length-be, be-join}
-use Rattle.room.proofs.Putting.{sets-append}
+use Rattle.buffer.proofs.Putting.{sets-append}
 use Rattle.list.specs.Answers.{wordPut}
 
 module _ (o : List ℕ) (at : ℕ) where

@@ -24,10 +24,10 @@ use Rattle.ari.specs.Listing as ari
 use Rattle.ari.proofs.Spots.{Covers, spot-covers, spot-count}
 use Rattle.ari.proofs.Referring.{placeOf, found-references}
 use Rattle.ari.proofs.Named.{Named, InRange, own-namespace, numbers-in-range}
-use Rattle.slots.specs.Code.{asksOf}
-use Rattle.read.specs.Walks.{codeOf, entryOf}
-use Rattle.items.specs.Records.{noSpot, spotNumber}
-use Rattle.items.proofs.Entries.{Fine, all-fine, at-all, head-is, inside, entry-first, entry-after, entry-slot, entry-head, entry-reference}
+use Rattle.grammar.specs.Code.{asksOf}
+use Rattle.reader.specs.Walks.{codeOf, entryOf}
+use Rattle.item_records.specs.Records.{noSpot, spotNumber}
+use Rattle.item_records.proofs.Entries.{Fine, all-fine, at-all, head-is, inside, entry-first, entry-after, entry-slot, entry-head, entry-reference}
 use Rattle.grants.specs.Bytes.{kindOf, wordOf}
 use Rattle.list.specs.declared.Inside.{Inside}
 use Rattle.list.specs.declared.Inside.the-variants.{Nothing, At}

@@ -8,7 +8,7 @@ use Rattle.cbor.specs.declared.Head.{Head}
 use Rattle.cbor.specs.declared.Head.the-variants.{Bad, Good}
 use Rattle.cbor.specs.Answer.{headAt}
 use Rattle.ari.specs.Table.{max64}
-use Rattle.slots.specs.Code.{asksOf}
+use Rattle.grammar.specs.Code.{asksOf}
 use Rattle.list.specs.declared.Inside.the-variants.{Nothing, At}
 use Rattle.list.specs.Entries.{insideFrom, namespaceBy, namespaceOf}
 

@@ -17,9 +17,9 @@ use Rattle.ari.specs.Decode.{decode}
 use Rattle.ari.specs.Rules.{Is}
 use Rattle.ari.specs.Listing.{Entry, referring}
 use Rattle.ari.specs.Listing as ari
-use Rattle.slots.specs.Code.{asksOf}
-use Rattle.read.specs.Walks.{entryOf}
-use Rattle.items.specs.Records.{spotNumber}
+use Rattle.grammar.specs.Code.{asksOf}
+use Rattle.reader.specs.Walks.{entryOf}
+use Rattle.item_records.specs.Records.{spotNumber}
 use Rattle.list.specs.declared.Inside.{Inside}
 use Rattle.list.specs.declared.Inside.the-variants.{Nothing, At}
 use Rattle.list.specs.declared.Namespace.{Namespace}

@@ -13,7 +13,7 @@ ghost use Rattle.grants.specs.Grants.{granted, judgeFrom};
 ghost use Rattle.grants.specs.Bytes.{rows, entryBytes, releaseBytes};
 ghost use Rattle.list.specs.Answers.{wordPut, listingBytes, entryWords, wordsOf, listedOf, listIn, listOf, writtenBy, writtenIn, writtenOf, said};
 ghost use Rattle.list.specs.Entries.{insideFrom, namespaceOf, Tabled};
-use read::Answer;
+use reader::Answer;
 
 // The entries listed with the item count; or the message's own refusal; or 16 with the number of references.
 pub enum Listed {
@@ -44,7 +44,7 @@ struct Namespace {
 fn inside_at(s: &[u8], entry: u64) -> Inside
     ensures { λ r. ⌜ r ≡ insideFrom (now (s .entry)) entry ⌝ }
 {
-    if !slots::asks(entry / 1099511627776 % 256) {
+    if !grammar::asks(entry / 1099511627776 % 256) {
         return Inside::Nothing;
     }
     let h = cbor::head_again(s, (entry % 65536) as usize);
@@ -222,7 +222,7 @@ fn list_in(s: &[u8], out: &mut [u8], table: &mut [u64]) -> Listed
     ensures { λ r. ⌜ r ≡ listOf firstLimits (now (s .entry)) (now (out .entry)) ⌝ }
     ensures { λ r. ⌜ now (out .exit) ≡ writtenOf firstLimits (now (s .entry)) (now (out .entry)) ⌝ }
 {
-    match read::keep_message(s, table) {
+    match reader::keep_message(s, table) {
         Answer::Refused { number, place } => Listed::Refused { number, place },
         Answer::Accepted(count) => list_table(s, count, table, out),
     }
@@ -246,7 +246,7 @@ pub fn list_message(s: &[u8], out: &mut [u8]) -> Listed
     if s.len() <= 128 {
         return list_small(s, out);
     }
-    let mut table = [0u64; read::ITEMS];
+    let mut table = [0u64; reader::ITEMS];
     list_in(s, out, &mut table)
 }
 
@@ -301,7 +301,7 @@ fn words_in(s: &[u8], out: &mut [u64], table: &mut [u64]) -> Listed
     ensures { λ r. ⌜ r ≡ listIn 2 firstLimits (now (s .entry)) (now (out .entry)) ⌝ }
     ensures { λ r. ⌜ now (out .exit) ≡ writtenIn 2 entryWords firstLimits (now (s .entry)) (now (out .entry)) ⌝ }
 {
-    match read::keep_message(s, table) {
+    match reader::keep_message(s, table) {
         Answer::Refused { number, place } => Listed::Refused { number, place },
         Answer::Accepted(count) => words_table(s, count, table, out),
     }
@@ -312,7 +312,7 @@ pub fn list_words(s: &[u8], out: &mut [u64]) -> Listed
     ensures { λ r. ⌜ r ≡ listIn 2 firstLimits (now (s .entry)) (now (out .entry)) ⌝ }
     ensures { λ r. ⌜ now (out .exit) ≡ writtenIn 2 entryWords firstLimits (now (s .entry)) (now (out .entry)) ⌝ }
 {
-    let mut table = [0u64; read::ITEMS];
+    let mut table = [0u64; reader::ITEMS];
     words_in(s, out, &mut table)
 }
 
@@ -358,7 +358,7 @@ fn release_in(s: &[u8], t: &[u8], subscriber: u64, table: &mut [u64]) -> Release
     requires { ⌜ min 1024 (length (now s)) ≤ length (now table) ⌝ }
     ensures { λ r. ⌜ said r ≡ releaseBytes firstLimits (now (s .entry)) (now (t .entry)) subscriber ⌝ }
 {
-    match read::keep_message(s, table) {
+    match reader::keep_message(s, table) {
         Answer::Refused { number, place } => Released::Refused { number, place },
         Answer::Accepted(count) => {
             if t.len() % 16 != 0 {
@@ -387,6 +387,6 @@ pub fn release(s: &[u8], t: &[u8], subscriber: u64) -> Released
     if s.len() <= 128 {
         return release_small(s, t, subscriber);
     }
-    let mut table = [0u64; read::ITEMS];
+    let mut table = [0u64; reader::ITEMS];
     release_in(s, t, subscriber, &mut table)
 }

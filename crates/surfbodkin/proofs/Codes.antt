@@ -15,9 +15,9 @@ use Rattle.ari.specs.Rules.{Is}
 use Rattle.ari.specs.Listing.{Space, Entry, listing}
 use Rattle.ari.proofs.Demand.{demand-two}
 use Rattle.ari.proofs.Numbers.{Numbered, numbered}
-use Rattle.read.specs.declared.Answer.{Answer}
-use Rattle.read.specs.declared.Answer.the-variants.{Accepted, Refused}
-use Rattle.read.specs.Answers.{answerOf}
+use Rattle.reader.specs.declared.Answer.{Answer}
+use Rattle.reader.specs.declared.Answer.the-variants.{Accepted, Refused}
+use Rattle.reader.specs.Answers.{answerOf}
 use Rattle.grants.specs.Grants.{Release, no, granted, judgeFrom, judge, release}
 use Rattle.grants.specs.Bytes.{rows, ragged, whole, releaseBytes}
 use Rattle.grants.specs.declared.Verdict.{Verdict}
@@ -38,9 +38,9 @@ use Rattle.text.specs.Answer.{Output, output, spellOut, writeText, checked, rea
 use Rattle.text.specs.Parse.{same, candidate}
 use Rattle.text.specs.Answer as answers
 use Rattle.text.proofs.Round.{first-short, write-exactly, read-exactly, read-too-long}
-use Rattle.write.specs.Written.{writtenOf}
-use Rattle.write.specs.declared.Written.{Written}
-use Rattle.write.specs.declared.Written.the-variants as writtens
+use Rattle.text_write.specs.Written.{writtenOf}
+use Rattle.text_write.specs.declared.Written.{Written}
+use Rattle.text_write.specs.declared.Written.the-variants as writtens
 use Rattle.surfbodkin.specs.Code.{refusalCode, countCode, checkCode, answerCode, Bounded, listCode, Few, tableCode, releaseCode, Small, outputCode, writtenCode, Short}
 
 module _ {a : Answer} where

@@ -3,15 +3,15 @@
 use Prim.Native.Nat.{ℕ, _+_, _-_, _*_, _^_, _≤_, min}
 use Rattle.ari.specs.Reader.{refuse, accept}
 use Rattle.ari.specs.Reader as reader
-use Rattle.read.specs.declared.Answer.{Answer}
-use Rattle.read.specs.declared.Answer.the-variants.{Accepted, Refused}
+use Rattle.reader.specs.declared.Answer.{Answer}
+use Rattle.reader.specs.declared.Answer.the-variants.{Accepted, Refused}
 use Rattle.grants.specs.Grants.{Check, passes, Release, yes, no}
 use Rattle.list.specs.declared.Listed.{Listed}
 use Rattle.list.specs.declared.Listed.the-variants as listed
 use lib.ListN.{length}
 use Rattle.text.specs.Answer.{Output, output}
-use Rattle.write.specs.declared.Written.{Written}
-use Rattle.write.specs.declared.Written.the-variants as written
+use Rattle.text_write.specs.declared.Written.{Written}
+use Rattle.text_write.specs.declared.Written.the-variants as written
 
 -- what no machine can hold is the greatest number of 56 bits
 abbrev pub refusalCode : ℕ → ℕ → ℕ

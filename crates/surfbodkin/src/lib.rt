@@ -8,13 +8,13 @@ ghost use Rattle.grants.specs.Verdict as verdict;
 ghost use Rattle.list.specs.Answers.{listOf, writtenOf, said};
 ghost use lib.ListN.{length};
 ghost use Rattle.text.specs.Answer.{writeText, readText, lent};
-ghost use Rattle.write.specs.Written.{roomAfter};
+ghost use Rattle.text_write.specs.Written.{roomAfter};
 ghost use Rattle.surfbodkin.specs.Code.{refusalCode, countCode, checkCode, answerCode, Bounded, listCode, Few, tableCode, releaseCode, Small, outputCode, writtenCode, Short};
 use grants::Verdict;
 use list::Listed;
 use list::Released;
-use read::Answer;
-use write::Written;
+use reader::Answer;
+use text_write::Written;
 
 // The top byte is the refusal's number, the low 56 bits its place.
 fn refusal_code(number: u64, low: u64) -> u64
@@ -49,14 +49,14 @@ fn check_code(a: Answer) -> u64
 pub extern "C" fn surfbodkin_check_single(input: &[u8]) -> u64
     ensures { λ r. ⌜ r ≡ checkCode (read firstLimits single (now (input .entry))) ⌝ }
 {
-    check_code(read::check_single(input))
+    check_code(reader::check_single(input))
 }
 
 #[no_mangle]
 pub extern "C" fn surfbodkin_check_message(input: &[u8]) -> u64
     ensures { λ r. ⌜ r ≡ checkCode (read firstLimits aMessage (now (input .entry))) ⌝ }
 {
-    check_code(read::check_message(input))
+    check_code(reader::check_message(input))
 }
 
 fn list_code(a: Listed) -> u64
@@ -126,7 +126,7 @@ pub extern "C" fn surfbodkin_write_text(ari: &[u8], out: &mut [u8]) -> u64
     ensures { λ r. ⌜ r ≡ outputCode (lent (length (now (out .entry))) (writeText firstLimits (now (ari .entry)))) ⌝ }
     ensures { λ r. ⌜ now (out .exit) ≡ roomAfter (now (out .entry)) (lent (length (now (out .entry))) (writeText firstLimits (now (ari .entry)))) ⌝ }
 {
-    written_code(write::write_text(ari, out))
+    written_code(text_write::write_text(ari, out))
 }
 
 #[no_mangle]
@@ -134,5 +134,5 @@ pub extern "C" fn surfbodkin_read_text(text: &[u8], out: &mut [u8]) -> u64
     ensures { λ r. ⌜ r ≡ outputCode (lent (length (now (out .entry))) (readText firstLimits (now (text .entry)))) ⌝ }
     ensures { λ r. ⌜ now (out .exit) ≡ roomAfter (now (out .entry)) (lent (length (now (out .entry))) (readText firstLimits (now (text .entry)))) ⌝ }
 {
-    written_code(parse::read_text(text, out))
+    written_code(text_read::read_text(text, out))
 }

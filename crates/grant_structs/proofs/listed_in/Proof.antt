@@ -1,4 +1,4 @@
-use Rattle.read.proofs.Whole.{all-bytes}
+use Rattle.reader.proofs.Whole.{all-bytes}
 use borrow.Author.Needs.{needs}
 use Rattle.grant_structs.proofs.Words.{words-decide}
 use Rattle.grant_structs.proofs.listed_in.Statement.{statement}

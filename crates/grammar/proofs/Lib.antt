@@ -1,0 +1,4 @@
+pub mod Hits
+pub mod Ways
+pub mod Right
+pub mod NameWays

@@ -1,0 +1,12 @@
+-- `grammar::asks` meets its contract: a bit of the inner word.
+use borrow.Author.Needs.{needs}
+use mathlib.Core.Path.{_≡_, refl, sym, _∙_, ap}
+use Rattle.grammar.proofs.asks.Statement.{statement}
+use Rattle.grammar.proofs.asks.Tie as tie
+
+pub asks-spec : {M : Type 1} → statement M
+asks-spec =
+    tie.close
+    (tie.spec
+    (λ c κs. search needs)
+    (λ c. rw (c .inside-word .ensures)))

@@ -1,0 +1,16 @@
+use Rattle.grammar.proofs.Ways.{none-left, next-due}
+use borrow.Author.Needs.{needs}
+use Rattle.grammar.proofs.next_slot.Statement.{statement}
+use Rattle.grammar.proofs.next_slot.Tie as tie
+
+pub next-slot-spec : {M : Type 1} → statement M
+next-slot-spec =
+    tie.close
+    (tie.spec
+    (λ c κs. search needs)
+    (λ c κs. search needs)
+    (λ c. search (none-left, needs))
+    (λ c κs. search needs)
+    (λ c κs. search needs)
+    (λ c. search needs)
+    (λ c. next-due (c .before .before .before .before .before .args .slot) (c .before .before .before .before .before .args .arg) (c .before .before .before .before .before .args .more) (c .before .before .before .before .rule-word .ensures) (c .before .before .before .kept .ensures) (search needs) (c .before .type-number .ensures) (c .kept2 .ensures)))

@@ -1,0 +1,11 @@
+use Rattle.grammar.proofs.Ways.{a-type, no-type}
+use borrow.Author.Needs.{needs}
+use Rattle.grammar.proofs.type_number.Statement.{statement}
+use Rattle.grammar.proofs.type_number.Tie as tie
+
+pub type-number-spec : {M : Type 1} → statement M
+type-number-spec =
+    tie.close
+    (tie.spec
+    (λ c. (search (a-type, no-type, needs), search needs))
+    (λ c. (search (a-type, no-type, needs), search needs)))

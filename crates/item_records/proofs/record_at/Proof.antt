@@ -1,0 +1,13 @@
+-- `item_records::record_at` meets its contract: the fields of the entry, and the head that stands there.
+use borrow.Author.Needs.{needs}
+use Rattle.item_records.proofs.Entries.{the-record}
+use Rattle.item_records.proofs.record_at.Statement.{statement}
+use Rattle.item_records.proofs.record_at.Tie as tie
+
+pub record-at-spec : {M : Type 1} → statement M
+record-at-spec =
+    tie.close
+    (tie.spec
+    (λ c κs. search needs)
+    (λ c κs. search needs)
+    (λ c. search (the-record, needs)))

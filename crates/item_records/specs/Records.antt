@@ -1,0 +1,85 @@
+-- Item records: document 01, 'Item records and the listing'.
+use Prim.Native.Nat.{ℕ, _/_, _%_, _≤_}
+use mathlib.Core.Bool.{Bool, true, false, not, _&&_, cond}
+use mathlib.Core.List.{List, [], _∷_}
+use lib.ListN.{length, getD}
+use lib.Dec.{ltb, eqb}
+use Rattle.cbor.specs.declared.Head.{Head}
+use Rattle.cbor.specs.declared.Head.the-variants.{Bad, Good}
+use Rattle.cbor.specs.Answer.{headAt}
+use Rattle.ari.specs.Table.{version, isReference}
+use Rattle.ari.specs.Reader.{Limits, Input, refuse, accept, read}
+use Rattle.ari.specs.Reader as reader
+use Rattle.ari.specs.Items.{none, Spot, spotsOf}
+use Rattle.ari.specs.Decode.{decode}
+use Rattle.grammar.specs.Code.{asksOf}
+use Rattle.reader.specs.declared.Answer.{Answer}
+use Rattle.reader.specs.declared.Answer.the-variants.{Accepted, Refused}
+use Rattle.item_records.specs.declared.Literal.{Literal}
+use Rattle.item_records.specs.declared.Literal.the-variants.{Unsigned, Negative, Bytes, Text, Simple, Half, Single, Double}
+use Rattle.item_records.specs.declared.Container.{Container}
+use Rattle.item_records.specs.declared.Container.the-variants.{Array, Map}
+use Rattle.item_records.specs.declared.Kind.{Kind}
+use Rattle.item_records.specs.declared.Kind.the-variants as kinds
+use Rattle.item_records.specs.declared.Record.{Record}
+use Rattle.item_records.specs.declared.Found.{Found}
+use Rattle.item_records.specs.declared.Found.the-variants as found
+
+-- "its kind, with that kind's own data (a value, a float's bits, a string's length, or a container's length and whether it is a reference)"
+abbrev pub literalOf : ℕ → ℕ → Literal
+literalOf k a =
+    getD (Unsigned a ∷ Negative a ∷ Bytes a ∷ Text a ∷ Simple a ∷ Simple a ∷ Simple a ∷ Half a ∷ Single a ∷ Double a ∷ []) k (Simple a)
+
+unfoldable pub kindOf : Bool → ℕ → ℕ → Kind
+kindOf true k a = kinds.Reference a
+kindOf false k a = cond (eqb k 4) (kinds.Container (Array a)) (cond (eqb k 5) (kinds.Container (Map a)) (kinds.Literal (literalOf k a)))
+
+-- "first byte, byte after its last, open containers around it, and its kind"
+abbrev pub recordOf : Spot → Record
+recordOf x = record {
+  first = x .first;
+  after = x .after;
+  around = x .around;
+  kind = kindOf (isReference (x .slot) (x .lead)) (x .lead .kind) (x .lead .arg);
+}
+
+-- the same from an item's entry: the bytes still have its head
+abbrev pub referenceBy : ℕ → ℕ → ℕ → Bool
+referenceBy i k a = asksOf i && (eqb k 4 && not (eqb a 2))
+
+abbrev pub kindAt : ℕ → Head → Kind
+kindAt i (Good k a q) = kindOf (referenceBy i k a) k a
+kindAt i (Bad r) = kinds.Literal (Simple 0)
+
+unfoldable pub recordFrom : List ℕ → ℕ → Record
+recordFrom b e = record {
+  first = e % 65536;
+  after = e / 65536 % 65536;
+  around = e / 4294967296 % 256;
+  kind = kindAt (e / 1099511627776 % 256) (headAt b (e % 65536));
+}
+
+-- the items of an input, and item k
+abbrev pub noSpot : Spot
+noSpot = record { slot = version; first = 0; after = 0; around = 0; lead = record { info = 0; kind = 0; arg = 0 }; str = []; inside = none }
+
+abbrev pub spotNumber : Input → List ℕ → ℕ → Spot
+spotNumber i b k = getD (spotsOf i (decode b)) k noSpot
+
+-- "A refused input gives its own refusal before 17": "item number not below the item count; the number is the count"
+abbrev pub foundOf : Input → List ℕ → ℕ → reader.Answer → Found
+foundOf i b k (refuse r p) = found.Refused r p
+foundOf i b k (accept n) = cond (ltb k n) (found.Item (recordOf (spotNumber i b k)) n) (found.Refused 17 n)
+
+unfoldable pub itemOf : Limits → Input → List ℕ → ℕ → Found
+itemOf m i b k = foundOf i b k (read m i b)
+
+-- the same from the input's answer and table
+abbrev pub foundFrom : List ℕ → ℕ → List ℕ → Answer → Found
+foundFrom b k t (Refused r p) = found.Refused r p
+foundFrom b k t (Accepted n) = cond (ltb k n) (found.Item (recordFrom b (getD t k 0)) n) (found.Refused 17 n)
+
+-- a table with room for each item
+abbrev pub Roomy : Answer → List ℕ → Type 0
+Roomy (Refused r p) t = Unit {0}
+Roomy (Accepted n) t = n ≤ length t

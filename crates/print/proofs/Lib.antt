@@ -1,0 +1,5 @@
+pub mod Lines
+pub mod Numerals
+pub mod Putting
+pub mod Lined
+pub mod Ways

@@ -1,0 +1,4 @@
+pub mod Texts
+pub mod Integers
+pub mod Items
+pub mod Entries

@@ -1,0 +1,132 @@
+-- `reader::walk_inside` and `reader::walk_level` meet their contracts. Both measures are the containers that may still be opened.
+use Prim.Native.Nat.{ℕ, suc, pred, _+_, _-_, _*_, _<_, _≤_}
+use mathlib.Core.Path.{_≡_, refl, sym, _∙_}
+use mathlib.Core.Bool.{true}
+use mathlib.Core.List.{[]}
+use native.Mathlib.Omega.{arith}
+use native.Mathlib.Nat.{le-of-lt}
+use lib.ListN.{length, length-set}
+use borrow.Author.Needs.{needs}
+use borrow.Fn.Kinds.{In}
+use borrow.Fn.PlainCycle.{Measures, is, falls, and}
+use Rattle.cbor.specs.Byte.{all, isByte}
+use Rattle.ari.specs.Table.{rule}
+use Rattle.grammar.specs.Code.{slotOf}
+use Rattle.grammar.proofs.Right.{IsSlot}
+use Rattle.reader.specs.Steps.{part}
+use Rattle.reader.proofs.Bounds.{nothing-inside, opened, bounds, taken-on, taken-in, taken-kind, taken-fits, read-in, read-few, read-on, less-deep, one-in, falls-on, span-order, span-within}
+use Rattle.reader.proofs.Loop.{Leads, begins, halts, breaks, ends, again, next-slotted, turns}
+use Rattle.reader.proofs.walk_inside.Reads as walk-inside
+use Rattle.reader.proofs.walk_inside.Kinds as walk-inside-kinds
+use Rattle.reader.proofs.+walk_inside+walk_level.Lts-walk_inside as walk-inside-lts
+use Rattle.reader.proofs.walk_level.Reads as walk-level
+use Rattle.reader.proofs.walk_level.Kinds as walk-level-kinds
+use Rattle.reader.proofs.+walk_inside+walk_level.Lts-walk_level as walk-level-lts
+use Rattle.reader.proofs.close.Reads as close-reads
+use Rattle.reader.proofs.key_after.Reads as key-after-reads
+use Rattle.reader.proofs.stopped.Reads as stopped-reads
+use Rattle.reader.proofs.take_head.Reads as take-head-reads
+use Rattle.grammar.proofs.inside.Reads as inside-reads
+use Rattle.grammar.proofs.next_slot.Reads as next-slot-reads
+use Rattle.reader.proofs.+walk_inside+walk_level.{statement}
+use Rattle.reader.proofs.+walk_inside+walk_level.Tie.{close}
+
+abbrev μ-walk-inside : Measures 2 walk-inside-kinds.ps ℕ
+μ-walk-inside κs a = a .1 .1 .1 .1 .0 * 2
+
+abbrev μ-walk-level : Measures 2 walk-level-kinds.ps ℕ
+μ-walk-level κs a = a .1 .1 .1 .1 .0 * 2 + 1
+
+abbrev walk-inside-at : ℕ → In 2 walk-inside-kinds.ps
+walk-inside-at t =
+    and 2 walk-inside-kinds.ps (is 2 walk-inside-kinds.ps μ-walk-inside t) walk-inside.Pre
+
+abbrev walk-inside-below : ℕ → In 2 walk-inside-kinds.ps
+walk-inside-below t =
+    and 2 walk-inside-kinds.ps (falls 2 walk-inside-kinds.ps _<_ μ-walk-inside t) walk-inside.Pre
+
+abbrev walk-level-at : ℕ → In 2 walk-level-kinds.ps
+walk-level-at t =
+    and 2 walk-level-kinds.ps (is 2 walk-level-kinds.ps μ-walk-level t) walk-level.Pre
+
+abbrev walk-level-below : ℕ → In 2 walk-level-kinds.ps
+walk-level-below t =
+    and 2 walk-level-kinds.ps (falls 2 walk-level-kinds.ps _<_ μ-walk-level t) walk-level.Pre
+
+abbrev walk-level-Inv-loop : walk-level-lts.InvT-loop
+walk-level-Inv-loop s at count items depth around slot more table₀ p₀ c₀ place₀ left₀ prev₀ table p c place left prev =
+    Leads s items (slotOf slot) more [] depth around at count table₀ (slotOf place) left (part s (prev .from) (prev .to)) p c table
+    × IsSlot place × (prev .from ≤ prev .to) × (prev .to ≤ length s) × (p ≤ length s) × (c ≤ items) × (length table ≡ length table₀)
+    × (all isByte s ≡ true) × (length s < 65536) × (depth + around < 256)
+
+abbrev walk-level-μ-loop : walk-level-lts.MeasureT-loop
+walk-level-μ-loop s at count items depth around slot more table₀ p₀ c₀ place₀ left₀ prev₀ table p c place left prev = length s - p
+
+pub +walk-inside+walk-level-spec : {M : Type 1} → statement M
++walk-inside+walk-level-spec = close μ-walk-inside μ-walk-level (λ t. walk-inside-lts.spec (inside-reads.Asked, inside-reads.Learnt, walk-level-below t, walk-level.Post)
+    (walk-inside-at t)
+    walk-inside.Post
+    (λ c κs. search needs)
+    (λ c. search needs)
+    (λ c. search needs)
+    (λ c. search (bounds, needs))
+    (λ c. search (bounds, needs))
+    (λ c κs. (search (less-deep, bounds, needs), (search needs, search needs, search (one-in, bounds, needs), search (bounds, needs), search needs, search needs)))
+    (λ c. search (nothing-inside, needs))
+    (λ c. search needs)
+    (λ c. search (opened, needs)))
+    λ t. walk-level-lts.spec (take-head-reads.Asked, take-head-reads.Learnt, stopped-reads.Asked, stopped-reads.Learnt, walk-inside-below t, walk-inside.Post, close-reads.Asked, close-reads.Learnt, key-after-reads.Asked, key-after-reads.Learnt, next-slot-reads.Asked, next-slot-reads.Learnt)
+    (walk-level-at t)
+    walk-level.Post
+    walk-level-Inv-loop
+    walk-level-μ-loop
+    (λ c. (search turns, search needs, search needs, search needs, search needs, search needs, search needs, search needs, search needs, search needs))
+    (λ c κs. search needs)
+    (λ c. search needs)
+    (λ c. search needs)
+    (λ c κs. search needs)
+    (λ c. search needs)
+    (λ c. search (turns, needs))
+    (λ c. search (bounds, needs))
+    (λ c κs. (search needs, ((search needs, search needs, search needs, search needs, search (bounds, needs), search (bounds, needs)), search (bounds, needs))))
+    (λ c. search needs)
+    (λ c. search needs)
+    (λ c. search needs)
+    (λ c. search (turns, needs))
+    (λ c κs. (search needs, search (bounds, needs), search needs, search needs))
+    (λ c κs. search needs)
+    (λ c κs. search needs)
+    (λ c. search needs)
+    (λ c. search needs)
+    (λ c. search needs)
+    (λ c. search (turns, bounds, needs))
+    (λ c. let l = c .before .before .before .before .before .before .before .before .before .before .before .before .before .before .before .before .before .before .before .before .loop .inv in
+    let h = c .before .before .before .before .before .before .before .before .before .before .before .before .before .before .before .before .before .before .before .take-head .ensures in
+    let q = c .before .before .before .before .before .before .before .before .before .before .before .before .before .before .before .before .before .t .given .1 in
+    let m = c .before .before .before .before .before .before .before .before .before .before .before .before .before .before .walk-inside .ensures in
+    let g = c .before .before .before .before .before .before .before .before .before .before .r .given .1 in
+    falls-on _ _ _ _ (taken-on _ _ _ _ _ _ (h .1) q) (read-on _ _ _ _ _ _ _ _ m g) (read-in _ _ _ _ _ _ _ _ m g))
+    (λ c. let l = c .before .before .before .before .before .before .before .before .before .before .before .before .before .before .before .before .before .before .before .before .loop .inv in
+    let h = c .before .before .before .before .before .before .before .before .before .before .before .before .before .before .before .before .before .before .before .take-head .ensures in
+    let q = c .before .before .before .before .before .before .before .before .before .before .before .before .before .before .before .before .before .t .given .1 in
+    let m = c .before .before .before .before .before .before .before .before .before .before .before .before .before .before .walk-inside .ensures in
+    let g = c .before .before .before .before .before .before .before .before .before .before .r .given .1 in
+    let sp = c .before .before .before .before .before .before .before .before .before .before .before .before .before .before .before .before .before .before .before .before .loop .prev in
+    let own = rule (slotOf (c .before .before .before .before .before .before .before .before .before .before .before .before .before .before .before .before .before .before .before .before .loop .place)) .own in
+    let kk = taken-kind _ _ _ _ _ _ (h .1) q in
+    let fit = taken-fits _ _ _ _ _ _ (h .1) q in
+    let put = c .before .before .before .before .before .before .before .close .ensures in
+    let y = c .before .before .before .before .key-after .ensures in
+    let nn = c .before .before .before .next-slot .ensures in
+    let z = c .before .n .given .1 in (
+      again _ (l .7) _ _ _ _ _ _ _ _ _ _ _ (sp .from) (sp .to) _ _ _ (l .1) (l .0) (h .0) q m g put kk fit nn z (y .0) (y .1),
+      next-slotted _ (l .7) _ _ _ _ _ _ _ _ _ _ _ (sp .from) (sp .to) _ _ _ (l .1) (l .0) (h .0) q m g put kk fit nn z,
+      rw (y .0, y .1) (span-order own _ _ _ _ (l .2) (le-of-lt (taken-on _ _ _ _ _ _ (h .1) q))),
+      rw (y .1) (span-within own _ _ _ (l .3) (taken-in _ _ _ _ _ _ (h .1) q)),
+      read-in _ _ _ _ _ _ _ _ m g,
+      read-few _ _ _ _ _ _ _ _ m g,
+      omega (arith, c .before .before .before .before .before .before .before .close .kept .0, c .before .before .before .before .before .before .before .before .before .before .before .before .before .before .walk-inside .kept .1 .1 .1 .1 .1 .1 .1 .1 .1 .0, l .6),
+      l .7,
+      l .8,
+      l .9,
+    ))

@@ -1,0 +1,36 @@
+-- What the reading answers: document 01's numbers and values for each case of the enums.
+use Prim.Native.Nat.{ℕ}
+use mathlib.Core.Path.{_≡_}
+use mathlib.Core.List.{List, map}
+use lib.Seq.{sets}
+use Rattle.ari.specs.Reader.{Limits, Input, refuse, accept}
+use Rattle.ari.specs.Reader as reader
+use Rattle.ari.specs.Items.{spotsOf}
+use Rattle.ari.specs.Decode.{decode}
+use Rattle.reader.specs.declared.Answer.{Answer}
+use Rattle.reader.specs.declared.Answer.the-variants.{Accepted, Refused}
+use Rattle.reader.specs.declared.Walk.{Walk}
+use Rattle.reader.specs.declared.Walk.the-variants as walks
+use Rattle.reader.specs.Walks.{entryOf}
+
+-- limits as three numbers: no text is read here
+abbrev pub limitsOf : ℕ → ℕ → ℕ → Limits
+limitsOf bytes items containers = record { bytes = bytes; items = items; containers = containers; text = 0 }
+
+-- an acceptance with the item count, a refusal with its number and place
+abbrev pub answerOf : reader.Answer → Answer
+answerOf (refuse r p) = Refused r p
+answerOf (accept n) = Accepted n
+
+-- a walk's refusal as the input's
+abbrev pub refusalOf : Walk → Answer
+refusalOf (walks.Refused r x) = Refused r x
+refusalOf (walks.Read q c) = Refused 0 0
+
+-- the table of an accepted input: an entry for each item, as many as there is room for
+abbrev pub KeptBy : Input → List ℕ → Answer → List ℕ → List ℕ → Type 0
+KeptBy i b (Accepted n) t t′ = t′ ≡ sets t 0 (map entryOf (spotsOf i (decode b)))
+KeptBy i b (Refused r p) t t′ = Unit {0}
+
+pub record Kept (i : Input) (b : List ℕ) (r : Answer) (t t′ : List ℕ) : Type 0 where
+  pub kept : KeptBy i b r t t′

@@ -1,0 +1,110 @@
+-- What the walk answers and keeps. Its contract says that the reader's run from here is its run from there, whatever is due afterwards.
+use Prim.Native.Nat.{ℕ, suc, _+_, _-_, _*_, _≤_, _<_}
+use mathlib.Core.Path.{_≡_}
+use mathlib.Core.Bool.{Bool, true, false, cond}
+use mathlib.Core.List.{List, [], _∷_, _++_, map}
+use lib.ListN.{length, drop}
+use lib.Seq.{sets as stored}
+use lib.Dec.{eqb}
+use Rattle.ari.specs.Table.{Place, alone, message, inside, param, Slot, version, ari, type, value, namespace, objectNamespace, objectType, objectId, params, key, entry, nonce, setTime, target, report, reportTime, reportSource, Level, done, due, members}
+use Rattle.ari.specs.Reader.{Dues, end, sets, push, Answer, refuse, accept, run}
+use Rattle.ari.specs.Items.{Items, encode, heads, Spot, spots}
+use Rattle.ari.proofs.Due.{Due}
+use Rattle.reader.specs.declared.Walk.{Walk}
+use Rattle.reader.specs.declared.Walk.the-variants.{Read, Refused}
+
+-- the numbers of the slots
+abbrev placeNumber : Place → ℕ
+placeNumber alone = 0
+placeNumber message = 1
+placeNumber inside = 2
+placeNumber param = 3
+
+abbrev inParam : Place → ℕ
+inParam alone = 0
+inParam message = 0
+inParam inside = 0
+inParam param = 1
+
+abbrev flag : Bool → ℕ
+flag false = 0
+flag true = 1
+
+unfoldable pub codeOf : Slot → ℕ
+codeOf version = 0
+codeOf (ari w) = 1 + placeNumber w
+codeOf (type w) = 5 + placeNumber w
+codeOf namespace = 9
+codeOf (objectNamespace p) = 10 + flag p
+codeOf (objectType p) = 12 + flag p
+codeOf (objectId p) = 14 + flag p
+codeOf params = 16
+codeOf (key w) = 17 + inParam w
+codeOf (entry w) = 19 + inParam w
+codeOf (nonce t) = cond (eqb t 20) 21 22
+codeOf setTime = 23
+codeOf target = 24
+codeOf report = 25
+codeOf reportTime = 26
+codeOf reportSource = 27
+codeOf (value t w) = 28 + inParam w * 22 + t
+
+-- an item's entry in the table
+abbrev pub packed : ℕ → ℕ → ℕ → ℕ → ℕ
+packed first after around slot = first + after * 65536 + around * 4294967296 + slot * 1099511627776
+
+unfoldable pub entryOf : Spot → ℕ
+entryOf x = packed (x .first) (x .after) (x .around) (codeOf (x .slot))
+
+-- the entries of the items of a level that starts at p, with so many containers around it
+abbrev pub entries : Items → Level → ℕ → ℕ → List ℕ
+entries g v p around = map entryOf (spots g false v p around)
+
+-- the members of a head with this kind and argument at a slot
+abbrev pub insideLevel : Slot → ℕ → ℕ → Level
+insideLevel s k a = members s (record { info = 0; kind = k; arg = a })
+
+-- the reader's answer, from what a walk gave
+abbrev pub afterWalk : List ℕ → ℕ → Walk → Dues → Answer
+afterWalk b items (Read q c) ds = run (items - c) ds q (drop q b)
+afterWalk b items (Refused r p) ds = refuse r p
+
+-- The items of a level that were read from p to q, with the count before and after, and the table before and after.
+pub record Held (b : List ℕ) (v : Level) (prev : List ℕ) (d around p c q c′ : ℕ) (t t′ : List ℕ) : Type 0 where
+  pub tree : Items
+  pub fit : Due tree (push v prev d end)
+  pub bytes : drop p b ≡ encode tree ++ drop q b
+  pub place : q ≡ p + length (encode tree)
+  pub count : c′ ≡ c + heads tree
+  pub table : t′ ≡ stored t c (entries tree v p around)
+
+abbrev pub OnRead : List ℕ → ℕ → Level → List ℕ → ℕ → ℕ → ℕ → ℕ → Walk → List ℕ → List ℕ → Type 0
+OnRead b items v prev d around p c (Read q c′) t t′ = Held b v prev d around p c q c′ t t′ × (q ≤ length b) × (c′ ≤ items)
+OnRead b items v prev d around p c (Refused r x) t t′ = Unit {0}
+
+-- A walk over a level: v is due at p after the key before, d containers may still be opened and around are open, c of the items are read; it
+-- ends as w and takes the table t to t′. On a refusal nothing is said of t′ but its length.
+pub record Walked (b : List ℕ) (items : ℕ) (v : Level) (prev : List ℕ) (d around p c : ℕ) (w : Walk) (t t′ : List ℕ) : Type 0 where
+  pub runs : (ds : Dues) → run (items - c) (push v prev d ds) p (drop p b) ≡ afterWalk b items w ds
+  pub held : OnRead b items v prev d around p c w t t′
+
+-- the reader's answer behind the sets
+abbrev pub afterSets : ℕ → Walk → Answer
+afterSets items (Read q c) = accept (items - c)
+afterSets items (Refused r x) = refuse r x
+
+-- The sets of a message that were read from p to the end.
+pub record SetsHeld (b : List ℕ) (d p c c′ : ℕ) (t t′ : List ℕ) : Type 0 where
+  pub tree : Items
+  pub fit : Due tree (sets d)
+  pub bytes : drop p b ≡ encode tree
+  pub count : c′ ≡ c + heads tree
+  pub table : t′ ≡ stored t c (map entryOf (spots tree true done p 0))
+
+abbrev pub OnSets : List ℕ → ℕ → ℕ → ℕ → ℕ → Walk → List ℕ → List ℕ → Type 0
+OnSets b items d p c (Read q c′) t t′ = SetsHeld b d p c c′ t t′ × (c′ ≤ items)
+OnSets b items d p c (Refused r x) t t′ = Unit {0}
+
+pub record SetsWalked (b : List ℕ) (items d p c : ℕ) (w : Walk) (t t′ : List ℕ) : Type 0 where
+  pub runs : run (items - c) (sets d) p (drop p b) ≡ afterSets items w
+  pub held : OnSets b items d p c w t t′

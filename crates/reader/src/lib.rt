@@ -1,0 +1,595 @@
+// The reading: one walk over the input, head by head, in the order of document 01's tests. The walk may keep a table of the items.
+ghost use mathlib.Core.Path.{_≡_};
+ghost use mathlib.Core.Bool.{Bool, true, false, not, _&&_};
+ghost use Prim.Native.Nat.{_+_, _-_, _*_, _<_, _≤_};
+ghost use lib.ListN.{length, set};
+ghost use lib.Dec.{eqb};
+ghost use mathlib.Core.List.{[]};
+ghost use Prim.Native.Nat.{pred, suc};
+ghost use Rattle.cbor.specs.Byte.{all, isByte};
+ghost use Rattle.cbor.specs.Head.{isContainer};
+ghost use Rattle.cbor.specs.Answer.{headAt};
+ghost use Rattle.cbor.specs.declared.Head.the-variants.{Good};
+ghost use Rattle.ari.specs.Table.{rule, due};
+ghost use Rattle.grammar.specs.Code.{fitsCode, ownOf};
+ghost use Rattle.ari.specs.Reader.{wrongVersion, notGreater, isEmpty};
+ghost use Rattle.grammar.specs.Code.{slotOf};
+ghost use Rattle.grammar.proofs.Right.{IsSlot};
+ghost use Rattle.reader.specs.Steps.{part, standsAt, stringEnd, stepAt, lateAt, LateShown, noHead, stoppedOf, Bounded, keySpan};
+ghost use Rattle.reader.specs.Walks.{packed, insideLevel, Walked, SetsWalked};
+ghost use Rattle.ari.specs.Reader.{read, single, aMessage};
+ghost use Rattle.ari.specs.Limits.{firstLimits};
+ghost use Rattle.reader.specs.Answers.{limitsOf, answerOf, refusalOf, Kept};
+
+// The place of a map key.
+pub struct Span {
+    pub from: usize,
+    pub to: usize,
+}
+
+// What one head gives: it is taken, with the first byte behind its string; or the input is refused.
+pub enum Step {
+    Taken { kind: u8, arg: u64, after: usize },
+    Refused { number: u64, place: usize },
+}
+
+// The end of a string, if the input has it.
+pub enum End {
+    At(usize),
+    Short,
+}
+
+// What a walk over the items of a level gives: they are read up to a place, and so many items in all; or the input is refused.
+pub enum Walk {
+    Read { next: usize, count: usize },
+    Refused { number: u64, place: usize },
+}
+
+// An item's entry in the table: first byte, byte after, containers around, slot, from the lowest bits.
+fn pack(first: usize, after: usize, around: usize, slot: u64) -> u64
+    requires { ⌜ (first < 65536) × (after < 65536) × (around < 256) × (slot < 256) ⌝ }
+    ensures { λ r. ⌜ r ≡ packed first after around slot ⌝ }
+{
+    first as u64 + after as u64 * 65536 + around as u64 * 4294967296 + slot * 1099511627776
+}
+
+// A table that is too short, or empty, keeps what it has room for.
+fn put(table: &mut [u64], i: usize, entry: u64)
+    ensures { λ _. ⌜ now (table .exit) ≡ set (now (table .entry)) i entry ⌝ }
+{
+    if i < table.len() {
+        table[i] = entry;
+    }
+}
+
+// An item that has ended goes into the table.
+fn close(table: &mut [u64], i: usize, first: usize, after: usize, around: usize, slot: u64)
+    requires { ⌜ (first < 65536) × (after < 65536) × (around < 256) × (slot < 256) ⌝ }
+    ensures { λ _. ⌜ now (table .exit) ≡ set (now (table .entry)) i (packed first after around slot) ⌝ }
+{
+    let entry = pack(first, after, around, slot);
+    put(table, i, entry);
+}
+
+// Test 8.
+fn wrong_version(slot: u64, own: u64, arg: u64) -> bool
+    requires { ⌜ IsSlot slot × (own ≡ ownOf slot) ⌝ }
+    ensures { λ r. ⌜ r ≡ wrongVersion (rule (slotOf slot) .own) arg ⌝ }
+{
+    if own == 1 {
+        return arg != 1;
+    }
+    false
+}
+
+// The bytes from a place on.
+fn left(s: &[u8], at: usize) -> usize
+    ensures { λ r. ⌜ r ≡ length (now (s .entry)) - at ⌝ }
+{
+    if s.len() < at {
+        return 0;
+    }
+    s.len() - at
+}
+
+fn end_of(s: &[u8], arg: u64, next: usize) -> End
+    ensures { λ r. ⌜ r ≡ stringEnd (now (s .entry)) 2 arg next ⌝ }
+{
+    let size = arg as usize;
+    if left(s, next) < size {
+        return End::Short;
+    }
+    End::At(next + size)
+}
+
+// Test 9: where the string behind a head ends. What is no string has none.
+pub fn string_end(s: &[u8], kind: u8, arg: u64, next: usize) -> End
+    ensures { λ r. ⌜ r ≡ stringEnd (now (s .entry)) kind arg next ⌝ }
+{
+    if kind == 2 {
+        return end_of(s, arg, next);
+    }
+    if kind == 3 {
+        return end_of(s, arg, next);
+    }
+    End::At(next)
+}
+
+fn is_spelled(slot: u64, t: &[u8]) -> bool
+    requires { ⌜ IsSlot slot ⌝ }
+    ensures { λ r. ⌜ r ≡ rule (slotOf slot) .spelling (now (t .entry)) ⌝ }
+{
+    let way = grammar::spelling(slot);
+    match way {
+        0 => cbor::is_utf8(t),
+        1 => grammar::is_identifier(t),
+        2 => grammar::is_namespace_name(t),
+        _ => cbor::is_utf8(t),
+    }
+}
+
+// Test 10.
+fn is_misspelt(s: &[u8], slot: u64, kind: u8, next: usize, end: usize) -> bool
+    requires { ⌜ IsSlot slot × (next ≤ end) × (end ≤ length (now s)) ⌝ }
+    ensures { λ r. ⌜ r ≡ (eqb kind 3 && not (rule (slotOf slot) .spelling (part (now (s .entry)) next end))) ⌝ }
+{
+    if kind == 3 {
+        return !is_spelled(slot, &s[next..end]);
+    }
+    false
+}
+
+// Test 11.
+fn is_not_greater(s: &[u8], slot: u64, own: u64, prev: Span, at: usize, end: usize) -> bool
+    requires { ⌜ IsSlot slot × (own ≡ ownOf slot) × (prev .from ≤ prev .to) × (prev .to ≤ length (now s)) × (at ≤ end) × (end ≤ length (now s)) ⌝ }
+    ensures { λ r. ⌜ r ≡ notGreater (rule (slotOf slot) .own) (part (now (s .entry)) (prev .from) (prev .to)) (part (now (s .entry)) at end) ⌝ }
+{
+    if own == 2 {
+        let from = prev.from;
+        let to = prev.to;
+        return !cbor::is_below(&s[from..to], &s[at..end]);
+    }
+    false
+}
+
+// Test 12.
+fn is_empty(slot: u64, own: u64, arg: u64) -> bool
+    requires { ⌜ IsSlot slot × (own ≡ ownOf slot) ⌝ }
+    ensures { λ r. ⌜ r ≡ isEmpty (rule (slotOf slot) .own) arg ⌝ }
+{
+    if own == 3 {
+        return arg == 0;
+    }
+    false
+}
+
+// The tests 9 to 12. Most slots have no test of their own: 11 and 12 are not theirs.
+fn late(
+    s: &[u8],
+    at: usize,
+    slot: u64,
+    own: u64,
+    prev: Span,
+    kind: u8,
+    arg: u64,
+    next: usize,
+) -> Step
+    requires { ⌜ (all isByte (now s) ≡ true) × IsSlot slot × (own ≡ ownOf slot) × (prev .from ≤ prev .to) × (prev .to ≤ length (now s)) ⌝ }
+    requires { ⌜ (headAt (now s) at ≡ Good kind arg next) × (at < next) × (next ≤ length (now s)) × (fitsCode slot kind arg ≡ true) × (kind ≤ 9) ⌝ }
+    ensures { λ r. ⌜ r ≡ lateAt (now (s .entry)) at (slotOf slot) (part (now (s .entry)) (prev .from) (prev .to)) ⌝ }
+    ensures { λ r. ⌜ LateShown (now (s .entry)) kind arg next r ⌝ }
+{
+    let e = string_end(s, kind, arg, next);
+    let End::At(end) = e else {
+        return Step::Refused {
+            number: 9,
+            place: at,
+        };
+    };
+    if is_misspelt(s, slot, kind, next, end) {
+        return Step::Refused {
+            number: 10,
+            place: at,
+        };
+    }
+    if own == 0 {
+        return Step::Taken {
+            kind,
+            arg,
+            after: end,
+        };
+    }
+    if is_not_greater(s, slot, own, prev, at, end) {
+        return Step::Refused {
+            number: 11,
+            place: at,
+        };
+    }
+    if is_empty(slot, own, arg) {
+        return Step::Refused {
+            number: 12,
+            place: at,
+        };
+    }
+    Step::Taken {
+        kind,
+        arg,
+        after: end,
+    }
+}
+
+// A container that may not be opened.
+pub fn is_too_deep(kind: u8, depth: usize) -> bool
+    ensures { λ r. ⌜ r ≡ (isContainer kind && eqb depth 0) ⌝ }
+{
+    if kind < 4 {
+        return false;
+    }
+    if 5 < kind {
+        return false;
+    }
+    depth == 0
+}
+
+// A head that is no head is refused.
+fn no_head(h: cbor::Head, at: usize) -> Step
+    ensures { λ r. ⌜ r ≡ noHead h at ⌝ }
+{
+    match h {
+        cbor::Head::Bad(number) => Step::Refused {
+            number: number as u64,
+            place: at,
+        },
+        cbor::Head::Good {
+            kind: _,
+            arg: _,
+            next: _,
+        } => Step::Refused {
+            number: 0,
+            place: 0,
+        },
+    }
+}
+
+// One head: the tests 2 to 12.
+fn take_head(
+    s: &[u8],
+    at: usize,
+    slot: u64,
+    prev: Span,
+    count: usize,
+    items: usize,
+    depth: usize,
+) -> Step
+    requires { ⌜ (all isByte (now s) ≡ true) × IsSlot slot × (prev .from ≤ prev .to) × (prev .to ≤ length (now s)) ⌝ }
+    ensures { λ r. ⌜ r ≡ stepAt (now (s .entry)) at (slotOf slot) (part (now (s .entry)) (prev .from) (prev .to)) (items - count) depth ⌝ }
+    ensures { λ r. ⌜ Bounded (now (s .entry)) at count items depth slot r ⌝ }
+{
+    let h = cbor::head_at(s, at);
+    let cbor::Head::Good { kind, arg, next } = h else {
+        return no_head(h, at);
+    };
+    if items <= count {
+        return Step::Refused {
+            number: 5,
+            place: at,
+        };
+    }
+    if is_too_deep(kind, depth) {
+        return Step::Refused {
+            number: 6,
+            place: at,
+        };
+    }
+    if !grammar::fits(slot, kind, arg) {
+        return Step::Refused {
+            number: 7,
+            place: at,
+        };
+    }
+    let own = grammar::own(slot);
+    if wrong_version(slot, own, arg) {
+        return Step::Refused {
+            number: 8,
+            place: at,
+        };
+    }
+    late(s, at, slot, own, prev, kind, arg, next)
+}
+
+// The key before, for what is due next on a level.
+fn key_after(slot: u64, prev: Span, from: usize, to: usize) -> Span
+    requires { ⌜ IsSlot slot ⌝ }
+    ensures { λ r. ⌜ (r .from ≡ keySpan (rule (slotOf slot) .own) (prev .from) from) × (r .to ≡ keySpan (rule (slotOf slot) .own) (prev .to) to) ⌝ }
+{
+    if grammar::own(slot) == 2 {
+        return Span { from, to };
+    }
+    prev
+}
+
+// A refusal is handed on.
+fn stopped(t: Step) -> Walk
+    ensures { λ r. ⌜ r ≡ stoppedOf t ⌝ }
+{
+    match t {
+        Step::Refused { number, place } => Walk::Refused { number, place },
+        Step::Taken {
+            kind: _,
+            arg: _,
+            after: _,
+        } => Walk::Refused {
+            number: 0,
+            place: 0,
+        },
+    }
+}
+
+// The members of a head at a slot: a container is opened, and what it holds is walked.
+fn walk_inside(
+    s: &[u8],
+    at: usize,
+    count: usize,
+    items: usize,
+    depth: usize,
+    around: usize,
+    slot: u64,
+    kind: u8,
+    arg: u64,
+    table: &mut [u64],
+) -> Walk
+    requires { ⌜ (all isByte (now s) ≡ true) × (length (now s) < 65536) × (depth + around < 256) × IsSlot slot × (at ≤ length (now s)) × (count ≤ items) ⌝ }
+    requires { ⌜ (isContainer kind && eqb depth 0) ≡ false ⌝ }
+    ensures { λ r. ⌜ Walked (now (s .entry)) items (insideLevel (slotOf slot) kind arg) [] (pred depth) (suc around) at count r (now (table .entry)) (now (table .exit)) ⌝ }
+{
+    let inner = grammar::inside(slot, kind, arg);
+    match inner {
+        grammar::Next::Done => Walk::Read { next: at, count },
+        grammar::Next::Due { slot: a, more: b } => {
+            walk_level(s, at, count, items, depth - 1, around + 1, a, b, table)
+        }
+    }
+}
+
+// The items of a level from the slot on, leaves in the loop, a call for each container.
+fn walk_level(
+    s: &[u8],
+    at: usize,
+    count: usize,
+    items: usize,
+    depth: usize,
+    around: usize,
+    slot: u64,
+    more: u64,
+    table: &mut [u64],
+) -> Walk
+    requires { ⌜ (all isByte (now s) ≡ true) × (length (now s) < 65536) × (depth + around < 256) × IsSlot slot × (at ≤ length (now s)) × (count ≤ items) ⌝ }
+    ensures { λ r. ⌜ Walked (now (s .entry)) items (due (slotOf slot) more) [] depth around at count r (now (table .entry)) (now (table .exit)) ⌝ }
+{
+    let mut p = at;
+    let mut c = count;
+    let mut place = slot;
+    let mut left = more;
+    let mut prev = Span { from: 0, to: 0 };
+    loop {
+        let t = take_head(s, p, place, prev, c, items, depth);
+        let Step::Taken { kind, arg, after } = t else {
+            return stopped(t);
+        };
+        let r = walk_inside(
+            s,
+            after,
+            c + 1,
+            items,
+            depth,
+            around,
+            place,
+            kind,
+            arg,
+            table,
+        );
+        let Walk::Read { next: q, count: e } = r else {
+            return r;
+        };
+        close(table, c, p, q, around, place);
+        prev = key_after(place, prev, p, after);
+        let n = grammar::next_slot(place, arg, left);
+        let grammar::Next::Due { slot: a, more: b } = n else {
+            return Walk::Read { next: q, count: e };
+        };
+        p = q;
+        c = e;
+        place = a;
+        left = b;
+    }
+}
+
+// An input is accepted with its item count, or refused.
+pub enum Answer {
+    Accepted(usize),
+    Refused { number: u64, place: usize },
+}
+
+// The limits of document 01, for all crates.
+pub const BYTES: usize = 4096;
+
+pub const ITEMS: usize = 1024;
+
+pub const CONTAINERS: usize = 12;
+
+pub const TEXT: usize = 32768;
+
+// A walk's refusal is the input's.
+fn refusal(w: Walk) -> Answer
+    ensures { λ r. ⌜ r ≡ refusalOf w ⌝ }
+{
+    match w {
+        Walk::Refused { number, place } => Answer::Refused { number, place },
+        Walk::Read { next: _, count: _ } => Answer::Refused {
+            number: 0,
+            place: 0,
+        },
+    }
+}
+
+// A single ARI within these limits.
+fn read_single(s: &[u8], bytes: usize, items: usize, containers: usize, table: &mut [u64]) -> Answer
+    requires { ⌜ (bytes < 65536) × (containers < 256) ⌝ }
+    ensures { λ r. ⌜ r ≡ answerOf (read (limitsOf bytes items containers) single (now (s .entry))) ⌝ }
+    ensures { λ r. ⌜ Kept single (now (s .entry)) r (now (table .entry)) (now (table .exit)) ⌝ }
+{
+    if bytes < s.len() {
+        return Answer::Refused {
+            number: 1,
+            place: 0,
+        };
+    }
+    let w = walk_level(s, 0, 0, items, containers, 0, 1, 0, table);
+    let Walk::Read { next, count } = w else {
+        return refusal(w);
+    };
+    if next < s.len() {
+        return Answer::Refused {
+            number: 13,
+            place: next,
+        };
+    }
+    Answer::Accepted(count)
+}
+
+// A byte stands at a place, and one more item may come.
+fn stands(s: &[u8], at: usize, byte: u8, count: usize, items: usize) -> bool
+    ensures { λ r. ⌜ r ≡ standsAt (now (s .entry)) at byte (items - count) ⌝ }
+{
+    if s.len() <= at {
+        return false;
+    }
+    if count >= items {
+        return false;
+    }
+    s[at] == byte
+}
+
+// A message's version. The byte 01 is the only one that is accepted; of any other head the walk says what is wrong with it.
+fn walk_version(s: &[u8], items: usize, containers: usize, table: &mut [u64]) -> Walk
+    requires { ⌜ (all isByte (now s) ≡ true) × (length (now s) < 65536) × (containers < 256) ⌝ }
+    ensures { λ r. ⌜ Walked (now (s .entry)) items (due (slotOf 0) 0) [] containers 0 0 0 r (now (table .entry)) (now (table .exit)) ⌝ }
+{
+    if !stands(s, 0, 0x01, 0, items) {
+        return walk_level(s, 0, 0, items, containers, 0, 0, 0, table);
+    }
+    close(table, 0, 0, 1, 0, 0);
+    Walk::Read { next: 1, count: 1 }
+}
+
+// One set of a message. Its head is the byte 82, and what it holds is walked at once; any other head is left to the walk as well.
+fn walk_set(
+    s: &[u8],
+    at: usize,
+    count: usize,
+    items: usize,
+    containers: usize,
+    table: &mut [u64],
+) -> Walk
+    requires { ⌜ (all isByte (now s) ≡ true) × (length (now s) < 65536) × (containers < 256) × (at ≤ length (now s)) × (count ≤ items) ⌝ }
+    ensures { λ r. ⌜ Walked (now (s .entry)) items (due (slotOf 2) 0) [] containers 0 at count r (now (table .entry)) (now (table .exit)) ⌝ }
+{
+    if containers == 0 {
+        return walk_level(s, at, count, items, containers, 0, 2, 0, table);
+    }
+    if !stands(s, at, 0x82, count, items) {
+        return walk_level(s, at, count, items, containers, 0, 2, 0, table);
+    }
+    let w = walk_level(s, at + 1, count + 1, items, containers - 1, 1, 6, 0, table);
+    let Walk::Read { next, count: e } = w else {
+        return w;
+    };
+    close(table, count, at, next, 0, 2);
+    Walk::Read { next, count: e }
+}
+
+// The sets of a message, from the place behind its version.
+fn walk_sets(
+    s: &[u8],
+    at: usize,
+    count: usize,
+    items: usize,
+    containers: usize,
+    table: &mut [u64],
+) -> Walk
+    requires { ⌜ (all isByte (now s) ≡ true) × (length (now s) < 65536) × (containers < 256) × (at ≤ length (now s)) × (count ≤ items) ⌝ }
+    ensures { λ r. ⌜ SetsWalked (now (s .entry)) items containers at count r (now (table .entry)) (now (table .exit)) ⌝ }
+{
+    let mut p = at;
+    let mut c = count;
+    while p < s.len() {
+        let w = walk_set(s, p, c, items, containers, table);
+        let Walk::Read { next, count: e } = w else {
+            return w;
+        };
+        p = next;
+        c = e;
+    }
+    Walk::Read { next: p, count: c }
+}
+
+// A message within these limits.
+fn read_message(
+    s: &[u8],
+    bytes: usize,
+    items: usize,
+    containers: usize,
+    table: &mut [u64],
+) -> Answer
+    requires { ⌜ (bytes < 65536) × (containers < 256) ⌝ }
+    ensures { λ r. ⌜ r ≡ answerOf (read (limitsOf bytes items containers) aMessage (now (s .entry))) ⌝ }
+    ensures { λ r. ⌜ Kept aMessage (now (s .entry)) r (now (table .entry)) (now (table .exit)) ⌝ }
+{
+    if bytes < s.len() {
+        return Answer::Refused {
+            number: 1,
+            place: 0,
+        };
+    }
+    let v = walk_version(s, items, containers, table);
+    let Walk::Read { next, count } = v else {
+        return refusal(v);
+    };
+    let w = walk_sets(s, next, count, items, containers, table);
+    let Walk::Read { next: _, count: e } = w else {
+        return refusal(w);
+    };
+    Answer::Accepted(e)
+}
+
+// A single ARI in binary form is checked.
+pub fn check_single(s: &[u8]) -> Answer
+    ensures { λ r. ⌜ r ≡ answerOf (read firstLimits single (now (s .entry))) ⌝ }
+{
+    let mut none = [0u64; 1];
+    read_single(s, BYTES, ITEMS, CONTAINERS, &mut none[0..0])
+}
+
+// A message is checked.
+pub fn check_message(s: &[u8]) -> Answer
+    ensures { λ r. ⌜ r ≡ answerOf (read firstLimits aMessage (now (s .entry))) ⌝ }
+{
+    let mut none = [0u64; 1];
+    read_message(s, BYTES, ITEMS, CONTAINERS, &mut none[0..0])
+}
+
+// A single ARI is checked, and its items go into the lent table, as many as it has room for.
+pub fn keep_single(s: &[u8], table: &mut [u64]) -> Answer
+    ensures { λ r. ⌜ r ≡ answerOf (read firstLimits single (now (s .entry))) ⌝ }
+    ensures { λ r. ⌜ Kept single (now (s .entry)) r (now (table .entry)) (now (table .exit)) ⌝ }
+{
+    read_single(s, BYTES, ITEMS, CONTAINERS, table)
+}
+
+// A message is checked, and its items go into the lent table, as many as it has room for.
+pub fn keep_message(s: &[u8], table: &mut [u64]) -> Answer
+    ensures { λ r. ⌜ r ≡ answerOf (read firstLimits aMessage (now (s .entry))) ⌝ }
+    ensures { λ r. ⌜ Kept aMessage (now (s .entry)) r (now (table .entry)) (now (table .exit)) ⌝ }
+{
+    read_message(s, BYTES, ITEMS, CONTAINERS, table)
+}

@@ -1,7 +1,0 @@
-use Rattle.spell.proofs.Puts.{puts}
-use borrow.Author.Needs.{needs}
-use Rattle.spell.proofs.is_bare.Statement.{statement}
-use Rattle.spell.proofs.is_bare.Tie as tie
-
-pub is-bare-spec : {M : Type 1} → statement M
-is-bare-spec = tie.close (tie.spec (λ c κs. search needs) (λ c. search (puts, needs)) (λ c. search (puts, needs)))

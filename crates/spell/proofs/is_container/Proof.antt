@@ -1,7 +1,0 @@
-use Rattle.spell.proofs.Spelled.{ways-through}
-use borrow.Author.Needs.{needs}
-use Rattle.spell.proofs.is_container.Statement.{statement}
-use Rattle.spell.proofs.is_container.Tie as tie
-
-pub is-container-spec : {M : Type 1} → statement M
-is-container-spec = tie.close (tie.spec (λ c. search (ways-through, needs)) (λ c. search (ways-through, needs)))

@@ -1,8 +1,0 @@
-use Rattle.spell.proofs.Spelled.{ways-through}
-use borrow.Author.Needs.{needs}
-use Rattle.spell.proofs.put_closing.Statement.{statement}
-use Rattle.spell.proofs.put_closing.Tie as tie
-
-pub put-closing-spec : {M : Type 1} → statement M
-put-closing-spec =
-    tie.close (tie.spec (λ c κs. search needs) (λ c κs. search needs) (λ c. search needs) (λ c. search (ways-through, needs)) (λ c. search (ways-through, needs)))

@@ -1,9 +1,0 @@
-use Rattle.spell.proofs.Puts.{puts}
-use borrow.Author.Needs.{needs}
-use Rattle.spell.proofs.put_name.Statement.{statement}
-use Rattle.spell.proofs.put_name.Tie as tie
-
-pub put-name-spec : {M : Type 1} → statement M
-put-name-spec =
-    tie.close
-    (tie.spec (λ c κs. search needs) (λ c. search needs) (λ c. search (puts, needs)) (λ c κs. search needs) (λ c. search needs) (λ c. search (puts, needs)))

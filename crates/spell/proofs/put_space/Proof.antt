@@ -1,9 +1,0 @@
-use Rattle.spell.proofs.Spelled.{ways-through}
-use borrow.Author.Needs.{needs}
-use Rattle.spell.proofs.put_space.Statement.{statement}
-use Rattle.spell.proofs.put_space.Tie as tie
-
-pub put-space-spec : {M : Type 1} → statement M
-put-space-spec =
-    tie.close
-    (tie.spec (λ c κs. search needs) (λ c. search needs) (λ c. search (ways-through, needs)) (λ c κs. search needs) (λ c. search needs) (λ c. search (ways-through, needs)))

@@ -1,0 +1,22 @@
+-- `text_read::read_short` meets its contract: a candidate that leaves room is whole.
+use Rattle.text_read.proofs.Settled.{tried-short}
+use borrow.Author.Needs.{needs}
+use Rattle.text_read.proofs.read_short.Statement.{statement}
+use Rattle.text_read.proofs.read_short.Tie as tie
+
+pub read-short-spec : {M : Type 1} → statement M
+read-short-spec =
+    tie.close
+    (tie.spec
+    (λ c. search needs)
+    (λ c κs. search needs)
+    (λ c κs. search needs)
+    (λ c. search needs)
+    (λ c. search needs)
+    (λ c. search needs)
+    (λ c. search needs)
+    (λ c. search needs)
+    (λ c. search needs)
+    (λ c κs. (search needs, search (tried-short, needs)))
+    (λ c. search needs)
+    (λ c. search needs))

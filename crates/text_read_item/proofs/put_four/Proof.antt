@@ -1,0 +1,13 @@
+use Rattle.text_read_item.proofs.Leaves.{strings}
+use borrow.Author.Needs.{needs}
+use Rattle.text_read_item.proofs.put_four.Statement.{statement}
+use Rattle.text_read_item.proofs.put_four.Tie as tie
+
+pub put-four-spec : {M : Type 1} → statement M
+put-four-spec =
+    tie.close
+    (tie.spec
+    (λ c κs. search needs)
+    (λ c κs. search needs)
+    (λ c. search needs)
+    (λ c. search (strings, needs)))

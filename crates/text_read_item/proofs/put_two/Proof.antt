@@ -1,0 +1,13 @@
+use Rattle.text_read_item.proofs.Leaves.{strings}
+use borrow.Author.Needs.{needs}
+use Rattle.text_read_item.proofs.put_two.Statement.{statement}
+use Rattle.text_read_item.proofs.put_two.Tie as tie
+
+pub put-two-spec : {M : Type 1} → statement M
+put-two-spec =
+    tie.close
+    (tie.spec
+    (λ c κs. search needs)
+    (λ c κs. search needs)
+    (λ c. search needs)
+    (λ c. search (strings, needs)))

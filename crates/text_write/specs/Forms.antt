@@ -1,0 +1,49 @@
+-- Which ARIs have a text form, as the code finds it out from the heads alone.
+use Prim.Native.Nat.{ℕ, _+_, _≤_}
+use mathlib.Core.Path.{_≡_}
+use mathlib.Core.Bool.{Bool, true, false, _&&_, _||_, cond}
+use mathlib.Core.List.{List, [], _∷_, _++_}
+use lib.ListN.{length, drop}
+use lib.Dec.{eqb}
+use Rattle.cbor.specs.Head.{Sound, leadBytes, stringSize}
+use Rattle.cbor.specs.Answer.{headAt}
+use Rattle.cbor.specs.declared.Head.{Head}
+use Rattle.cbor.specs.declared.Head.the-variants.{Bad, Good}
+use Rattle.ari.specs.Items.{Spot, insideAt}
+use Rattle.text.specs.Text.{Form, spelled, none-at, floatIn}
+use Rattle.text_write.specs.declared.Outer.{Outer}
+use Rattle.text_write.specs.declared.Float.{Float}
+use Rattle.text_write.specs.declared.Float.the-variants.{At, Nowhere}
+
+-- an array of this length whose first member has such a head: a set, a relative reference
+unfoldable pub setBy : ℕ → ℕ → Bool
+setBy n a = eqb n 2 && (eqb a 20 || eqb a 21)
+
+abbrev pub neither : Outer
+neither = record { set = false; relative = false }
+
+abbrev pub memberBy : ℕ → Head → Outer
+memberBy n (Bad r) = neither
+memberBy n (Good k a q) = record { set = setBy n a; relative = eqb k 6 }
+
+abbrev pub outerBy : List ℕ → Head → Outer
+outerBy b (Bad r) = neither
+outerBy b (Good k a q) = cond (eqb k 4) (memberBy a (headAt b q)) neither
+
+unfoldable pub outerOf : List ℕ → Outer
+outerOf b = outerBy b (headAt b 0)
+
+-- the items of an input, one head with its string behind the other
+abbrev pub Laid : List ℕ → ℕ → List Spot → Type 0
+Laid b p [] = length b ≤ p
+Laid b p (x ∷ xs) =
+    (x .first ≡ p) × Sound (x .lead) × (length (x .str) ≡ stringSize (x .lead))
+    × (drop p b ≡ leadBytes (x .lead) ++ (x .str ++ drop (insideAt p (x .lead) (x .str)) b)) × Laid b (insideAt p (x .lead) (x .str)) xs
+
+abbrev pub floatOf : Form → Float
+floatOf spelled = Nowhere
+floatOf (none-at p) = At p
+
+-- the first float from p on
+pub record FloatAt (b : List ℕ) (p : ℕ) (r : Float) : Type 0 where
+  pub told : (xs : List Spot) → Laid b p xs → r ≡ floatOf (floatIn xs)

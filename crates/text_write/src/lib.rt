@@ -1,0 +1,364 @@
+// An ARI's text: one walk over an accepted ARI, which puts what each head writes before its members and after them.
+ghost use mathlib.Core.Path.{_≡_};
+ghost use mathlib.Core.Bool.{true, false, _&&_};
+ghost use Rattle.cbor.specs.Byte.{all, isByte};
+ghost use Prim.Native.Nat.{pred, _+_, _*_, _≤_, min};
+ghost use lib.ListN.{length};
+ghost use lib.Dec.{eqb};
+ghost use Rattle.cbor.specs.Head.{isContainer};
+ghost use Rattle.ari.specs.Table.{due};
+ghost use Rattle.grammar.specs.Code.{slotOf};
+ghost use Rattle.grammar.proofs.Right.{IsSlot};
+ghost use Rattle.reader.specs.Steps.{part};
+ghost use Rattle.reader.specs.Walks.{insideLevel};
+ghost use Rattle.buffer.specs.Put.{Put};
+ghost use Rattle.text_write_item.specs.Ways.{wayAt, beforeBy, afterBy};
+ghost use Rattle.text_write.specs.Said.{ItemAt, Said};
+ghost use lib.ListN.{take};
+ghost use mathlib.Core.List.{_++_};
+ghost use Rattle.ari.specs.Limits.{firstLimits};
+ghost use Rattle.ari.specs.Reader.{single};
+ghost use Rattle.ari.specs.Rules.{Is};
+ghost use Rattle.ari.specs.Decode.{decode};
+ghost use Rattle.text.specs.Answer.{output, writeText, lent};
+ghost use Rattle.text_write.specs.Forms.{setBy, memberBy, outerOf, FloatAt};
+ghost use Rattle.text_write.specs.Written.{writtenOf, roomAfter, spellingOf, schemeOf, Whole, noneOf};
+use reader::Answer;
+
+// A head with the place of its string; or nothing that may stand there.
+pub enum Item {
+    Taken {
+        kind: u8,
+        arg: u64,
+        from: usize,
+        to: usize,
+    },
+    Nothing,
+}
+
+// Where a walk stands: in the input, and in the room that it writes into.
+pub struct Pos {
+    pub next: usize,
+    pub end: usize,
+}
+
+fn take_item(s: &[u8], at: usize, slot: u64, depth: usize) -> Item
+    ensures { λ r. ⌜ ItemAt (now (s .entry)) at slot depth r ⌝ }
+{
+    let h = cbor::head_again(s, at);
+    let cbor::Head::Good { kind, arg, next } = h else {
+        return Item::Nothing;
+    };
+    if reader::is_too_deep(kind, depth) {
+        return Item::Nothing;
+    }
+    let e = reader::string_end(s, kind, arg, next);
+    let reader::End::At(end) = e else {
+        return Item::Nothing;
+    };
+    Item::Taken {
+        kind,
+        arg,
+        from: next,
+        to: end,
+    }
+}
+
+fn say_before(
+    s: &[u8],
+    slot: u64,
+    kind: u8,
+    arg: u64,
+    from: usize,
+    to: usize,
+    out: &mut [u8],
+    at: usize,
+) -> usize
+    requires { ⌜ IsSlot slot × (from ≤ to) × (to ≤ length (now s)) ⌝ }
+    ensures { λ r. ⌜ Put (now (out .entry)) (now (out .exit)) at r (beforeBy (wayAt slot) kind arg (part (now (s .entry)) from to)) ⌝ }
+{
+    let way = text_write_item::way_of(slot);
+    text_write_item::put_before(out, at, way, kind, arg, &s[from..to])
+}
+
+fn say_after(slot: u64, kind: u8, more: bool, out: &mut [u8], at: usize) -> usize
+    requires { ⌜ IsSlot slot ⌝ }
+    ensures { λ r. ⌜ Put (now (out .entry)) (now (out .exit)) at r (afterBy (wayAt slot) kind more) ⌝ }
+{
+    let way = text_write_item::way_of(slot);
+    text_write_item::put_after(out, at, way, kind, more)
+}
+
+// The members of a head at a slot.
+fn say_inside(
+    s: &[u8],
+    at: usize,
+    depth: usize,
+    slot: u64,
+    kind: u8,
+    arg: u64,
+    out: &mut [u8],
+    end: usize,
+) -> Pos
+    requires { ⌜ IsSlot slot × (at ≤ length (now s)) × ((isContainer kind && eqb depth 0) ≡ false) ⌝ }
+    ensures { λ r. ⌜ Said (now (s .entry)) (insideLevel (slotOf slot) kind arg) (pred depth) at end r (now (out .entry)) (now (out .exit)) ⌝ }
+{
+    let inner = grammar::inside(slot, kind, arg);
+    match inner {
+        grammar::Next::Done => Pos { next: at, end },
+        grammar::Next::Due { slot: a, more: b } => say_level(s, at, depth - 1, a, b, out, end),
+    }
+}
+
+// The items of a level from the slot on.
+fn say_level(
+    s: &[u8],
+    at: usize,
+    depth: usize,
+    slot: u64,
+    more: u64,
+    out: &mut [u8],
+    end: usize,
+) -> Pos
+    requires { ⌜ IsSlot slot × (at ≤ length (now s)) ⌝ }
+    ensures { λ r. ⌜ Said (now (s .entry)) (due (slotOf slot) more) depth at end r (now (out .entry)) (now (out .exit)) ⌝ }
+{
+    let mut p = at;
+    let mut r = end;
+    let mut place = slot;
+    let mut left = more;
+    loop {
+        let t = take_item(s, p, place, depth);
+        let Item::Taken {
+            kind,
+            arg,
+            from,
+            to,
+        } = t
+        else {
+            return Pos { next: p, end: r };
+        };
+        let q = say_before(s, place, kind, arg, from, to, out, r);
+        let w = say_inside(s, to, depth, place, kind, arg, out, q);
+        let n = grammar::next_slot(place, arg, left);
+        let grammar::Next::Due { slot: a, more: b } = n else {
+            let e = say_after(place, kind, false, out, w.end);
+            return Pos {
+                next: w.next,
+                end: e,
+            };
+        };
+        r = say_after(place, kind, true, out, w.end);
+        p = w.next;
+        place = a;
+        left = b;
+    }
+}
+
+// What the outermost ARI is: a set, which has no text form; a relative reference, which has no scheme.
+pub struct Outer {
+    pub set: bool,
+    pub relative: bool,
+}
+
+fn is_set(length: u64, arg: u64) -> bool
+    ensures { λ r. ⌜ r ≡ setBy length arg ⌝ }
+{
+    if length == 2 {
+        if arg == 20 {
+            return true;
+        }
+        return arg == 21;
+    }
+    false
+}
+
+// By the length of an array and the head of its first member.
+fn outer_by(length: u64, h: cbor::Head) -> Outer
+    ensures { λ r. ⌜ r ≡ memberBy length h ⌝ }
+{
+    match h {
+        cbor::Head::Good { kind, arg, next: _ } => Outer {
+            set: is_set(length, arg),
+            relative: kind == 6,
+        },
+        cbor::Head::Bad(_) => Outer {
+            set: false,
+            relative: false,
+        },
+    }
+}
+
+fn outermost(s: &[u8]) -> Outer
+    ensures { λ r. ⌜ r ≡ outerOf (now (s .entry)) ⌝ }
+{
+    let h = cbor::head_again(s, 0);
+    let cbor::Head::Good { kind, arg, next } = h else {
+        return Outer {
+            set: false,
+            relative: false,
+        };
+    };
+    if kind == 4 {
+        return outer_by(arg, cbor::head_again(s, next));
+    }
+    Outer {
+        set: false,
+        relative: false,
+    }
+}
+
+// The first float's head, if there is a float.
+pub enum Float {
+    At(usize),
+    Nowhere,
+}
+
+fn first_float(s: &[u8]) -> Float
+    ensures { λ r. ⌜ FloatAt (now (s .entry)) 0 r ⌝ }
+{
+    let mut p = 0;
+    while p < s.len() {
+        let h = cbor::head_again(s, p);
+        let cbor::Head::Good { kind, arg, next } = h else {
+            return Float::Nowhere;
+        };
+        if 7 <= kind {
+            return Float::At(p);
+        }
+        let e = reader::string_end(s, kind, arg, next);
+        let reader::End::At(end) = e else {
+            return Float::Nowhere;
+        };
+        p = end;
+    }
+    Float::Nowhere
+}
+
+// An ARI has a text form, and is a relative reference or not; or it is refused.
+pub enum Spelling {
+    Has { relative: bool, count: usize },
+    None { number: u64, place: usize },
+}
+
+// An accepted ARI: test 14.
+fn form_of(s: &[u8], count: usize) -> Spelling
+    requires { ⌜ (all isByte (now s) ≡ true) × Is firstLimits single (now s) (decode (now s)) count ⌝ }
+    ensures { λ r. ⌜ r ≡ spellingOf (now (s .entry)) ⌝ }
+{
+    let o = outermost(s);
+    if o.set {
+        return Spelling::None {
+            number: 14,
+            place: 0,
+        };
+    }
+    let f = first_float(s);
+    match f {
+        Float::At(place) => Spelling::None { number: 14, place },
+        Float::Nowhere => Spelling::Has {
+            relative: o.relative,
+            count,
+        },
+    }
+}
+
+// The tests 1 to 14.
+pub fn judge(s: &[u8]) -> Spelling
+    ensures { λ r. ⌜ r ≡ spellingOf (now (s .entry)) ⌝ }
+{
+    let a = reader::check_single(s);
+    match a {
+        Answer::Refused { number, place } => Spelling::None { number, place },
+        Answer::Accepted(count) => form_of(s, count),
+    }
+}
+
+fn put_scheme(relative: bool, out: &mut [u8]) -> usize
+    ensures { λ r. ⌜ Put (now (out .entry)) (now (out .exit)) 0 r (schemeOf relative) ⌝ }
+{
+    if relative {
+        return 0;
+    }
+    buffer::put_all(out, 0, b"ari:")
+}
+
+// The text of an ARI that has one.
+pub fn put_text(s: &[u8], relative: bool, out: &mut [u8]) -> usize
+    ensures { λ r. ⌜ Whole (now (s .entry)) relative r (now (out .entry)) (now (out .exit)) ⌝ }
+{
+    let q = put_scheme(relative, out);
+    let w = say_level(s, 0, reader::CONTAINERS, 3, 0, out, q);
+    w.end
+}
+
+// So many bytes were written, of an ARI of so many items; or a refusal.
+pub enum Written {
+    Bytes { length: usize, count: usize },
+    Refused { number: u64, place: usize },
+}
+
+fn refused(f: Spelling) -> Written
+    ensures { λ r. ⌜ r ≡ noneOf f ⌝ }
+{
+    match f {
+        Spelling::None { number, place } => Written::Refused { number, place },
+        Spelling::Has {
+            relative: _,
+            count: _,
+        } => Written::Refused {
+            number: 0,
+            place: 0,
+        },
+    }
+}
+
+// Bytes are handed over, if the room holds them: test 16.
+pub fn hand_over(b: &[u8], count: usize, out: &mut [u8]) -> Written
+    ensures { λ r. ⌜ r ≡ writtenOf (lent (length (now (out .entry))) (output (now (b .entry)) count)) ⌝ }
+    ensures { λ r. ⌜ now (out .exit) ≡ roomAfter (now (out .entry)) (lent (length (now (out .entry))) (output (now (b .entry)) count)) ⌝ }
+{
+    if out.len() < b.len() {
+        return Written::Refused {
+            number: 16,
+            place: b.len(),
+        };
+    }
+    let end = buffer::put_all(out, 0, b);
+    Written::Bytes { length: end, count }
+}
+
+fn write_in(s: &[u8], scratch: &mut [u8], out: &mut [u8]) -> Written
+    requires { ⌜ min 32768 (4 + 19 * length (now s)) ≤ length (now scratch) ⌝ }
+    ensures { λ r. ⌜ r ≡ writtenOf (lent (length (now (out .entry))) (writeText firstLimits (now (s .entry)))) ⌝ }
+    ensures { λ r. ⌜ now (out .exit) ≡ roomAfter (now (out .entry)) (lent (length (now (out .entry))) (writeText firstLimits (now (s .entry)))) ⌝ }
+{
+    let f = judge(s);
+    let Spelling::Has { relative, count } = f else {
+        return refused(f);
+    };
+    let size = put_text(s, relative, scratch);
+    hand_over(&scratch[0..size], count, out)
+}
+
+// A text has at most 4 bytes, and 19 for each byte of the ARI: a small one needs a small scratch, which is cleared in a fraction of the time.
+fn write_small(s: &[u8], out: &mut [u8]) -> Written
+    requires { ⌜ length (now s) ≤ 64 ⌝ }
+    ensures { λ r. ⌜ r ≡ writtenOf (lent (length (now (out .entry))) (writeText firstLimits (now (s .entry)))) ⌝ }
+    ensures { λ r. ⌜ now (out .exit) ≡ roomAfter (now (out .entry)) (lent (length (now (out .entry))) (writeText firstLimits (now (s .entry)))) ⌝ }
+{
+    let mut scratch = [0u8; 1220];
+    write_in(s, &mut scratch, out)
+}
+
+// The text of a single ARI in binary form is written into lent room.
+pub fn write_text(s: &[u8], out: &mut [u8]) -> Written
+    ensures { λ r. ⌜ r ≡ writtenOf (lent (length (now (out .entry))) (writeText firstLimits (now (s .entry)))) ⌝ }
+    ensures { λ r. ⌜ now (out .exit) ≡ roomAfter (now (out .entry)) (lent (length (now (out .entry))) (writeText firstLimits (now (s .entry)))) ⌝ }
+{
+    if s.len() <= 64 {
+        return write_small(s, out);
+    }
+    let mut scratch = [0u8; reader::TEXT];
+    write_in(s, &mut scratch, out)
+}

@@ -1,7 +1,0 @@
-use Rattle.write.proofs.Forming.{forming}
-use borrow.Author.Needs.{needs}
-use Rattle.write.proofs.put_text.Statement.{statement}
-use Rattle.write.proofs.put_text.Tie as tie
-
-pub put-text-spec : {M : Type 1} → statement M
-put-text-spec = tie.close (tie.spec (λ c κs. search needs) (λ c κs. search needs) (λ c. search needs) (λ c. search (forming, needs)))
