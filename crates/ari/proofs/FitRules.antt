@@ -10,11 +10,11 @@ use borrow.Author.Tests.{eqb-true, eqb-false, ne-eqb}
 use Rattle.cbor.specs.Byte.{within, below}
 use Rattle.cbor.specs.Head.{array, map, Lead, isContainer}
 use Rattle.cbor.proofs.ByteLaws.{not-false, within-true, within-is}
-use Rattle.ari.specs.Table.{Place, alone, message, inside, param, Slot, ari, value, params, key, nonce, target, report, reportTime, Row, row, max64, arrays, literals, ariRows, types, done, due, many, ariLevel, rule, fits, members}
+use Rattle.ari.specs.Table.{Place, alone, message, inside, param, anywhere, Slot, ari, value, params, key, nonce, target, report, reportTime, Row, row, max64, arrays, literals, ariRows, types, done, due, many, ariLevel, rule, fits, members}
 use Rattle.ari.specs.Reader.{keyBytes}
 use Rattle.ari.specs.Items.{Items, none, item}
 use Rattle.ari.specs.Decode.{trees}
-use Rattle.ari.specs.Rules.{Plain, Holds, Nonce, Vast, free, Ari, literal, namespace-ref, typed, object-ref, Object, plain, with-params, Params, list, table, Value, simple-value, ac, am, execset, rptset, Aris, no-aris, aris, Pairs, no-pairs, pairs, Targets, no-targets, targets, Reports, no-reports, reports}
+use Rattle.ari.specs.Rules.{Plain, Holds, Nonce, Vast, Ari, literal, namespace-ref, typed, object-ref, Object, plain, with-params, Params, list, table, Value, simple-value, ac, am, execset, rptset, Aris, no-aris, aris, Pairs, no-pairs, pairs, Targets, no-targets, targets, Reports, no-reports, reports}
 use Rattle.ari.proofs.Due.{Good, Fit, members-leaf, memberLevel, members-held, container-string}
 use Rattle.ari.proofs.Rows.{every, fits-by, leafRow, no-container, one-kind, ArrayType, collection, orders, answers, array-type, map-type, array-range, ari-arrays, type-leaf}
 use Rattle.ari.proofs.Weight.{weigh-ari, trees-fit}
@@ -57,11 +57,11 @@ holds-as : {k n m : ℕ} {l : Lead} {str : List ℕ} → Holds k n l str → n �
 holds-as h e = record { head = h .head; kind-is = h .kind-is; arg-is = h .arg-is ∙ e; bare = h .bare }
 
 -- ARI rows: arrays of 1 to 4, or the literals
-ari-free : (w : Place) (a : ℕ) → fits array a (ariRows w) ≡ true → (a ≡ 2 → ⊥) → free w ≡ true
-ari-free alone a e n = refl
-ari-free message a e n = let (l, h) = array-range 2 2 a (arrays 2 2 ∷ []) refl e in absurd (n (omega arith))
-ari-free inside a e n = refl
-ari-free param a e n = refl
+ari-anywhere : (w : Place) (a : ℕ) → fits array a (ariRows w) ≡ true → (a ≡ 2 → ⊥) → anywhere w ≡ true
+ari-anywhere alone a e n = refl
+ari-anywhere message a e n = let (l, h) = array-range 2 2 a (arrays 2 2 ∷ []) refl e in absurd (n (omega arith))
+ari-anywhere inside a e n = refl
+ari-anywhere param a e n = refl
 
 fits-less : (k a lo hi : ℕ) (rs : List Row) → eqb k array ≡ false → fits k a (rs ++ (arrays lo hi ∷ [])) ≡ true → fits k a rs ≡ true
 fits-less k a lo hi [] n e = rw n at e
@@ -72,18 +72,18 @@ fits-less k a lo hi (row k′ l h ∷ rs) n e = go (eqb k k′ && within l h a) 
     go true q ih = refl
     go false q ih = ih q
 
-free-literal : (w : Place) (k a : ℕ) → eqb k array ≡ false → fits k a (ariRows w) ≡ true → (free w ≡ true) × (fits k a literals ≡ true)
-free-literal alone k a n e = (refl, fits-less k a 1 4 literals n e)
-free-literal message k a n e = absurd (true≢false (sym (rw n at e)))
-free-literal inside k a n e = (refl, fits-less k a 1 4 literals n e)
-free-literal param k a n e = (refl, fits-less k a 1 4 literals n e)
+anywhere-literal : (w : Place) (k a : ℕ) → eqb k array ≡ false → fits k a (ariRows w) ≡ true → (anywhere w ≡ true) × (fits k a literals ≡ true)
+anywhere-literal alone k a n e = (refl, fits-less k a 1 4 literals n e)
+anywhere-literal message k a n e = absurd (true≢false (sym (rw n at e)))
+anywhere-literal inside k a n e = (refl, fits-less k a 1 4 literals n e)
+anywhere-literal param k a n e = (refl, fits-less k a 1 4 literals n e)
 
 -- an ARI that is an array: its length is the number of its members
 pub record AriArray (w : Place) (n : ℕ) (l : Lead) (str : List ℕ) (ms : Items) : Type 0 where
   holds : Holds array n l str
   low : 1 ≤ n
   high : n ≤ 4
-  free-if : (n ≡ 2 → ⊥) → free w ≡ true
+  anywhere-if : (n ≡ 2 → ⊥) → anywhere w ≡ true
   within-it : Fit ms false (ariLevel w n) []
 
 ari-array : (w : Place) (n : ℕ) {l : Lead} {str : List ℕ} (ms : Items) → Holds array n l str → fits array n (ariRows w) ≡ true → Fit ms false (ariLevel w n) []
@@ -91,7 +91,7 @@ ari-array : (w : Place) (n : ℕ) {l : Lead} {str : List ℕ} (ms : Items) → H
 ari-array w n ms h e f =
     let (lo, hi) = array-range 1 4 n (ariRows w) (ari-arrays w) e in
     let q : trees ms ≡ n = trees-fit ms (ariLevel w n) [] f ∙ weigh-ari w n lo hi in
-    rw q (record { holds = h; low = lo; high = hi; free-if = ari-free w n e; within-it = f })
+    rw q (record { holds = h; low = lo; high = hi; anywhere-if = ari-anywhere w n e; within-it = f })
 
 -- what becomes of an ARI's members, whatever ARI it is
 abbrev OfArray : Items → Type 0
@@ -107,7 +107,7 @@ of-ari {w} {l = l} {str = str} {ms = ms} h cb = go (eqb (l .kind) array) refl
         let (x, f) = of-held h array (l .arg) refl q refl in
         cb w l str (ari-array w (l .arg) ms x (rw q at (h .good .fitting)) f)
     go false e =
-        let (r, f) = free-literal w (l .kind) (l .arg) e (h .good .fitting) in
+        let (r, f) = anywhere-literal w (l .kind) (l .arg) e (h .good .fitting) in
         let p = of-leaf h (no-container (l .kind) (l .arg) literals refl f) in
         literal r (record { head = p .head; fitting = f; sized = p .sized; spelling = p .spelling; bare = p .bare })
 
@@ -219,18 +219,18 @@ mutual
   of-array none w l str x = absurd (omega (arith, x .low))
   of-array (item l₁ s₁ m₁ none) w l str x =
       let f = x .within-it in
-      namespace-ref (x .free-if (λ t. omega arith)) (x .holds) (of-plain (here (f .0) (f .1)) refl)
+      namespace-ref (x .anywhere-if (λ t. omega arith)) (x .holds) (of-plain (here (f .0) (f .1)) refl)
   of-array (item l₁ s₁ m₁ (item l₂ s₂ m₂ none)) w l str x =
       let f = x .within-it in
       typed (x .holds) (of-plain (here (f .0) (f .1)) (type-leaf w))
       (of-value m₂ (λ w n f. of-aris m₂ w n [] f) (λ w n f. of-pairs m₂ [] w n f) (λ n f. of-exec m₂ n f) (λ n f. of-rpt m₂ n f) (here (f .2 .0) (f .2 .1)))
   of-array (item l₁ s₁ m₁ (item l₂ s₂ m₂ (item l₃ s₃ m₃ none))) w l str x =
       let f = x .within-it in
-      object-ref (x .free-if (λ t. omega arith))
+      object-ref (x .anywhere-if (λ t. omega arith))
       (plain (x .holds) (of-plain (here (f .0) (f .1)) refl) (of-plain (here (f .2 .0) (f .2 .1)) refl) (of-plain (here (f .2 .2 .0) (f .2 .2 .1)) refl))
   of-array (item l₁ s₁ m₁ (item l₂ s₂ m₂ (item l₃ s₃ m₃ (item l₄ s₄ m₄ none)))) w l str x =
       let f = x .within-it in
-      object-ref (x .free-if (λ t. omega arith))
+      object-ref (x .anywhere-if (λ t. omega arith))
       (with-params (x .holds) (of-plain (here (f .0) (f .1)) refl) (of-plain (here (f .2 .0) (f .2 .1)) refl) (of-plain (here (f .2 .2 .0) (f .2 .2 .1)) refl)
       (of-params m₄ (λ w n f. of-aris m₄ w n [] f) (λ w n f. of-pairs m₄ [] w n f) (here (f .2 .2 .2 .0) (f .2 .2 .2 .1))))
   of-array (item l₁ s₁ m₁ (item l₂ s₂ m₂ (item l₃ s₃ m₃ (item l₄ s₄ m₄ (item l₅ s₅ m₅ r))))) w l str x = absurd (omega (arith, x .high))

@@ -11,7 +11,7 @@ use borrow.Author.Tests.{eqb-true, eq-eqb, ltb-true, ltb-false, lt-ltb, le-ltb}
 use Rattle.cbor.specs.Byte.{within}
 use Rattle.cbor.specs.Head.{unsigned, negative}
 use Rattle.cbor.proofs.ByteLaws.{and-true, or-true, or-right, or-nil, within-true, within-is}
-use Rattle.ari.specs.Table.{namespace, objectNamespace, objectId, setTime, reportTime, Row, uintTo, nintTo, anyText, isNull, types, valueRows, rule, fits}
+use Rattle.ari.specs.Table.{namespace, objectNamespace, objectId, nonce, setTime, reportTime, Row, uintTo, nintTo, anyBytes, anyText, isNull, types, valueRows, rule, fits}
 
 -- the rows of w bits
 abbrev pub unsignedRows : ℕ → List Row
@@ -97,7 +97,7 @@ unfolding types
 widths = refl
 
 pub slot-widths : (p : Bool)
-    → rule namespace .rows ∷ rule (objectNamespace p) .rows ∷ rule (objectId p) .rows ∷ rule setTime .rows ∷ rule reportTime .rows ∷ []
-    ≡ (signedRows 64 ++ (anyText ∷ [])) ∷ (signedRows 64 ++ (anyText ∷ isNull ∷ [])) ∷ (unsignedRows 63 ++ (anyText ∷ [])) ∷ signedRows 64 ∷ signedRows 64 ∷ []
+    → rule namespace .rows ∷ rule (objectNamespace p) .rows ∷ rule (objectId p) .rows ∷ rule (nonce 20) .rows ∷ rule (nonce 21) .rows ∷ rule setTime .rows ∷ rule reportTime .rows ∷ []
+    ≡ (signedRows 64 ++ (anyText ∷ [])) ∷ (signedRows 64 ++ (anyText ∷ isNull ∷ [])) ∷ (unsignedRows 63 ++ (anyText ∷ [])) ∷ (isNull ∷ (unsignedRows 63 ++ (anyBytes ∷ []))) ∷ (isNull ∷ (unsignedRows 63 ++ (anyBytes ∷ []))) ∷ signedRows 64 ∷ signedRows 64 ∷ []
 unfolding rule
 slot-widths p = refl

@@ -10,10 +10,10 @@ use Rattle.cbor.specs.Byte.{within, below}
 use Rattle.cbor.specs.Head.{array, Lead, isContainer}
 use Rattle.cbor.proofs.ByteLaws.{or-right, within-true, within-is}
 use Rattle.cbor.proofs.HeadLaws.{sound-64}
-use Rattle.ari.specs.Table.{Place, alone, message, inside, param, Slot, ari, type, value, namespace, objectNamespace, objectType, objectId, params, key, entry, nonce, setTime, target, report, reportTime, reportSource, Row, row, max64, arrays, literals, ariRows, types, Own, none, one, rising, filled, many, referenceLevel, rule, fits, members}
+use Rattle.ari.specs.Table.{Place, alone, message, inside, param, anywhere, Slot, ari, type, value, namespace, objectNamespace, objectType, objectId, params, key, entry, nonce, setTime, target, report, reportTime, reportSource, Row, row, max64, arrays, literals, ariRows, types, Own, none, one, rising, filled, many, referenceLevel, rule, fits, members}
 use Rattle.ari.specs.Reader.{keyBytes, wrongVersion, notGreater, isEmpty}
 use Rattle.ari.specs.Items.{Items, item}
-use Rattle.ari.specs.Rules.{Plain, Holds, free, Ari, literal, namespace-ref, typed, object-ref, Object, plain, with-params, Params, list, table, Value, simple-value, ac, am, execset, rptset, Aris, no-aris, aris, Pairs, no-pairs, pairs, Targets, no-targets, targets, Reports, no-reports, reports}
+use Rattle.ari.specs.Rules.{Plain, Holds, Ari, literal, namespace-ref, typed, object-ref, Object, plain, with-params, Params, list, table, Value, simple-value, ac, am, execset, rptset, Aris, no-aris, aris, Pairs, no-pairs, pairs, Targets, no-targets, targets, Reports, no-reports, reports}
 use Rattle.ari.proofs.Due.{Good, Fit, members-leaf, memberLevel, members-held, container-string}
 use Rattle.ari.proofs.Rows.{every, leafRow, no-container, type-leaf}
 
@@ -131,14 +131,14 @@ fits-behind : (k a : ℕ) (rs qs : List Row) → fits k a qs ≡ true → fits k
 fits-behind k a [] qs e = e
 fits-behind k a (row k′ lo hi ∷ rs) qs e = or-right (eqb k k′ && within lo hi a) _ (fits-behind k a rs qs e)
 
-pub free-rows : (w : Place) → free w ≡ true → ariRows w ≡ literals ++ (arrays 1 4 ∷ [])
-free-rows alone f = refl
-free-rows message f = absurd (true≢false (sym f))
-free-rows inside f = refl
-free-rows param f = refl
+pub anywhere-rows : (w : Place) → anywhere w ≡ true → ariRows w ≡ literals ++ (arrays 1 4 ∷ [])
+anywhere-rows alone f = refl
+anywhere-rows message f = absurd (true≢false (sym f))
+anywhere-rows inside f = refl
+anywhere-rows param f = refl
 
-free-array : (w : Place) (a : ℕ) → free w ≡ true → 1 ≤ a → a ≤ 4 → fits array a (ariRows w) ≡ true
-free-array w a f l h = rw (free-rows w f) (fits-behind array a literals (arrays 1 4 ∷ []) (array-fits 1 4 a l h))
+anywhere-array : (w : Place) (a : ℕ) → anywhere w ≡ true → 1 ≤ a → a ≤ 4 → fits array a (ariRows w) ≡ true
+anywhere-array w a f l h = rw (anywhere-rows w f) (fits-behind array a literals (arrays 1 4 ∷ []) (array-fits 1 4 a l h))
 
 two-array : (w : Place) → fits array 2 (ariRows w) ≡ true
 two-array alone = refl
@@ -146,10 +146,10 @@ two-array message = refl
 two-array inside = refl
 two-array param = refl
 
-literal-plain : (w : Place) {l : Lead} {str : List ℕ} {ms : Items} {sp : List ℕ → Bool} → free w ≡ true → Plain literals sp l str ms → Plain (ariRows w) sp l str ms
+literal-plain : (w : Place) {l : Lead} {str : List ℕ} {ms : Items} {sp : List ℕ → Bool} → anywhere w ≡ true → Plain literals sp l str ms → Plain (ariRows w) sp l str ms
 literal-plain w {l} f p = record {
   head = p .head;
-  fitting = rw (free-rows w f) (fits-more (l .kind) (l .arg) literals (arrays 1 4 ∷ []) (p .fitting));
+  fitting = rw (anywhere-rows w f) (fits-more (l .kind) (l .arg) literals (arrays 1 4 ∷ []) (p .fitting));
   sized = p .sized;
   spelling = p .spelling;
   bare = p .bare;
@@ -163,11 +163,11 @@ record Refers (l : Lead) (str : List ℕ) (ms : Items) : Type 0 where
   high : count ≤ 4
   inner-fit : Fit ms false (referenceLevel count) []
 
-here-reference : (w : Place) (prev : List ℕ) {l : Lead} {str : List ℕ} {ms : Items} → free w ≡ true → Refers l str ms → Here (ari w) prev l str ms
+here-reference : (w : Place) (prev : List ℕ) {l : Lead} {str : List ℕ} {ms : Items} → anywhere w ≡ true → Refers l str ms → Here (ari w) prev l str ms
 unfolding rule isContainer
 here-reference w prev f r =
     let lo = r .low in
-    here-held (ari w) prev refl (r .holds) no-test (free-array w (r .count) f (omega arith) (r .high)) (rw (ne-eqb (r .count) 2 (λ e. omega arith)) (r .inner-fit))
+    here-held (ari w) prev refl (r .holds) no-test (anywhere-array w (r .count) f (omega arith) (r .high)) (rw (ne-eqb (r .count) 2 (λ e. omega arith)) (r .inner-fit))
 
 here-target : (prev : List ℕ) {l : Lead} {str : List ℕ} {ms : Items} → Refers l str ms → Here target prev l str ms
 unfolding rule isContainer
@@ -187,7 +187,7 @@ mutual
       here-leaf (ari w) prev no-test (literal-plain w f p) (no-container (l .kind) (l .arg) literals refl (p .fitting))
   here-ari prev (namespace-ref {w = w} f h p) =
       let x = here-plain namespace [] no-test p refl in
-      here-held (ari w) prev refl h no-test (free-array w 1 f (omega arith) (omega arith)) (x .good, x .holds, tt)
+      here-held (ari w) prev refl h no-test (anywhere-array w 1 f (omega arith) (omega arith)) (x .good, x .holds, tt)
   here-ari prev (typed {w = w} h t v) =
       let x = here-plain (type w) [] no-test t (type-leaf w) in
       let y = here-value [] v in

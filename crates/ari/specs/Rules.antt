@@ -9,7 +9,7 @@ use Rattle.cbor.specs.Byte.{below}
 use Rattle.cbor.specs.Head.{unsigned, text, array, map, Lead, Sound, stringSize, isContainer}
 use Rattle.cbor.specs.Utf8.{utf8}
 use Rattle.ari.specs.Name.{identifier, namespaceName}
-use Rattle.ari.specs.Table.{Place, alone, message, inside, param, inner, Row, row, uintTo, nintTo, anyText, anyBytes, isNull, vast, max64, max63, literals, types, typeRows, valueRows, valueSpelling, fits}
+use Rattle.ari.specs.Table.{Place, alone, message, inside, param, inner, anywhere, Row, row, vast, literals, namespaces, objectNamespaces, objectTypes, objectIds, keys, nonces, types, typeRows, valueRows, valueSpelling, fits}
 use Rattle.ari.specs.Reader.{Limits, keyBytes, Input, single, aMessage}
 use Rattle.ari.specs.Items.{Items, none, item, encode, heads, depth}
 
@@ -32,22 +32,22 @@ abbrev pub Literal : Lead → List ℕ → Items → Type 0
 Literal = Plain literals utf8
 
 abbrev pub Namespace : Lead → List ℕ → Items → Type 0
-Namespace = Plain (uintTo max63 ∷ nintTo max63 ∷ anyText ∷ []) namespaceName
+Namespace = Plain namespaces namespaceName
 
 abbrev pub NamespaceOrNull : Lead → List ℕ → Items → Type 0
-NamespaceOrNull = Plain (uintTo max63 ∷ nintTo max63 ∷ anyText ∷ isNull ∷ []) namespaceName
+NamespaceOrNull = Plain objectNamespaces namespaceName
 
 abbrev pub ObjectType : Lead → List ℕ → Items → Type 0
-ObjectType = Plain (nintTo 255 ∷ anyText ∷ []) identifier
+ObjectType = Plain objectTypes identifier
 
 abbrev pub ObjectId : Lead → List ℕ → Items → Type 0
-ObjectId = Plain (uintTo max63 ∷ anyText ∷ []) identifier
+ObjectId = Plain objectIds identifier
 
 abbrev pub Key : Lead → List ℕ → Items → Type 0
-Key = Plain (uintTo max64 ∷ nintTo max63 ∷ anyText ∷ []) utf8
+Key = Plain keys utf8
 
 abbrev pub Nonce : Lead → List ℕ → Items → Type 0
-Nonce = Plain (isNull ∷ uintTo max64 ∷ anyBytes ∷ []) utf8
+Nonce = Plain nonces utf8
 
 abbrev pub Vast : Lead → List ℕ → Items → Type 0
 Vast = Plain vast utf8
@@ -56,22 +56,15 @@ Vast = Plain vast utf8
 abbrev pub TypeAt : Place → Lead → List ℕ → Items → Type 0
 TypeAt w = Plain (typeRows w types) utf8
 
--- where any ARI may stand: everywhere but as one of a message's ARIs
-abbrev pub free : Place → Bool
-free alone = true
-free message = false
-free inside = true
-free param = true
-
 mutual
   -- an ARI at a place
   pub data Ari : Place → Lead → List ℕ → Items → Type 0 where
-    literal : {w : Place} {l : Lead} {s : List ℕ} {ms : Items} → free w ≡ true → Literal l s ms → Ari w l s ms
-    namespace-ref : {w : Place} {l l₁ : Lead} {s s₁ : List ℕ} {m₁ : Items} → free w ≡ true → Holds array 1 l s → Namespace l₁ s₁ m₁
+    literal : {w : Place} {l : Lead} {s : List ℕ} {ms : Items} → anywhere w ≡ true → Literal l s ms → Ari w l s ms
+    namespace-ref : {w : Place} {l l₁ : Lead} {s s₁ : List ℕ} {m₁ : Items} → anywhere w ≡ true → Holds array 1 l s → Namespace l₁ s₁ m₁
         → Ari w l s (item l₁ s₁ m₁ none)
     typed : {w : Place} {l l₁ l₂ : Lead} {s s₁ s₂ : List ℕ} {m₁ m₂ : Items} → Holds array 2 l s → TypeAt w l₁ s₁ m₁
         → Value (l₁ .arg) (inner w) l₂ s₂ m₂ → Ari w l s (item l₁ s₁ m₁ (item l₂ s₂ m₂ none))
-    object-ref : {w : Place} {l : Lead} {s : List ℕ} {ms : Items} → free w ≡ true → Object l s ms → Ari w l s ms
+    object-ref : {w : Place} {l : Lead} {s : List ℕ} {ms : Items} → anywhere w ≡ true → Object l s ms → Ari w l s ms
 
   pub data Object : Lead → List ℕ → Items → Type 0 where
     plain : {l l₁ l₂ l₃ : Lead} {s s₁ s₂ s₃ : List ℕ} {m₁ m₂ m₃ : Items} → Holds array 3 l s → NamespaceOrNull l₁ s₁ m₁ → ObjectType l₂ s₂ m₂

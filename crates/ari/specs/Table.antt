@@ -92,6 +92,30 @@ floats = anyHalf ∷ anySingle ∷ anyDouble ∷ []
 abbrev pub literals : List Row
 literals = row simple 20 23 ∷ uintTo max64 ∷ nintTo max63 ∷ anyHalf ∷ anySingle ∷ anyDouble ∷ anyText ∷ anyBytes ∷ []
 
+-- "ns is an integer from -2^63 to 2^63 - 1 or a name."
+abbrev pub namespaces : List Row
+namespaces = uintTo max63 ∷ nintTo max63 ∷ anyText ∷ []
+
+-- "In an object reference only, it may be null (a relative reference)."
+abbrev pub objectNamespaces : List Row
+objectNamespaces = uintTo max63 ∷ nintTo max63 ∷ anyText ∷ isNull ∷ []
+
+-- "Object type: -256 to -1 or an identifier."
+abbrev pub objectTypes : List Row
+objectTypes = nintTo 255 ∷ anyText ∷ []
+
+-- "Object id: 0 to 2^63 - 1 or an identifier."
+abbrev pub objectIds : List Row
+objectIds = uintTo max63 ∷ anyText ∷ []
+
+-- "Map keys are integers or text strings"
+abbrev pub keys : List Row
+keys = uintTo max64 ∷ nintTo max63 ∷ anyText ∷ []
+
+-- "A nonce is null, an unsigned integer or a byte string." "Integers here are as VAST."
+abbrev pub nonces : List Row
+nonces = isNull ∷ uintTo max63 ∷ anyBytes ∷ []
+
 -- "Otherwise an array, told by its length": 1 to 4. In a message "each of type 20 or 21": an array of 2.
 abbrev pub ariRows : Place → List Row
 ariRows alone = literals ++ (arrays 1 4 ∷ [])
@@ -230,13 +254,10 @@ rule (value t w) = record {
   inMap = many (key w);
   next = λ a n. done;
 }
--- "ns is an integer from -2^63 to 2^63 - 1 or a name. In an object reference only, it may be null"
-rule namespace = leaf (uintTo max63 ∷ nintTo max63 ∷ anyText ∷ []) namespaceName done
-rule (objectNamespace p) = leaf (uintTo max63 ∷ nintTo max63 ∷ anyText ∷ isNull ∷ []) namespaceName (due (objectType p) 0)
--- "Object type: -256 to -1 or an identifier."
-rule (objectType p) = leaf (nintTo 255 ∷ anyText ∷ []) identifier (due (objectId p) 0)
--- "Object id: 0 to 2^63 - 1 or an identifier."
-rule (objectId p) = leaf (uintTo max63 ∷ anyText ∷ []) identifier (cond p (due params 0) done)
+rule namespace = leaf namespaces namespaceName done
+rule (objectNamespace p) = leaf objectNamespaces namespaceName (due (objectType p) 0)
+rule (objectType p) = leaf objectTypes identifier (due (objectId p) 0)
+rule (objectId p) = leaf objectIds identifier (cond p (due params 0) done)
 -- "Parameters: a non-empty array of ARIs or a non-empty map."
 rule params = record {
   rows = arrays 0 max64 ∷ anyMap ∷ [];
@@ -247,9 +268,9 @@ rule params = record {
   inMap = many (key param);
   next = λ a n. done;
 }
--- "Map keys are integers or text strings", each greater than the one before; "Map values are ARIs."
+-- each key greater than the one before; "Map values are ARIs."
 rule (key w) = record {
-  rows = uintTo max64 ∷ nintTo max63 ∷ anyText ∷ [];
+  rows = keys;
   spelling = utf8;
   own = rising;
   asks = false;
@@ -258,8 +279,7 @@ rule (key w) = record {
   next = λ a n. due (entry w) n;
 }
 rule (entry w) = asking (ariRows w) (ariLevel w) (many (key w))
--- "A nonce is null, an unsigned integer or a byte string."
-rule (nonce t) = counting (isNull ∷ uintTo max64 ∷ anyBytes ∷ []) utf8 (λ n. cond (eqb t 21) (due setTime n) (many target n))
+rule (nonce t) = counting nonces utf8 (λ n. cond (eqb t 21) (due setTime n) (many target n))
 rule setTime = counting vast utf8 (many report)
 rule target = asking (arrays 3 4 ∷ []) referenceLevel (many target)
 -- "A report is an array: integer, object reference, then ARIs."

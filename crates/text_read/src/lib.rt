@@ -84,7 +84,11 @@ fn read_level(
         let w = read_inside(t, x.next, items, depth, place, x.kind, x.arg, out, x.end);
         let n = grammar::next_slot(place, x.arg, left);
         let grammar::Next::Due { slot: a, more: b } = n else {
-            let e = text_read_item::skip(t, w.next, text_read_item::size_after(place, x.kind, false));
+            let e = text_read_item::skip(
+                t,
+                w.next,
+                text_read_item::size_after(place, x.kind, false),
+            );
             return Pos {
                 next: e,
                 end: w.end,

@@ -396,7 +396,7 @@ impl<'r> Writer<'r> {
         match self.random.below(4) {
             0 => self.simple(0xf6),
             1 => self.bytes(),
-            _ => self.unsigned(u64::MAX),
+            _ => self.unsigned(u64::MAX >> 1),
         }
     }
 

@@ -793,8 +793,8 @@ fn ranges(f: &mut Fixed) {
     // Nonces.
     range(
         &[("82 14 81", "", 3), ("82 15 82", "00", 4)],
-        &["00", "1bffffffffffffffff", "40", "42ffff", "f6"],
-        &["20", "3b7fffffffffffffff"],
+        &["00", "1b7fffffffffffffff", "40", "42ffff", "f6"],
+        &["1b8000000000000000", "1bffffffffffffffff", "20", "3b7fffffffffffffff"],
     );
 }
 

@@ -380,12 +380,12 @@ impl<'a, V: Visitor> Reader<'a, V> {
         }
     }
 
-    /// "A nonce is null, an unsigned integer or a byte string."
+    /// "A nonce is null, an unsigned integer or a byte string"; "Integers here are as VAST".
     #[inline(always)]
     fn nonce(&mut self) -> Read {
         let head = self.head()?;
         match head.kind {
-            Kind::Null | Kind::Unsigned(_) => self.leaf(head),
+            Kind::Null | Kind::Unsigned(0..=MAX) => self.leaf(head),
             Kind::Bytes(length) => self.string(head, length, any),
             _ => head.refuse(Test::NotAllowed),
         }
