@@ -7,6 +7,27 @@ ghost use Rattle.cbor.specs.Head.{divides, badHalf, badFloat, getFrom};
 ghost use Rattle.cbor.specs.Answer.{answer, counted, headAt, judged, Passed, tooLong, follows, Tail, Sequence};
 ghost use Rattle.cbor.specs.Utf8.{utf8};
 
+// The kinds of heads (specs/Head.antt).
+pub const UNSIGNED: u8 = 0;
+
+pub const NEGATIVE: u8 = 1;
+
+pub const BYTES: u8 = 2;
+
+pub const TEXT: u8 = 3;
+
+pub const ARRAY: u8 = 4;
+
+pub const MAP: u8 = 5;
+
+pub const SIMPLE: u8 = 6;
+
+pub const HALF: u8 = 7;
+
+pub const SINGLE: u8 = 8;
+
+pub const DOUBLE: u8 = 9;
+
 // A refusal's number, or a head: its kind (specs/Head.antt), its argument and the place behind it. The number is a byte: as a u64 it would stand
 // where a head's argument does, and LLVM then keeps every head in memory.
 pub enum Head {

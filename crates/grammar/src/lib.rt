@@ -18,6 +18,29 @@ pub enum Next {
     Due { slot: u64, more: u64 },
 }
 
+// The numbers of the slots that functions name; rule_word has them all.
+pub const VERSION: u64 = 0; // a message's version
+
+pub const ARI_ALONE: u64 = 1; // a single ARI
+
+pub const ARI_MESSAGE: u64 = 2; // one of a message's ARIs
+
+pub const ARI_INSIDE: u64 = 3; // an ARI inside another
+
+pub const ARI_PARAM: u64 = 4; // an ARI inside an object reference's parameters
+
+pub const TYPE_MESSAGE: u64 = 6; // the type of one of a message's ARIs
+
+pub const NAMESPACE: u64 = 9; // of a namespace reference
+
+pub const OBJECT_NAMESPACE: u64 = 10; // of an object reference without parameters
+
+pub const OBJECT_NAMESPACE_PARAMS: u64 = 11; // of one with parameters
+
+pub const TARGET: u64 = 24;
+
+pub const REPORT: u64 = 25;
+
 pub fn rule_word(slot: u64) -> u64
     ensures { λ r. ⌜ r ≡ wordOf slot ⌝ }
 {
