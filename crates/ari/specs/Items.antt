@@ -5,7 +5,7 @@ use mathlib.Core.List.{List, [], _∷_, _++_}
 use lib.ListN.{length}
 use Rattle.cbor.specs.Head.{Lead, size, leadBytes, isContainer}
 use Rattle.ari.specs.Table.{message, Slot, ari, Level, done, due, rule, members}
-use Rattle.ari.specs.Reader.{Input, single, aMessage, firstSlot}
+use Rattle.ari.specs.Reader.{Input, Single, Message, firstSlot}
 
 -- A run of items: the head and the string of the first, its members, and the items after it.
 pub data Items : Type 0 where
@@ -65,8 +65,8 @@ spots (item l str ms rs) more (due s n) p d =
 
 -- sets may follow what is due first
 abbrev pub openEnded : Input → Bool
-openEnded single = false
-openEnded aMessage = true
+openEnded Single = false
+openEnded Message = true
 
 -- all items of an input
 abbrev pub spotsOf : Input → Items → List Spot

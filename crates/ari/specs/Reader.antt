@@ -6,14 +6,10 @@ use lib.ListN.{length, take, drop}
 use lib.Dec.{ltb, eqb}
 use Rattle.cbor.specs.Byte.{below}
 use Rattle.cbor.specs.Head.{text, Lead, size, Got, bad, got, getHead, shortBytes, stringSize, isContainer}
+pub use Rattle.ari.specs.declared.Limits.{Limits}
+pub use Rattle.ari.specs.declared.Input.{Input}
+pub use Rattle.ari.specs.declared.Input.the-variants.{Single, Message}
 use Rattle.ari.specs.Table.{alone, message, Slot, version, ari, Own, none, one, rising, filled, Level, done, due, rule, fits, members}
-
--- "a binary input has at most 4,096 bytes, at most 1,024 items, at most 12 containers open at once", "A text has at most 32,768 bytes"
-pub record Limits : Type 0 where
-  pub bytes : ℕ
-  pub items : ℕ
-  pub containers : ℕ
-  pub text : ℕ
 
 -- What is due from here: a slot, how often again, the key before on its level, the containers that it may still open, and what is due behind
 -- its level. At the bottom nothing more (a single ARI) or more sets (a message).
@@ -117,18 +113,14 @@ abbrev pub counted : ℕ → Answer → Answer
 counted n (refuse r p) = refuse r p
 counted n (accept left) = accept (n - left)
 
--- The two inputs.
-pub data Input : Type 0 where
-  single aMessage : Input
-
 -- what is due first, and behind it
 abbrev pub firstSlot : Input → Slot
-firstSlot single = ari alone
-firstSlot aMessage = version
+firstSlot Single = ari alone
+firstSlot Message = version
 
 abbrev pub bottom : Input → ℕ → Dues
-bottom single d = end
-bottom aMessage d = sets d
+bottom Single d = end
+bottom Message d = sets d
 
 -- "Test 1 comes first."
 unfoldable pub read : Limits → Input → List ℕ → Answer

@@ -11,7 +11,7 @@ use borrow.Author.Tests.{eq-eqb}
 use Rattle.cbor.specs.Byte.{be, value}
 use Rattle.cbor.proofs.ByteLaws.{length-be, value-be}
 use Rattle.ari.specs.Limits.{firstLimits}
-use Rattle.ari.specs.Reader.{Limits, Answer, accept, refuse, aMessage, read}
+use Rattle.ari.specs.Reader.{Limits, Answer, accept, refuse, Message, read}
 use Rattle.ari.specs.Listing.{Space, number, listing}
 use Rattle.ari.proofs.Named.{InRange}
 use Rattle.grants.specs.Grants.{Grant, granted, check, judge, release}
@@ -94,7 +94,7 @@ module _ (t : List Row) (f : Fit t) where
 
   pub same-release : (m : Limits) (b : List ℕ) (s : ℕ) → releaseBytes m b (tableBytes t) s ≡ release m b (grants t) s
   unfolding releaseBytes release
-  same-release m b s = rw (same-rows t f) (go (read m aMessage b))
+  same-release m b s = rw (same-rows t f) (go (read m Message b))
     where
       go : (a : Answer) → whole a (tableBytes t) (judge a (granted (grants t) s) (listing b)) ≡ judge a (granted (grants t) s) (listing b)
       go (refuse r p) = refl

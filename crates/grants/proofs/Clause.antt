@@ -8,7 +8,7 @@ use native.Mathlib.Omega.{arith}
 use lib.ListN.{length}
 use lib.IntN.{ℤ, negsuc}
 use Rattle.cbor.proofs.ByteLaws.{past}
-use Rattle.ari.specs.Reader.{Limits, Answer, refuse, accept, aMessage, read}
+use Rattle.ari.specs.Reader.{Limits, Answer, refuse, accept, Message, read}
 use Rattle.ari.specs.Listing.{Space, number, name, relative, Entry, listing}
 use Rattle.grants.specs.Grants.{Grant, Check, passes, check, granted, Release, yes, no, judgeFrom, judge, release}
 use Rattle.grants.specs.Bytes.{rows, ragged, checkBytes, whole, releaseBytes}
@@ -17,7 +17,7 @@ use Rattle.grants.proofs.Checked.{passes-exactly-if}
 
 -- a message that is accepted
 abbrev pub Accepted : Limits → List ℕ → Type 0
-Accepted m b = (n : ℕ) × (read m aMessage b ≡ accept n)
+Accepted m b = (n : ℕ) × (read m Message b ≡ accept n)
 
 module _ (m : Limits) (b : List ℕ) (t : List Grant) (s : ℕ) where
   after-answer : (a : Answer) (r : Release) → judge a (granted t s) (listing b) ≡ r → ((n p : ℕ) → r ≡ Release.refused n p → ⊥)
@@ -29,7 +29,7 @@ module _ (m : Limits) (b : List ℕ) (t : List Grant) (s : ℕ) where
   pub released-exactly-if : (release m b t s ≡ yes) ↔ (Accepted m b × ((e : Entry) → List·Memᴰ e (listing b) → Granted t s (e .space)))
   unfolding release
   released-exactly-if = (
-    λ e. (let (a, j) = after-answer (read m aMessage b) yes e (λ n p q. let z : _≡_ {A = ℕ} 0 1 = cc in omega arith) in (a, judged-yes t s (listing b) .0 j)),
+    λ e. (let (a, j) = after-answer (read m Message b) yes e (λ n p q. let z : _≡_ {A = ℕ} 0 1 = cc in omega arith) in (a, judged-yes t s (listing b) .0 j)),
     λ (a, g). rw (a .1) (judged-yes t s (listing b) .1 g),
   )
 
@@ -37,14 +37,14 @@ module _ (m : Limits) (b : List ℕ) (t : List Grant) (s : ℕ) where
   pub held-exactly-if : (k : ℕ) → (release m b t s ≡ no k) ↔ (Accepted m b × FirstHeld t s (listing b) k)
   unfolding release
   held-exactly-if k = (
-    λ e. (let (a, j) = after-answer (read m aMessage b) (no k) e (λ n p q. let z : _≡_ {A = ℕ} 0 1 = cc in omega arith) in (a, judged-no t s k (listing b) .0 j)),
+    λ e. (let (a, j) = after-answer (read m Message b) (no k) e (λ n p q. let z : _≡_ {A = ℕ} 0 1 = cc in omega arith) in (a, judged-no t s k (listing b) .0 j)),
     λ (a, g). rw (a .1) (judged-no t s k (listing b) .1 g),
   )
 
   -- Refused exactly as the message is.
-  pub refused-exactly-if : (n p : ℕ) → (release m b t s ≡ Release.refused n p) ↔ (read m aMessage b ≡ refuse n p)
+  pub refused-exactly-if : (n p : ℕ) → (release m b t s ≡ Release.refused n p) ↔ (read m Message b ≡ refuse n p)
   unfolding release
-  refused-exactly-if n p = (there (read m aMessage b), λ e. rw e)
+  refused-exactly-if n p = (there (read m Message b), λ e. rw e)
     where
       judged : (i : ℕ) (es : List Entry) → judgeFrom (granted t s) i es ≡ Release.refused n p → ⊥
       judged i [] e = let z : _≡_ {A = ℕ} 0 1 = cc in omega arith
@@ -62,7 +62,7 @@ module _ (m : Limits) (b : List ℕ) (t : List Grant) (s : ℕ) where
 -- same refusal, the same yes, or no with the same entry, on every message.
 pub only-own-rows : (m : Limits) (b : List ℕ) (t t′ : List Grant) (s : ℕ) → ((z : ℤ) → Row t s z ↔ Row t′ s z) → release m b t s ≡ release m b t′ s
 unfolding release
-only-own-rows m b t t′ s h = ap (λ (ok : Space → Bool). judge (read m aMessage b) ok (listing b)) (fun-ext alike)
+only-own-rows m b t t′ s h = ap (λ (ok : Space → Bool). judge (read m Message b) ok (listing b)) (fun-ext alike)
   where
     agree : (x y : Bool) → (x ≡ true → y ≡ true) → (y ≡ true → x ≡ true) → x ≡ y
     agree true y f g = sym (f refl)
@@ -107,7 +107,7 @@ module _ (m : Limits) (t : List Grant) where
 module _ (m : Limits) (t : List ℕ) where
   pub ragged-releases-nothing : (b : List ℕ) (s : ℕ) → ragged t ≡ true → releaseBytes m b t s ≡ yes → ⊥
   unfolding releaseBytes
-  ragged-releases-nothing b s r e = go (read m aMessage b) e
+  ragged-releases-nothing b s r e = go (read m Message b) e
     where
       go : (a : Answer) → whole a t (release m b (rows t) s) ≡ yes → ⊥
       go (refuse n p) q = let z : _≡_ {A = ℕ} 0 1 = cc in omega arith
@@ -115,7 +115,7 @@ module _ (m : Limits) (t : List ℕ) where
 
   pub whole-rows : (b : List ℕ) (s : ℕ) → ragged t ≡ false → releaseBytes m b t s ≡ release m b (rows t) s
   unfolding releaseBytes release
-  whole-rows b s r = go (read m aMessage b)
+  whole-rows b s r = go (read m Message b)
     where
       go : (a : Answer) → whole a t (judge a (granted (rows t) s) (listing b)) ≡ judge a (granted (rows t) s) (listing b)
       go (refuse n p) = refl

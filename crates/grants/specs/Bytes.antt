@@ -7,7 +7,7 @@ use lib.IntN.{ℤ, pos, negsuc}
 use lib.Dec.{leb, eqb}
 use Rattle.cbor.specs.Byte.{be, value}
 use Rattle.ari.specs.Table.{max63, max64}
-use Rattle.ari.specs.Reader.{Limits, Answer, refuse, accept, aMessage, read}
+use Rattle.ari.specs.Reader.{Limits, Answer, refuse, accept, Message, read}
 use Rattle.ari.specs.Listing.{Space, number, name, relative, Entry}
 use Rattle.grants.specs.Grants.{Grant, holds, Check, refused, check, Release, release}
 
@@ -56,7 +56,7 @@ whole (refuse r p) t x = refused r p
 whole (accept n) t x = cond (ragged t) (refused 18 (length t / 16)) x
 
 unfoldable pub releaseBytes : Limits → List ℕ → List ℕ → ℕ → Release
-releaseBytes m b t s = whole (read m aMessage b) t (release m b (rows t) s)
+releaseBytes m b t s = whole (read m Message b) t (release m b (rows t) s)
 
 -- "24 an entry, big-endian: first byte (4), byte after (4), kind (8: 0 number, 1 name, 2 relative), namespace number or place of the name's
 -- head (two's complement, 8; 0 if relative)"

@@ -4,7 +4,7 @@ use mathlib.Core.Bool.{Bool, true, false, not, _&&_, _||_, cond}
 use mathlib.Core.List.{List, [], _∷_, _++_}
 use lib.IntN.{ℤ, pos, negsuc}
 use lib.Dec.{eqb}
-use Rattle.ari.specs.Reader.{Limits, Answer, refuse, accept, aMessage, read}
+use Rattle.ari.specs.Reader.{Limits, Answer, refuse, accept, Message, read}
 use Rattle.ari.specs.Listing.{Space, number, name, relative, Entry, listing}
 
 -- "a lent list of grant records, each a subscriber and a namespace number, of any length, in any order"
@@ -69,4 +69,4 @@ judge (accept n) ok es = judgeFrom ok 0 es
 
 -- "Release takes a message, the table and a subscriber". It doesn't run the table's check.
 unfoldable pub release : Limits → List ℕ → List Grant → ℕ → Release
-release m b t s = judge (read m aMessage b) (granted t s) (listing b)
+release m b t s = judge (read m Message b) (granted t s) (listing b)

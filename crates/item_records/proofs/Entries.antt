@@ -16,7 +16,7 @@ use Rattle.cbor.specs.declared.Head.the-variants.{Bad, Good}
 use Rattle.cbor.specs.Answer.{headAt}
 use Rattle.cbor.proofs.HeadLaws.{getHead-back}
 use Rattle.ari.specs.Table.{message, Slot, version, ari, Level, done, due, rule, members, isReference}
-use Rattle.ari.specs.Reader.{Limits, Input, single, aMessage, firstSlot, read, refuse, accept}
+use Rattle.ari.specs.Reader.{Limits, Input, Single, Message, firstSlot, read, refuse, accept}
 use Rattle.ari.specs.Reader as reader
 use Rattle.ari.specs.Items.{Items, none, item, encode, depth, Spot, spots, spotAt, insideAt, openEnded, spotsOf}
 use Rattle.ari.specs.Decode.{decode}
@@ -123,8 +123,8 @@ fine (item l str ms rs) more (due s i) prev p d k most m f h n =
     (next-known s n l i (f .0 .head) (f .0 .fitting))))
 
 first-known : (i : Input) → HasNumber (firstSlot i)
-first-known single = record { number = 1; is-slot = omega arith; slot-is = refl }
-first-known aMessage = record { number = 0; is-slot = omega arith; slot-is = refl }
+first-known Single = record { number = 1; is-slot = omega arith; slot-is = refl }
+first-known Message = record { number = 0; is-slot = omega arith; slot-is = refl }
 
 pub all-fine : {m : Limits} {i : Input} {b : List ℕ} {g : Items} {n : ℕ} → Is m i b g n → All (Fine (m .containers)) (spotsOf i g)
 all-fine {m} {i} {b} {g} c =

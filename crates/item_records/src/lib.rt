@@ -2,7 +2,7 @@
 ghost use mathlib.Core.Path.{_≡_};
 ghost use Prim.Native.Nat.{_≤_};
 ghost use lib.ListN.{length};
-ghost use Rattle.ari.specs.Reader.{single, aMessage};
+ghost use Rattle.ari.specs.Reader.{Single, Message};
 ghost use Rattle.ari.specs.Limits.{firstLimits};
 ghost use Rattle.item_records.specs.Records.{referenceBy, literalOf, kindOf, kindAt, recordFrom, foundFrom, Roomy, itemOf};
 use reader::Answer;
@@ -141,7 +141,7 @@ fn find_item(s: &[u8], k: usize, a: Answer, table: &[u64]) -> Found
 
 fn single_in(s: &[u8], k: usize, table: &mut [u64]) -> Found
     requires { ⌜ 1024 ≤ length (now table) ⌝ }
-    ensures { λ r. ⌜ r ≡ itemOf firstLimits single (now (s .entry)) k ⌝ }
+    ensures { λ r. ⌜ r ≡ itemOf firstLimits Single (now (s .entry)) k ⌝ }
 {
     let a = reader::keep_single(s, table);
     find_item(s, k, a, table)
@@ -149,7 +149,7 @@ fn single_in(s: &[u8], k: usize, table: &mut [u64]) -> Found
 
 fn message_in(s: &[u8], k: usize, table: &mut [u64]) -> Found
     requires { ⌜ 1024 ≤ length (now table) ⌝ }
-    ensures { λ r. ⌜ r ≡ itemOf firstLimits aMessage (now (s .entry)) k ⌝ }
+    ensures { λ r. ⌜ r ≡ itemOf firstLimits Message (now (s .entry)) k ⌝ }
 {
     let a = reader::keep_message(s, table);
     find_item(s, k, a, table)
@@ -157,7 +157,7 @@ fn message_in(s: &[u8], k: usize, table: &mut [u64]) -> Found
 
 // Item k of a single ARI.
 pub fn item_single(s: &[u8], k: usize) -> Found
-    ensures { λ r. ⌜ r ≡ itemOf firstLimits single (now (s .entry)) k ⌝ }
+    ensures { λ r. ⌜ r ≡ itemOf firstLimits Single (now (s .entry)) k ⌝ }
 {
     let mut table = [0u64; reader::ITEMS];
     single_in(s, k, &mut table)
@@ -165,7 +165,7 @@ pub fn item_single(s: &[u8], k: usize) -> Found
 
 // Item k of a message.
 pub fn item_message(s: &[u8], k: usize) -> Found
-    ensures { λ r. ⌜ r ≡ itemOf firstLimits aMessage (now (s .entry)) k ⌝ }
+    ensures { λ r. ⌜ r ≡ itemOf firstLimits Message (now (s .entry)) k ⌝ }
 {
     let mut table = [0u64; reader::ITEMS];
     message_in(s, k, &mut table)

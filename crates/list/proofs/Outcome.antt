@@ -11,7 +11,7 @@ use mir.Syntax.{w8}
 use mir.Val.{Fits}
 use borrow.Author.Tests.{lt-ltb, le-ltb, ltb-false, eq-eqb, ne-eqb}
 use Rattle.cbor.specs.Byte.{all, isByte}
-use Rattle.ari.specs.Reader.{aMessage, refuse, accept, read}
+use Rattle.ari.specs.Reader.{Message, refuse, accept, read}
 use Rattle.ari.specs.Reader as reader
 use Rattle.ari.specs.Limits.{firstLimits}
 use Rattle.ari.specs.Decode.{decode}
@@ -62,7 +62,7 @@ fewer-referring (x ∷ xs) = go (isReference (x .slot) (x .lead)) (fewer-referri
 
 fewer-listed : {b t : List ℕ} {n : ℕ} → Tabled b n t → length (listing b) ≤ n
 unfolding listing
-fewer-listed {b} c = rw length-map (omega (arith, fewer-referring (spotsOf aMessage (decode b)), spot-count (c .is)))
+fewer-listed {b} c = rw length-map (omega (arith, fewer-referring (spotsOf Message (decode b)), spot-count (c .is)))
 
 module _ (m : ℕ) {b t : List ℕ} {n : ℕ} (c : Tabled b n t) (h : n ≤ m / 24) where
   pub room-for-all : 24 * length (listing b) ≤ m
@@ -92,23 +92,23 @@ was-refused (refuse r p) e = cc
 was-refused (accept m) e = absurd (let z : _≡_ {A = ℕ} 0 1 = cc in omega arith)
 
 -- a message has no more items than bytes
-fewer-than-bytes : {b : List ℕ} {n : ℕ} → Is firstLimits aMessage b (decode b) n → n ≤ length b
+fewer-than-bytes : {b : List ℕ} {n : ℕ} → Is firstLimits Message b (decode b) n → n ≤ length b
 fewer-than-bytes {b} {n} c = omega (arith, c .count, heads-encode (decode b), ap length (c .bytes))
 
-module _ (b : List ℕ) {a : Answer} (e : a ≡ answerOf (read firstLimits aMessage b)) where
-  pub accepted : {n : ℕ} → a ≡ Accepted n → read firstLimits aMessage b ≡ accept n
-  accepted f = was-accepted (read firstLimits aMessage b) (sym f ∙ e)
+module _ (b : List ℕ) {a : Answer} (e : a ≡ answerOf (read firstLimits Message b)) where
+  pub accepted : {n : ℕ} → a ≡ Accepted n → read firstLimits Message b ≡ accept n
+  accepted f = was-accepted (read firstLimits Message b) (sym f ∙ e)
 
-  pub refused : {r p : ℕ} → a ≡ answers.Refused r p → read firstLimits aMessage b ≡ refuse r p
-  refused f = was-refused (read firstLimits aMessage b) (sym f ∙ e)
+  pub refused : {r p : ℕ} → a ≡ answers.Refused r p → read firstLimits Message b ≡ refuse r p
+  refused f = was-refused (read firstLimits Message b) (sym f ∙ e)
 
-  pub tabled : {t t′ : List ℕ} → Kept aMessage b a t t′ → length t′ ≡ length t → ((i : ℕ) → Fits w8 (getD b i 0)) → min 1024 (length b) ≤ length t → {n : ℕ} → a ≡ Accepted n → Tabled b n t′
+  pub tabled : {t t′ : List ℕ} → Kept Message b a t t′ → length t′ ≡ length t → ((i : ℕ) → Fits w8 (getD b i 0)) → min 1024 (length b) ≤ length t → {n : ℕ} → a ≡ Accepted n → Tabled b n t′
   tabled {t} y l bytes room {n} f =
       let bs : all isByte b ≡ true = all-bytes b bytes in
-      let c : Is firstLimits aMessage b (decode b) n = demand-two firstLimits aMessage b n bs .0 (accepted f) in
+      let c : Is firstLimits Message b (decode b) n = demand-two firstLimits Message b n bs .0 (accepted f) in
       let kept = rw f at y in
       let few : n ≤ length t = omega (arith, room, c .few, fewer-than-bytes c) in
-      record { is = c; room = omega (arith, few, l); kept = λ k h. entry-is aMessage b k t noSpot c few (kept .kept) h }
+      record { is = c; room = omega (arith, few, l); kept = λ k h. entry-is Message b k t noSpot c few (kept .kept) h }
 
   module _ (out : List ℕ) (w : ℕ) where
     pub list-refused : {r p : ℕ} → a ≡ answers.Refused r p → Refused r p ≡ listIn w firstLimits b out

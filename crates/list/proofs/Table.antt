@@ -15,7 +15,7 @@ use Rattle.cbor.specs.Answer.{headAt}
 use Rattle.cbor.proofs.ByteLaws.{and-true}
 use Rattle.cbor.proofs.HeadLaws.{length-lead}
 use Rattle.ari.specs.Table.{Slot, max64, rule, isReference}
-use Rattle.ari.specs.Reader.{Limits, aMessage}
+use Rattle.ari.specs.Reader.{Limits, Message}
 use Rattle.ari.specs.Items.{Items, none, item, encode, Spot, insideAt, spotsOf}
 use Rattle.ari.specs.Decode.{decode}
 use Rattle.ari.specs.Rules.{Is}
@@ -70,10 +70,10 @@ few-referring (x ∷ xs) = go (isReference (x .slot) (x .lead)) (few-referring x
     go true h = omega arith
     go false h = omega arith
 
-pub few-listed : {m : Limits} {b : List ℕ} {n : ℕ} → Is m aMessage b (decode b) n → length (listing b) ≤ n
+pub few-listed : {m : Limits} {b : List ℕ} {n : ℕ} → Is m Message b (decode b) n → length (listing b) ≤ n
 unfolding listing
 few-listed {b = b} c =
-    omega (arith, length-map (referring (spotsOf aMessage (decode b))) ari.entryOf, few-referring (spotsOf aMessage (decode b)), spot-count c)
+    omega (arith, length-map (referring (spotsOf Message (decode b))) ari.entryOf, few-referring (spotsOf Message (decode b)), spot-count c)
 
 -- a reference has no string
 no-string : (s : Slot) (l : Lead) → isReference s l ≡ true → stringSize l ≡ 0
@@ -99,12 +99,12 @@ module _ {b t : List ℕ} {n : ℕ} (c : Tabled b n t) where
   pub from-end : (k : ℕ) → n ≤ k → k ≤ n → listingFrom b k ≡ []
   unfolding listingFrom
   from-end k h l =
-      let e : k ≡ length (spotsOf aMessage (decode b)) = omega (arith, spot-count (c .is)) in
-      rw (e, drop-length (spotsOf aMessage (decode b)))
+      let e : k ≡ length (spotsOf Message (decode b)) = omega (arith, spot-count (c .is)) in
+      rw (e, drop-length (spotsOf Message (decode b)))
 
   module _ (k : ℕ) (h : k < n) where
     abbrev x : Spot
-    x = spotNumber aMessage b k
+    x = spotNumber Message b k
 
     abbrev w : ℕ
     w = getD t k 0
@@ -112,19 +112,19 @@ module _ {b t : List ℕ} {n : ℕ} (c : Tabled b n t) where
     abbrev reference : Bool
     reference = isReference (x .slot) (x .lead)
 
-    there : k < length (spotsOf aMessage (decode b))
+    there : k < length (spotsOf Message (decode b))
     there = inside (c .is) (omega arith) (omega arith) k h x
 
-    step : listingFrom b k ≡ map ari.entryOf (cond reference (x ∷ referring (drop (suc k) (spotsOf aMessage (decode b)))) (referring (drop (suc k) (spotsOf aMessage (decode b)))))
+    step : listingFrom b k ≡ map ari.entryOf (cond reference (x ∷ referring (drop (suc k) (spotsOf Message (decode b)))) (referring (drop (suc k) (spotsOf Message (decode b)))))
     unfolding listingFrom
-    step = rw (drop-cons (spotsOf aMessage (decode b)) k noSpot there)
+    step = rw (drop-cons (spotsOf Message (decode b)) k noSpot there)
 
     begins : reference ≡ true → x .first + size (x .lead) ≡ insideAt (x .first) (x .lead) (x .str)
-    begins e = let z : Fine 12 x = at-all (spotsOf aMessage (decode b)) k _ (all-fine (c .is)) there in omega (arith, z .sized, no-string (x .slot) (x .lead) e)
+    begins e = let z : Fine 12 x = at-all (spotsOf Message (decode b)) k _ (all-fine (c .is)) there in omega (arith, z .sized, no-string (x .slot) (x .lead) e)
 
     members-at : drop (insideAt (x .first) (x .lead) (x .str)) b ≡ encode (x .inside) ++ drop (x .after) b
     members-at =
-        let v : Covers b x = at-all (spotsOf aMessage (decode b)) k _ (spot-covers (c .is)) there in
+        let v : Covers b x = at-all (spotsOf Message (decode b)) k _ (spot-covers (c .is)) there in
         let l : length (leadBytes (x .lead) ++ x .str) ≡ size (x .lead) + length (x .str) = simp length-append (omega (arith, length-lead (x .lead))) in
         rw (← drop-drop (size (x .lead) + length (x .str)) (x .first) b, v, ← append-assoc (leadBytes (x .lead)) (x .str) (encode (x .inside) ++ drop (x .after) b))
         (drop-at (leadBytes (x .lead) ++ x .str) (encode (x .inside) ++ drop (x .after) b) _ l)
@@ -146,8 +146,8 @@ module _ {b t : List ℕ} {n : ℕ} (c : Tabled b n t) where
       no-reference g = step ∙ rw add-one (go reference (sym inside-is ∙ sym f ∙ g))
         where
           go : (z : Bool) → cond z (At (insideAt (x .first) (x .lead) (x .str))) Nothing ≡ Nothing
-              → map ari.entryOf (cond z (x ∷ referring (drop (suc k) (spotsOf aMessage (decode b)))) (referring (drop (suc k) (spotsOf aMessage (decode b)))))
-              ≡ map ari.entryOf (referring (drop (suc k) (spotsOf aMessage (decode b))))
+              → map ari.entryOf (cond z (x ∷ referring (drop (suc k) (spotsOf Message (decode b)))) (referring (drop (suc k) (spotsOf Message (decode b)))))
+              ≡ map ari.entryOf (referring (drop (suc k) (spotsOf Message (decode b))))
           go true q = absurd (let z : _≡_ {A = ℕ} 0 1 = cc in omega arith)
           go false q = refl
 
@@ -158,7 +158,7 @@ module _ {b t : List ℕ} {n : ℕ} (c : Tabled b n t) where
           go : (z : Bool) → reference ≡ z → cond z (At (insideAt (x .first) (x .lead) (x .str))) Nothing ≡ At q → Here b w k q
           go true e u =
               let p : insideAt (x .first) (x .lead) (x .str) ≡ q = cc in
-              let m = found-at (spotsOf aMessage (decode b)) k _ there e in
+              let m = found-at (spotsOf Message (decode b)) k _ there e in
               let named : Named (x .inside) = own-namespace (c .is) (placeOf x) (rw (← found-references (c .is .stands)) (Memᴰ·map placeOf m)) in
               record {
                 entry = ari.entryOf x;

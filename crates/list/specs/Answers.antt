@@ -6,7 +6,7 @@ use lib.ListN.{length, drop}
 use lib.Seq.{sets}
 use lib.Dec.{ltb, leb}
 use Rattle.cbor.specs.Byte.{be}
-use Rattle.ari.specs.Reader.{Limits, aMessage, refuse, accept, read}
+use Rattle.ari.specs.Reader.{Limits, Message, refuse, accept, read}
 use Rattle.ari.specs.Reader as reader
 use Rattle.ari.specs.Listing.{Entry, listing}
 use Rattle.grants.specs.Grants.{Release, yes, no}
@@ -43,7 +43,7 @@ listedOf (accept n) es room = cond (ltb room (length es)) (Refused 16 (length es
 
 -- an entry takes w places
 unfoldable pub listIn : ℕ → Limits → List ℕ → List ℕ → Listed
-listIn w m b out = listedOf (read m aMessage b) (listing b) (length out / w)
+listIn w m b out = listedOf (read m Message b) (listing b) (length out / w)
 
 abbrev pub listOf : Limits → List ℕ → List ℕ → Listed
 listOf = listIn 24

@@ -10,7 +10,7 @@ use Rattle.cbor.specs.declared.Head.{Head}
 use Rattle.cbor.specs.declared.Head.the-variants.{Bad, Good}
 use Rattle.cbor.specs.Answer.{headAt}
 use Rattle.ari.specs.Table.{max64}
-use Rattle.ari.specs.Reader.{aMessage}
+use Rattle.ari.specs.Reader.{Message}
 use Rattle.ari.specs.Limits.{firstLimits}
 use Rattle.ari.specs.Items.{spotsOf}
 use Rattle.ari.specs.Decode.{decode}
@@ -45,10 +45,10 @@ namespaceOf p (Bad r) = namespaceBy 2 0
 
 -- A table of an accepted message: so many entries, one for each item.
 pub record Tabled (b : List ℕ) (n : ℕ) (t : List ℕ) : Type 0 where
-  pub is : Is firstLimits aMessage b (decode b) n
+  pub is : Is firstLimits Message b (decode b) n
   pub room : n ≤ length t
-  pub kept : (k : ℕ) → k < n → getD t k 0 ≡ entryOf (spotNumber aMessage b k)
+  pub kept : (k : ℕ) → k < n → getD t k 0 ≡ entryOf (spotNumber Message b k)
 
 -- the listing from item k on
 unfoldable pub listingFrom : List ℕ → ℕ → List Entry
-listingFrom b k = map ari.entryOf (referring (drop k (spotsOf aMessage (decode b))))
+listingFrom b k = map ari.entryOf (referring (drop k (spotsOf Message (decode b))))

@@ -14,7 +14,7 @@ use borrow.Author.Tests.{lt-ltb, le-ltb}
 use Rattle.cbor.specs.Byte.{all, isByte}
 use Rattle.buffer.proofs.Putting.{sets-append}
 use Rattle.ari.specs.Table.{message, alone, Slot, version, ari, Level, done, due, rule, members}
-use Rattle.ari.specs.Reader.{Limits, Dues, end, sets, frame, push, Answer, refuse, accept, visit, run, counted, Input, single, aMessage, firstSlot, bottom, read}
+use Rattle.ari.specs.Reader.{Limits, Dues, end, sets, frame, push, Answer, refuse, accept, visit, run, counted, Input, Single, Message, firstSlot, bottom, read}
 use Rattle.ari.specs.Items.{Items, none, item, encode, heads, join, Spot, spots, spotAt, insideAt, spotsOf}
 use Rattle.ari.specs.Decode.{decode}
 use Rattle.ari.proofs.Due.{Due, due-sets, prevAfter}
@@ -175,36 +175,36 @@ module _ (b : List ℕ) (bytes items d : ℕ) where
     from-start s v ds = rw (sub-zero items) at (v .runs ds)
 
     module _ {w : Walk} {t t₁ : List ℕ} (v : Walked b items (due (ari alone) 0) [] d 0 0 0 w t t₁) where
-      pub single-refused : {r x : ℕ} → w ≡ Refused r x → {z : OutAnswer} → z ≡ refusalOf w → z ≡ answerOf (read m single b)
-      single-refused g q = refuses single (rw g at (from-start (ari alone) v end)) g q
+      pub single-refused : {r x : ℕ} → w ≡ Refused r x → {z : OutAnswer} → z ≡ refusalOf w → z ≡ answerOf (read m Single b)
+      single-refused g q = refuses Single (rw g at (from-start (ari alone) v end)) g q
 
       module _ {q c : ℕ} (g : w ≡ Read q c) where
         abbrev one : Walked b items (due (ari alone) 0) [] d 0 0 0 (Read q c) t t₁
         one = rw g at v
 
-        pub single-more : q < length b → answers.Refused 13 q ≡ answerOf (read m single b)
+        pub single-more : q < length b → answers.Refused 13 q ≡ answerOf (read m Single b)
         single-more n =
             let e : run items (frame (ari alone) 0 [] d end) 0 b ≡ refuse 13 q
             = from-start (ari alone) one end ∙ rw (drop-cons b q 0 n) (run-more (items - c) q (getD b q 0) (drop (suc q) b)) in
-            rw (read-is single e)
+            rw (read-is Single e)
 
         none-left : length b ≤ q → drop q b ≡ []
         none-left n = drop-of-length-le b n
 
-        pub single-accepted : length b ≤ q → Accepted c ≡ answerOf (read m single b)
+        pub single-accepted : length b ≤ q → Accepted c ≡ answerOf (read m Single b)
         single-accepted n =
-            accepts single (from-start (ari alone) one end ∙ rw (none-left n) (run-end (items - c) q)) (one .held .2)
+            accepts Single (from-start (ari alone) one end ∙ rw (none-left n) (run-end (items - c) q)) (one .held .2)
 
-        pub single-kept : length b ≤ q → Kept single b (Accepted c) t t₁
+        pub single-kept : length b ≤ q → Kept Single b (Accepted c) t t₁
         single-kept n =
             let k = one .held .0 in
             let e : encode (k .tree) ≡ b = sym (append-nil (encode (k .tree))) ∙ ap (λ (x : List ℕ). encode (k .tree) ++ x) (sym (none-left n)) ∙ sym (k .bytes) in
             let f : decode b ≡ k .tree = ap decode (sym e) ∙ decodes (k .tree) (frame (ari alone) 0 [] d end) (k .fit) in
-            record { kept = k .table ∙ ap (λ (x : Items). stored t 0 (map entryOf (spotsOf single x))) (sym f) }
+            record { kept = k .table ∙ ap (λ (x : Items). stored t 0 (map entryOf (spotsOf Single x))) (sym f) }
 
     module _ {w : Walk} {t t₁ : List ℕ} (v : Walked b items (due version 0) [] d 0 0 0 w t t₁) where
-      pub message-refused : {r x : ℕ} → w ≡ Refused r x → {z : OutAnswer} → z ≡ refusalOf w → z ≡ answerOf (read m aMessage b)
-      message-refused g q = refuses aMessage (rw g at (from-start version v (sets d))) g q
+      pub message-refused : {r x : ℕ} → w ≡ Refused r x → {z : OutAnswer} → z ≡ refusalOf w → z ≡ answerOf (read m Message b)
+      message-refused g q = refuses Message (rw g at (from-start version v (sets d))) g q
 
       module _ {q c : ℕ} (g : w ≡ Read q c) {u : Walk} {t₂ : List ℕ} (x : SetsWalked b items d q c u t₁ t₂) where
         abbrev ver : Walked b items (due version 0) [] d 0 0 0 (Read q c) t t₁
@@ -213,17 +213,17 @@ module _ (b : List ℕ) (bytes items d : ℕ) where
         message-runs : run items (frame version 0 [] d (sets d)) 0 b ≡ afterSets items u
         message-runs = from-start version ver (sets d) ∙ x .runs
 
-        pub message-stopped : {r k : ℕ} → u ≡ Refused r k → {z : OutAnswer} → z ≡ refusalOf u → z ≡ answerOf (read m aMessage b)
-        message-stopped f z = refuses aMessage (rw f at message-runs) f z
+        pub message-stopped : {r k : ℕ} → u ≡ Refused r k → {z : OutAnswer} → z ≡ refusalOf u → z ≡ answerOf (read m Message b)
+        message-stopped f z = refuses Message (rw f at message-runs) f z
 
         module _ {q′ e : ℕ} (f : u ≡ Read q′ e) where
           abbrev x′ : SetsWalked b items d q c (Read q′ e) t₁ t₂
           x′ = rw f at x
 
-          pub message-accepted : Accepted e ≡ answerOf (read m aMessage b)
-          message-accepted = accepts aMessage (rw f at message-runs) (x′ .held .1)
+          pub message-accepted : Accepted e ≡ answerOf (read m Message b)
+          message-accepted = accepts Message (rw f at message-runs) (x′ .held .1)
 
-          pub message-kept : Kept aMessage b (Accepted e) t t₂
+          pub message-kept : Kept Message b (Accepted e) t t₂
           message-kept =
               let k = ver .held .0 in
               let l = x′ .held .0 in
@@ -233,7 +233,7 @@ module _ (b : List ℕ) (bytes items d : ℕ) where
               let r : decode b ≡ g = ap decode (sym n) ∙ decodes g (frame version 0 [] d (sets d)) w in
               record {
                 kept = join-table (due version 0) (k .tree) (l .tree) d 0 0 q c t (k .fit) (k .place) (k .count) (k .table) (l .table)
-                    ∙ ap (λ (z : Items). stored t 0 (map entryOf (spotsOf aMessage z))) (sym r);
+                    ∙ ap (λ (z : Items). stored t 0 (map entryOf (spotsOf Message z))) (sym r);
               }
 
 -- a refusal, handed on

@@ -17,7 +17,7 @@ ghost use Rattle.grammar.specs.Code.{slotOf};
 ghost use Rattle.grammar.proofs.Right.{IsSlot};
 ghost use Rattle.reader.specs.Steps.{part, standsAt, stringEnd, stepAt, lateAt, LateShown, noHead, stoppedOf, Bounded, keySpan};
 ghost use Rattle.reader.specs.Walks.{packed, insideLevel, Walked, SetsWalked};
-ghost use Rattle.ari.specs.Reader.{read, single, aMessage};
+ghost use Rattle.ari.specs.Reader.{read, Single, Message};
 ghost use Rattle.ari.specs.Limits.{firstLimits};
 ghost use Rattle.reader.specs.Answers.{limitsOf, answerOf, refusalOf, Kept};
 
@@ -435,8 +435,8 @@ fn refusal(w: Walk) -> Answer
 // A single ARI within these limits.
 fn read_single(s: &[u8], bytes: usize, items: usize, containers: usize, table: &mut [u64]) -> Answer
     requires { ⌜ (bytes < 65536) × (containers < 256) ⌝ }
-    ensures { λ r. ⌜ r ≡ answerOf (read (limitsOf bytes items containers) single (now (s .entry))) ⌝ }
-    ensures { λ r. ⌜ Kept single (now (s .entry)) r (now (table .entry)) (now (table .exit)) ⌝ }
+    ensures { λ r. ⌜ r ≡ answerOf (read (limitsOf bytes items containers) Single (now (s .entry))) ⌝ }
+    ensures { λ r. ⌜ Kept Single (now (s .entry)) r (now (table .entry)) (now (table .exit)) ⌝ }
 {
     if bytes < s.len() {
         return Answer::Refused {
@@ -542,8 +542,8 @@ fn read_message(
     table: &mut [u64],
 ) -> Answer
     requires { ⌜ (bytes < 65536) × (containers < 256) ⌝ }
-    ensures { λ r. ⌜ r ≡ answerOf (read (limitsOf bytes items containers) aMessage (now (s .entry))) ⌝ }
-    ensures { λ r. ⌜ Kept aMessage (now (s .entry)) r (now (table .entry)) (now (table .exit)) ⌝ }
+    ensures { λ r. ⌜ r ≡ answerOf (read (limitsOf bytes items containers) Message (now (s .entry))) ⌝ }
+    ensures { λ r. ⌜ Kept Message (now (s .entry)) r (now (table .entry)) (now (table .exit)) ⌝ }
 {
     if bytes < s.len() {
         return Answer::Refused {
@@ -564,7 +564,7 @@ fn read_message(
 
 // A single ARI in binary form is checked.
 pub fn check_single(s: &[u8]) -> Answer
-    ensures { λ r. ⌜ r ≡ answerOf (read firstLimits single (now (s .entry))) ⌝ }
+    ensures { λ r. ⌜ r ≡ answerOf (read firstLimits Single (now (s .entry))) ⌝ }
 {
     let mut none = [0u64; 1];
     read_single(s, BYTES, ITEMS, CONTAINERS, &mut none[0..0])
@@ -572,7 +572,7 @@ pub fn check_single(s: &[u8]) -> Answer
 
 // A message is checked.
 pub fn check_message(s: &[u8]) -> Answer
-    ensures { λ r. ⌜ r ≡ answerOf (read firstLimits aMessage (now (s .entry))) ⌝ }
+    ensures { λ r. ⌜ r ≡ answerOf (read firstLimits Message (now (s .entry))) ⌝ }
 {
     let mut none = [0u64; 1];
     read_message(s, BYTES, ITEMS, CONTAINERS, &mut none[0..0])
@@ -580,16 +580,16 @@ pub fn check_message(s: &[u8]) -> Answer
 
 // A single ARI is checked, and its items go into the lent table, as many as it has room for.
 pub fn keep_single(s: &[u8], table: &mut [u64]) -> Answer
-    ensures { λ r. ⌜ r ≡ answerOf (read firstLimits single (now (s .entry))) ⌝ }
-    ensures { λ r. ⌜ Kept single (now (s .entry)) r (now (table .entry)) (now (table .exit)) ⌝ }
+    ensures { λ r. ⌜ r ≡ answerOf (read firstLimits Single (now (s .entry))) ⌝ }
+    ensures { λ r. ⌜ Kept Single (now (s .entry)) r (now (table .entry)) (now (table .exit)) ⌝ }
 {
     read_single(s, BYTES, ITEMS, CONTAINERS, table)
 }
 
 // A message is checked, and its items go into the lent table, as many as it has room for.
 pub fn keep_message(s: &[u8], table: &mut [u64]) -> Answer
-    ensures { λ r. ⌜ r ≡ answerOf (read firstLimits aMessage (now (s .entry))) ⌝ }
-    ensures { λ r. ⌜ Kept aMessage (now (s .entry)) r (now (table .entry)) (now (table .exit)) ⌝ }
+    ensures { λ r. ⌜ r ≡ answerOf (read firstLimits Message (now (s .entry))) ⌝ }
+    ensures { λ r. ⌜ Kept Message (now (s .entry)) r (now (table .entry)) (now (table .exit)) ⌝ }
 {
     read_message(s, BYTES, ITEMS, CONTAINERS, table)
 }

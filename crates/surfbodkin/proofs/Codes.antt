@@ -7,7 +7,7 @@ use native.Mathlib.Omega.{arith}
 use lib.ListN.{length}
 use lib.Dec.{ltb}
 use Rattle.cbor.specs.Byte.{all, isByte}
-use Rattle.ari.specs.Reader.{refuse, accept, Input, aMessage, read}
+use Rattle.ari.specs.Reader.{refuse, accept, Input, Message, read}
 use Rattle.ari.specs.Reader as reader
 use Rattle.ari.specs.Limits.{firstLimits}
 use Rattle.ari.specs.Decode.{decode}
@@ -31,7 +31,7 @@ use Rattle.list.specs.Answers.{listedOf, listIn, listOf, said}
 use Rattle.list.proofs.Table.{few-listed}
 use borrow.Author.Tests.{ltb-true, ltb-false}
 use Rattle.ari.specs.Table.{max64}
-use Rattle.ari.specs.Reader.{single}
+use Rattle.ari.specs.Reader.{Single}
 use Rattle.ari.specs.Items.{Items, encode}
 use Rattle.text.specs.Text.{Form, spelled, none-at, form, textOf}
 use Rattle.text.specs.Answer.{Output, output, spellOut, writeText, checked, readText, lent}
@@ -89,12 +89,12 @@ module _ {a : Listed} where
 
 pub ruleset list-ways = (few-items, few-entries, list-small, entries-code, list-refused-code)
 
-few-of : (b out : List ℕ) → all isByte b ≡ true → (x : reader.Answer) → read firstLimits aMessage b ≡ x → Few (listedOf x (listing b) (length out / 24))
-few-of b out bs (refuse r p) e = let z = rw e at (numbered firstLimits aMessage b) in omega (arith, z .bounds)
+few-of : (b out : List ℕ) → all isByte b ≡ true → (x : reader.Answer) → read firstLimits Message b ≡ x → Few (listedOf x (listing b) (length out / 24))
+few-of b out bs (refuse r p) e = let z = rw e at (numbered firstLimits Message b) in omega (arith, z .bounds)
 few-of b out bs (accept n) e = go (ltb (length out / 24) (length (listing b)))
   where
-    c : Is firstLimits aMessage b (decode b) n
-    c = demand-two firstLimits aMessage b n bs .0 e
+    c : Is firstLimits Message b (decode b) n
+    c = demand-two firstLimits Message b n bs .0 e
 
     go : (t : Bool) → Few (cond t (listed.Refused 16 (length (listing b))) (listed.Entries (length (listing b)) n))
     go true = omega arith
@@ -102,7 +102,7 @@ few-of b out bs (accept n) e = go (ltb (length out / 24) (length (listing b)))
 
 pub few-listed-of : (b out : List ℕ) → all isByte b ≡ true → {a : Listed} → a ≡ listOf firstLimits b out → Few a
 unfolding listIn
-few-listed-of b out bs e = rw e (few-of b out bs (read firstLimits aMessage b) refl)
+few-listed-of b out bs e = rw e (few-of b out bs (read firstLimits Message b) refl)
 
 -- the table's
 module _ {a : Verdict} where
@@ -132,7 +132,7 @@ judged-small ok i (e ∷ es) = go (ok (e .space)) (judged-small ok (suc i) es)
 
 pub small-release : (b t : List ℕ) (s : ℕ) {a : Release} → a ≡ releaseBytes firstLimits b t s → Small a
 unfolding releaseBytes release
-small-release b t s e = rw e (go (read firstLimits aMessage b) (numbered firstLimits aMessage b))
+small-release b t s e = rw e (go (read firstLimits Message b) (numbered firstLimits Message b))
   where
     rest : (u : Bool) → Small (cond u (Release.refused 18 (length t / 16)) (judgeFrom (granted (rows t) s) 0 (listing b)))
     rest true = omega arith
@@ -183,7 +183,7 @@ low-written (accept n) h g = go (form g)
 
 low : (b : List ℕ) → Low (writeText firstLimits b)
 unfolding writeText
-low b = low-written (read firstLimits single b) (numbered firstLimits single b) (decode b)
+low b = low-written (read firstLimits Single b) (numbered firstLimits Single b) (decode b)
 
 abbrev Brief : Output → Type 0
 Brief (Output.refused r p) = r ≤ 15

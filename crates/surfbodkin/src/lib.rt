@@ -1,7 +1,7 @@
 // The C archive: each answer is one number, as host/surfbodkin.h says.
 ghost use mathlib.Core.Path.{_≡_};
 ghost use Prim.Native.Nat.{_<_, _≤_};
-ghost use Rattle.ari.specs.Reader.{read, single, aMessage};
+ghost use Rattle.ari.specs.Reader.{read, Single, Message};
 ghost use Rattle.ari.specs.Limits.{firstLimits};
 ghost use Rattle.grants.specs.Bytes.{checkBytes, releaseBytes};
 ghost use Rattle.grants.specs.Verdict as verdict;
@@ -47,14 +47,14 @@ fn check_code(a: Answer) -> u64
 
 #[no_mangle]
 pub extern "C" fn surfbodkin_check_single(input: &[u8]) -> u64
-    ensures { λ r. ⌜ r ≡ checkCode (read firstLimits single (now (input .entry))) ⌝ }
+    ensures { λ r. ⌜ r ≡ checkCode (read firstLimits Single (now (input .entry))) ⌝ }
 {
     check_code(reader::check_single(input))
 }
 
 #[no_mangle]
 pub extern "C" fn surfbodkin_check_message(input: &[u8]) -> u64
-    ensures { λ r. ⌜ r ≡ checkCode (read firstLimits aMessage (now (input .entry))) ⌝ }
+    ensures { λ r. ⌜ r ≡ checkCode (read firstLimits Message (now (input .entry))) ⌝ }
 {
     check_code(reader::check_message(input))
 }

@@ -17,7 +17,7 @@ ghost use Rattle.text_write.specs.Said.{ItemAt, Said};
 ghost use lib.ListN.{take};
 ghost use mathlib.Core.List.{_++_};
 ghost use Rattle.ari.specs.Limits.{firstLimits};
-ghost use Rattle.ari.specs.Reader.{single};
+ghost use Rattle.ari.specs.Reader.{Single};
 ghost use Rattle.ari.specs.Rules.{Is};
 ghost use Rattle.ari.specs.Decode.{decode};
 ghost use Rattle.text.specs.Answer.{output, writeText, lent};
@@ -243,7 +243,7 @@ pub enum Spelling {
 
 // An accepted ARI: test 14.
 fn form_of(s: &[u8], count: usize) -> Spelling
-    requires { ⌜ (all isByte (now s) ≡ true) × Is firstLimits single (now s) (decode (now s)) count ⌝ }
+    requires { ⌜ (all isByte (now s) ≡ true) × Is firstLimits Single (now s) (decode (now s)) count ⌝ }
     ensures { λ r. ⌜ r ≡ spellingOf (now (s .entry)) ⌝ }
 {
     let o = outermost(s);
