@@ -12,7 +12,10 @@ use Rattle.cbor.specs.Head.{unsigned, Lead, isContainer}
 use Rattle.cbor.specs.Utf8.{utf8}
 use Rattle.cbor.proofs.ByteLaws.{and-true, or-nil, not-false, within-true}
 use Rattle.ari.specs.Table.{version, row, due, done, rule, fits}
-use Rattle.ari.specs.Reader.{Limits, accept, Input, Single, Message, firstSlot, bottom, read}
+use Rattle.ari.specs.declared.Limits.{Limits}
+use Rattle.ari.specs.declared.Input.{Input}
+use Rattle.ari.specs.declared.Input.the-variants.{Single, Message}
+use Rattle.ari.specs.Reader.{accept, firstSlot, bottom, read}
 use Rattle.ari.specs.Items.{Items, none, item, openEnded}
 use Rattle.ari.specs.Decode.{decode}
 use Rattle.ari.specs.Rules.{Plain, Sets, no-more, set, Stands, an-ari, a-message, Is}

@@ -5,7 +5,9 @@ use mathlib.Core.List.{List, [], _∷_}
 use Rattle.cbor.specs.Head.{width, shortest, majorOf, kindOf, argument, shortBytes, badSingle, badDouble, badHalf, badFloat, unused, notShortest, getFrom, getHead, stringSize, isContainer}
 use Rattle.cbor.specs.Utf8.{utf8From}
 use Rattle.ari.specs.Table.{types, rule, members}
-use Rattle.ari.specs.Reader.{judge, judgeGot, Answer, refuse, accept, takeStep, visit, run, Input, Single, Message, read}
+use Rattle.ari.specs.declared.Input.{Input}
+use Rattle.ari.specs.declared.Input.the-variants.{Single, Message}
+use Rattle.ari.specs.Reader.{judge, judgeContent, judgeGot, Answer, refuse, accept, takeStep, visit, run, read}
 use Rattle.ari.specs.Limits.{firstLimits}
 
 pub data Example : Type 0 where
@@ -35,5 +37,5 @@ examples =
     ∷ []
 
 pub the-examples : Hold examples
-unfolding utf8From width shortest majorOf kindOf argument shortBytes badSingle badDouble badHalf badFloat unused notShortest getFrom getHead stringSize isContainer types rule members judge judgeGot takeStep visit run read
+unfolding utf8From width shortest majorOf kindOf argument shortBytes badSingle badDouble badHalf badFloat unused notShortest getFrom getHead stringSize isContainer types rule members judge judgeContent judgeGot takeStep visit run read
 the-examples = (refl, (refl, (refl, (refl, (refl, (refl, (refl, (refl, (refl, (refl, (refl, (refl, (refl, tt)))))))))))))

@@ -16,3 +16,4 @@ pub mod Referring
 pub mod Listed
 pub mod ListingExample
 pub mod Named
+pub mod Well

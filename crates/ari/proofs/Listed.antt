@@ -13,7 +13,8 @@ use Rattle.cbor.specs.Head.{bytes, text, array, Lead, isContainer}
 use Rattle.cbor.proofs.ByteLaws.{within-true}
 use Rattle.cbor.proofs.HeadLaws.{length-lead}
 use Rattle.ari.specs.Table.{message, Slot, version, ari, Level, done, due, rule, members, isReference}
-use Rattle.ari.specs.Reader.{Limits, Message}
+use Rattle.ari.specs.declared.Limits.{Limits}
+use Rattle.ari.specs.declared.Input.the-variants.{Message}
 use Rattle.ari.specs.Items.{Items, none, item, encode, Spot, insideAt, spotAt, spots, spotsOf}
 use Rattle.ari.specs.Rules.{Is}
 use Rattle.ari.specs.Listing.{Entry, entryOf, referring, listing}

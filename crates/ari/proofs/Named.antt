@@ -9,7 +9,9 @@ use lib.Dec.{leb, eqb}
 use borrow.Author.Tests.{eqb-true, leb-true, le-leb}
 use Rattle.cbor.specs.Head.{unsigned, negative, text, Lead}
 use Rattle.ari.specs.Table.{Place, Row, row, uintTo, nintTo, anyText, isNull, max63}
-use Rattle.ari.specs.Reader.{Limits, Input, Message}
+use Rattle.ari.specs.declared.Limits.{Limits}
+use Rattle.ari.specs.declared.Input.{Input}
+use Rattle.ari.specs.declared.Input.the-variants.{Message}
 use Rattle.ari.specs.Items.{Items, none, item, insideAt}
 use Rattle.ari.specs.Rules.{Namespace, NamespaceOrNull, Ari, literal, namespace-ref, typed, object-ref, Object, plain, with-params, Params, list, table, Value, simple-value, ac, am, execset, rptset, Aris, no-aris, aris, Pairs, no-pairs, pairs, Targets, no-targets, targets, Reports, no-reports, reports, Sets, no-more, set, Stands, an-ari, a-message, Is}
 use Rattle.ari.specs.Listing.{Space, number, name, relative, Entry, spaceAt, spaceIn, listing}

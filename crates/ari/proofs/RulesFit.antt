@@ -14,7 +14,8 @@ use Rattle.ari.specs.Table.{Place, alone, message, inside, param, anywhe
 use Rattle.ari.specs.Reader.{keyBytes, wrongVersion, notGreater, isEmpty}
 use Rattle.ari.specs.Items.{Items, item}
 use Rattle.ari.specs.Rules.{Plain, Holds, Ari, literal, namespace-ref, typed, object-ref, Object, plain, with-params, Params, list, table, Value, simple-value, ac, am, execset, rptset, Aris, no-aris, aris, Pairs, no-pairs, pairs, Targets, no-targets, targets, Reports, no-reports, reports}
-use Rattle.ari.proofs.Due.{Good, Fit, members-leaf, memberLevel, members-held, container-string}
+use Rattle.ari.specs.Due.{Good}
+use Rattle.ari.proofs.Due.{Fit, members-leaf, memberLevel, members-held, container-string}
 use Rattle.ari.proofs.Rows.{every, leafRow, no-container, type-leaf}
 
 -- what an item owes its slot: to be good there, and its members

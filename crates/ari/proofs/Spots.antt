@@ -11,7 +11,10 @@ use lib.Seq.{drop-at}
 use Rattle.cbor.specs.Head.{Lead, leadBytes}
 use Rattle.cbor.proofs.HeadLaws.{length-lead}
 use Rattle.ari.specs.Table.{alone, message, Slot, ari, Level, done, due, rule, members}
-use Rattle.ari.specs.Reader.{Limits, Input, Single, firstSlot}
+use Rattle.ari.specs.declared.Limits.{Limits}
+use Rattle.ari.specs.declared.Input.{Input}
+use Rattle.ari.specs.declared.Input.the-variants.{Single}
+use Rattle.ari.specs.Reader.{firstSlot}
 use Rattle.ari.specs.Items.{Items, none, item, encode, heads, Spot, insideAt, spotAt, spots, openEnded, spotsOf}
 use Rattle.ari.specs.Rules.{Is, Stands, an-ari}
 use Rattle.ari.proofs.Due.{Fit, prevAfter}

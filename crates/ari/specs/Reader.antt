@@ -6,9 +6,9 @@ use lib.ListN.{length, take, drop}
 use lib.Dec.{ltb, eqb}
 use Rattle.cbor.specs.Byte.{below}
 use Rattle.cbor.specs.Head.{text, Lead, size, Got, bad, got, getHead, shortBytes, stringSize, isContainer}
-pub use Rattle.ari.specs.declared.Limits.{Limits}
-pub use Rattle.ari.specs.declared.Input.{Input}
-pub use Rattle.ari.specs.declared.Input.the-variants.{Single, Message}
+use Rattle.ari.specs.declared.Limits.{Limits}
+use Rattle.ari.specs.declared.Input.{Input}
+use Rattle.ari.specs.declared.Input.the-variants.{Single, Message}
 use Rattle.ari.specs.Table.{alone, message, Slot, version, ari, Own, none, one, rising, filled, Level, done, due, rule, fits, members}
 
 -- What is due from here: a slot, how often again, the key before on its level, the containers that it may still open, and what is due behind
@@ -58,19 +58,23 @@ pub data Step : Type 0 where
   no : ℕ → Step
   yes : Lead → List ℕ → Step  -- the head, the string's bytes
 
--- the tests 5 to 12, of a head before r: items that may still come, containers that may still be opened, the slot, the key before
-unfoldable pub judge : ℕ → ℕ → Slot → List ℕ → Lead → List ℕ → Step
-judge left d s prev l r =
+-- the tests 9 to 12, of a head before r: the slot, the key before
+unfoldable pub judgeContent : Slot → List ℕ → Lead → List ℕ → Step
+judgeContent s prev l r =
     let str = take (stringSize l) r in
-    cond (eqb left 0) (no 5)
-    (cond (isContainer (l .kind) && eqb d 0) (no 6)
-    (cond (not (fits (l .kind) (l .arg) (rule s .rows))) (no 7)
-    (cond (wrongVersion (rule s .own) (l .arg)) (no 8)
-    (cond (ltb (length r) (stringSize l)) (no 9)
+    cond (ltb (length r) (stringSize l)) (no 9)
     (cond (eqb (l .kind) text && not (rule s .spelling str)) (no 10)
     (cond (notGreater (rule s .own) prev (keyBytes l str)) (no 11)
     (cond (isEmpty (rule s .own) (l .arg)) (no 12)
-    (yes l str))))))))
+    (yes l str))))
+
+-- the tests 5 to 12: items that may still come, containers that may still be opened
+unfoldable pub judge : ℕ → ℕ → Slot → List ℕ → Lead → List ℕ → Step
+judge left d s prev l r =
+    cond (eqb left 0) (no 5)
+    (cond (isContainer (l .kind) && eqb d 0) (no 6)
+    (cond (not (fits (l .kind) (l .arg) (rule s .rows))) (no 7)
+    (cond (wrongVersion (rule s .own) (l .arg)) (no 8) (judgeContent s prev l r))))
 
 unfoldable pub judgeGot : ℕ → ℕ → Slot → List ℕ → Got → List ℕ → Step
 judgeGot left d s prev (bad r) b = no r

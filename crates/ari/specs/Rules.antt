@@ -10,7 +10,10 @@ use Rattle.cbor.specs.Head.{unsigned, text, array, map, Lead, Sound, stringSize
 use Rattle.cbor.specs.Utf8.{utf8}
 use Rattle.ari.specs.Name.{identifier, namespaceName}
 use Rattle.ari.specs.Table.{Place, alone, message, inside, param, inner, anywhere, Row, row, vast, literals, namespaces, objectNamespaces, objectTypes, objectIds, keys, nonces, types, typeRows, valueRows, valueSpelling, fits}
-use Rattle.ari.specs.Reader.{Limits, keyBytes, Input, Single, Message}
+use Rattle.ari.specs.declared.Limits.{Limits}
+use Rattle.ari.specs.declared.Input.{Input}
+use Rattle.ari.specs.declared.Input.the-variants.{Single, Message}
+use Rattle.ari.specs.Reader.{keyBytes}
 use Rattle.ari.specs.Items.{Items, none, item, encode, heads, depth}
 
 -- an item with no members, of one of these kinds and ranges; a text string is spelled so

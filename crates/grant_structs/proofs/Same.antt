@@ -11,7 +11,9 @@ use borrow.Author.Tests.{eq-eqb}
 use Rattle.cbor.specs.Byte.{be, value}
 use Rattle.cbor.proofs.ByteLaws.{length-be, value-be}
 use Rattle.ari.specs.Limits.{firstLimits}
-use Rattle.ari.specs.Reader.{Limits, Answer, accept, refuse, Message, read}
+use Rattle.ari.specs.declared.Limits.{Limits}
+use Rattle.ari.specs.declared.Input.the-variants.{Message}
+use Rattle.ari.specs.Reader.{Answer, accept, refuse, read}
 use Rattle.ari.specs.Listing.{Space, number, listing}
 use Rattle.ari.proofs.Named.{InRange}
 use Rattle.grants.specs.Grants.{Grant, granted, check, judge, release}

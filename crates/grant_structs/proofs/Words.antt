@@ -8,7 +8,8 @@ use lib.ListN.{length, getD, drop, length-append}
 use lib.IntN.{ℤ}
 use borrow.Author.Tests.{le-ltb}
 use Rattle.cbor.specs.Byte.{all, isByte}
-use Rattle.ari.specs.Reader.{Answer, accept, refuse, Message, read}
+use Rattle.ari.specs.declared.Input.the-variants.{Message}
+use Rattle.ari.specs.Reader.{Answer, accept, refuse, read}
 use Rattle.ari.specs.Limits.{firstLimits}
 use Rattle.ari.specs.Decode.{decode}
 use Rattle.ari.specs.Rules.{Is}

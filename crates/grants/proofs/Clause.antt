@@ -8,7 +8,9 @@ use native.Mathlib.Omega.{arith}
 use lib.ListN.{length}
 use lib.IntN.{ℤ, negsuc}
 use Rattle.cbor.proofs.ByteLaws.{past}
-use Rattle.ari.specs.Reader.{Limits, Answer, refuse, accept, Message, read}
+use Rattle.ari.specs.declared.Limits.{Limits}
+use Rattle.ari.specs.declared.Input.the-variants.{Message}
+use Rattle.ari.specs.Reader.{Answer, refuse, accept, read}
 use Rattle.ari.specs.Listing.{Space, number, name, relative, Entry, listing}
 use Rattle.grants.specs.Grants.{Grant, Check, passes, check, granted, Release, yes, no, judgeFrom, judge, release}
 use Rattle.grants.specs.Bytes.{rows, ragged, checkBytes, whole, releaseBytes}

@@ -7,7 +7,9 @@ use lib.IntN.{ℤ, pos, negsuc}
 use lib.Dec.{leb, eqb}
 use Rattle.cbor.specs.Byte.{be, value}
 use Rattle.ari.specs.Table.{max63, max64}
-use Rattle.ari.specs.Reader.{Limits, Answer, refuse, accept, Message, read}
+use Rattle.ari.specs.declared.Limits.{Limits}
+use Rattle.ari.specs.declared.Input.the-variants.{Message}
+use Rattle.ari.specs.Reader.{Answer, refuse, accept, read}
 use Rattle.ari.specs.Listing.{Space, number, name, relative, Entry}
 use Rattle.grants.specs.Grants.{Grant, holds, Check, refused, check, Release, release}
 

@@ -16,7 +16,10 @@ use Rattle.cbor.specs.declared.Head.the-variants.{Bad, Good}
 use Rattle.cbor.specs.Answer.{headAt}
 use Rattle.cbor.proofs.HeadLaws.{getHead-back}
 use Rattle.ari.specs.Table.{message, Slot, version, ari, Level, done, due, rule, members, isReference}
-use Rattle.ari.specs.Reader.{Limits, Input, Single, Message, firstSlot, read, refuse, accept}
+use Rattle.ari.specs.declared.Limits.{Limits}
+use Rattle.ari.specs.declared.Input.{Input}
+use Rattle.ari.specs.declared.Input.the-variants.{Single, Message}
+use Rattle.ari.specs.Reader.{firstSlot, read, refuse, accept}
 use Rattle.ari.specs.Reader as reader
 use Rattle.ari.specs.Items.{Items, none, item, encode, depth, Spot, spots, spotAt, insideAt, openEnded, spotsOf}
 use Rattle.ari.specs.Decode.{decode}

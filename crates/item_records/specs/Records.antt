@@ -8,7 +8,9 @@ use Rattle.cbor.specs.declared.Head.{Head}
 use Rattle.cbor.specs.declared.Head.the-variants.{Bad, Good}
 use Rattle.cbor.specs.Answer.{headAt}
 use Rattle.ari.specs.Table.{version, isReference}
-use Rattle.ari.specs.Reader.{Limits, Input, refuse, accept, read}
+use Rattle.ari.specs.declared.Limits.{Limits}
+use Rattle.ari.specs.declared.Input.{Input}
+use Rattle.ari.specs.Reader.{refuse, accept, read}
 use Rattle.ari.specs.Reader as reader
 use Rattle.ari.specs.Items.{none, Spot, spotsOf}
 use Rattle.ari.specs.Decode.{decode}

@@ -2,7 +2,7 @@
 ghost use mathlib.Core.Path.{_≡_};
 ghost use Prim.Native.Nat.{_≤_};
 ghost use lib.ListN.{length};
-ghost use Rattle.ari.specs.Reader.{Single, Message};
+ghost use Rattle.ari.specs.declared.Input.the-variants.{Single, Message};
 ghost use Rattle.ari.specs.Limits.{firstLimits};
 ghost use Rattle.item_records.specs.Records.{referenceBy, literalOf, kindOf, kindAt, recordFrom, foundFrom, Roomy, itemOf};
 use reader::Answer;

@@ -11,7 +11,8 @@ use mir.Syntax.{w8}
 use mir.Val.{Fits}
 use borrow.Author.Tests.{lt-ltb, le-ltb, ltb-false, eq-eqb, ne-eqb}
 use Rattle.cbor.specs.Byte.{all, isByte}
-use Rattle.ari.specs.Reader.{Message, refuse, accept, read}
+use Rattle.ari.specs.declared.Input.the-variants.{Message}
+use Rattle.ari.specs.Reader.{refuse, accept, read}
 use Rattle.ari.specs.Reader as reader
 use Rattle.ari.specs.Limits.{firstLimits}
 use Rattle.ari.specs.Decode.{decode}

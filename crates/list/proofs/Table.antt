@@ -15,7 +15,8 @@ use Rattle.cbor.specs.Answer.{headAt}
 use Rattle.cbor.proofs.ByteLaws.{and-true}
 use Rattle.cbor.proofs.HeadLaws.{length-lead}
 use Rattle.ari.specs.Table.{Slot, max64, rule, isReference}
-use Rattle.ari.specs.Reader.{Limits, Message}
+use Rattle.ari.specs.declared.Limits.{Limits}
+use Rattle.ari.specs.declared.Input.the-variants.{Message}
 use Rattle.ari.specs.Items.{Items, none, item, encode, Spot, insideAt, spotsOf}
 use Rattle.ari.specs.Decode.{decode}
 use Rattle.ari.specs.Rules.{Is}

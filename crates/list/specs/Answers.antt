@@ -6,7 +6,9 @@ use lib.ListN.{length, drop}
 use lib.Seq.{sets}
 use lib.Dec.{ltb, leb}
 use Rattle.cbor.specs.Byte.{be}
-use Rattle.ari.specs.Reader.{Limits, Message, refuse, accept, read}
+use Rattle.ari.specs.declared.Limits.{Limits}
+use Rattle.ari.specs.declared.Input.the-variants.{Message}
+use Rattle.ari.specs.Reader.{refuse, accept, read}
 use Rattle.ari.specs.Reader as reader
 use Rattle.ari.specs.Listing.{Entry, listing}
 use Rattle.grants.specs.Grants.{Release, yes, no}

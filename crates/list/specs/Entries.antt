@@ -10,7 +10,7 @@ use Rattle.cbor.specs.declared.Head.{Head}
 use Rattle.cbor.specs.declared.Head.the-variants.{Bad, Good}
 use Rattle.cbor.specs.Answer.{headAt}
 use Rattle.ari.specs.Table.{max64}
-use Rattle.ari.specs.Reader.{Message}
+use Rattle.ari.specs.declared.Input.the-variants.{Message}
 use Rattle.ari.specs.Limits.{firstLimits}
 use Rattle.ari.specs.Items.{spotsOf}
 use Rattle.ari.specs.Decode.{decode}

@@ -7,7 +7,8 @@ use native.Mathlib.Omega.{arith}
 use native.Mathlib.Numerals.{add-one}
 use lib.ListN.{length}
 use borrow.Author.Tests.{le-leb, lt-leb}
-use Rattle.ari.specs.Reader.{Single, Message, read}
+use Rattle.ari.specs.declared.Input.the-variants.{Single, Message}
+use Rattle.ari.specs.Reader.{read}
 use Rattle.ari.specs.Limits.{firstLimits}
 use Rattle.reader.specs.Answers.{answerOf}
 use Rattle.item_records.specs.Records.{itemOf}

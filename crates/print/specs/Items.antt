@@ -4,7 +4,9 @@ use mathlib.Core.Bool.{Bool, true, false, cond}
 use mathlib.Core.List.{List, []}
 use lib.ListN.{length}
 use lib.Dec.{leb}
-use Rattle.ari.specs.Reader.{Input, Single, Message, read}
+use Rattle.ari.specs.declared.Input.{Input}
+use Rattle.ari.specs.declared.Input.the-variants.{Single, Message}
+use Rattle.ari.specs.Reader.{read}
 use Rattle.ari.specs.Limits.{firstLimits}
 use Rattle.reader.specs.Answers.{answerOf}
 use Rattle.item_records.specs.Records.{itemOf}

@@ -16,14 +16,15 @@ use Rattle.cbor.specs.Head.{Lead, leadBytes, shortest, majorOf, width, got, get
 use Rattle.cbor.proofs.HeadLaws.{getHead-back}
 use Rattle.cbor.proofs.ByteLaws.{and-true, not-false, not-true}
 use Rattle.ari.specs.Table.{message, Slot, version, ari, due, rule, members}
-use Rattle.ari.specs.Reader.{judge, judgeGot}
+use Rattle.ari.specs.Reader.{judge, judgeContent, judgeGot}
 use Rattle.ari.specs.Reader as reader
 use Rattle.grammar.specs.Code.{slotOf, fitsCode, smallOf, rangeOf, wordOf, nextCode, nextBits}
+use Rattle.item_table.specs.Entries.{packed}
 use Rattle.reader.specs.declared.Step.the-variants.{Taken}
 use Rattle.reader.specs.declared.Walk.{Walk}
 use Rattle.reader.specs.declared.Walk.the-variants.{Read, Refused}
 use Rattle.reader.specs.Steps.{standsAt, stepAnswer, stepAt}
-use Rattle.reader.specs.Walks.{packed, Walked}
+use Rattle.reader.specs.Walks.{Walked}
 use Rattle.reader.proofs.Walking.{ended}
 use Rattle.reader.proofs.Loop.{begins, breaks, ends}
 
@@ -83,7 +84,7 @@ unfolding leadBytes shortest majorOf width
 head-pair r = getHead-back {l = pair} r (counted (omega arith) (omega arith) refl)
 
 version-judged : (left d : ℕ) (r : List ℕ) → eqb left 0 ≡ false → judgeGot left d version [] (getHead (1 ∷ r)) (1 ∷ r) ≡ reader.yes one []
-unfolding judgeGot judge stringSize isContainer rule width
+unfolding judgeGot judge judgeContent stringSize isContainer rule width
 version-judged left d r e = rw (head-one r, e, le-ltb (length r) 0 zero-le)
 
 version-step : (b : List ℕ) (items d : ℕ) → Stood b 0 1 0 items → Taken 0 1 1 ≡ stepAt b 0 version [] (items - 0) d
@@ -93,7 +94,7 @@ version-step b items d h =
 
 set-judged : (left d : ℕ) (r : List ℕ) → eqb left 0 ≡ false → eqb d 0 ≡ false
     → judgeGot left d (ari message) [] (getHead (130 ∷ r)) (130 ∷ r) ≡ reader.yes pair []
-unfolding judgeGot judge stringSize isContainer rule width
+unfolding judgeGot judge judgeContent stringSize isContainer rule width
 set-judged left d r e g = rw (head-pair r, e, g, le-ltb (length r) 0 zero-le)
 
 set-step : (b : List ℕ) (p c items d : ℕ) → Stood b p 130 c items → (d ≡ 0 → ⊥) → Taken 4 2 (p + 1) ≡ stepAt b p (ari message) [] (items - c) d

@@ -19,34 +19,17 @@ use Rattle.grammar.specs.declared.Next.{Next}
 use Rattle.grammar.specs.declared.Next.the-variants.{Done, Due}
 use Rattle.grammar.specs.Code.{slots, slotOf, levelOf, fitsCode, nextCode, insideCode}
 use Rattle.grammar.proofs.Right.{IsSlot, Slotted, Stands, next-right, inside-right}
+use Rattle.item_table.specs.Entries.{packed}
+use Rattle.item_table.proofs.Entries.{number-slot}
 use Rattle.reader.specs.declared.Step.{Step}
 use Rattle.reader.specs.declared.Step.the-variants.{Taken}
 use Rattle.reader.specs.declared.Step.the-variants as step
 use Rattle.reader.specs.declared.Walk.{Walk}
 use Rattle.reader.specs.declared.Walk.the-variants.{Read, Refused}
 use Rattle.reader.specs.Steps.{part, stepAt, stoppedOf, Bounded, keySpan}
-use Rattle.reader.specs.Walks.{codeOf, packed, insideLevel, Walked}
+use Rattle.reader.specs.Walks.{insideLevel, Walked}
 use Rattle.reader.proofs.Walking.{Took, took, ended, stopped, broken, onward}
 use Rattle.reader.proofs.Keys.{ordered-kind, key-bytes}
-
--- a slot's number is the slot's
-numbered : ℕ → List Slot → Bool
-numbered i [] = true
-numbered i (s ∷ ss) = eqb (codeOf s) i && numbered (suc i) ss
-
-coded : numbered 0 slots ≡ true
-unfolding codeOf numbered
-coded = refl
-
-code-at : (i j : ℕ) (ss : List Slot) (d : Slot) → numbered i ss ≡ true → j < length ss → codeOf (getD ss j d) ≡ i + j
-unfolding numbered
-code-at i j [] d c h = absurd (omega arith)
-code-at i zero (s ∷ ss) d c h = eqb-true (codeOf s) i (and-true (eqb (codeOf s) i) (numbered (suc i) ss) c .0) ∙ omega arith
-code-at i (suc j) (s ∷ ss) d c h =
-    code-at (suc i) j ss d (and-true (eqb (codeOf s) i) (numbered (suc i) ss) c .1) (omega arith) ∙ omega arith
-
-pub code-slot : (i : ℕ) → IsSlot i → codeOf (slotOf i) ≡ i
-code-slot i h = code-at 0 i slots _ coded h ∙ omega arith
 
 -- the members' level, by kind and argument
 inside-is : (s : Slot) (l : Lead) → insideLevel s (l .kind) (l .arg) ≡ members s l
@@ -105,7 +88,7 @@ module _ (b : List ℕ) (bs : all isByte b ≡ true) (items : ℕ) (s₀ : Slot)
       item : {u : Walk} {z : List ℕ} → Walked b items (rule (slotOf i) .next (tk .lead .arg) n) (prevAfter (slotOf i) (part b f t) (tk .lead) (tk .str)) d around q₁ e₁ u tab₂ z
           → Walked b items (due s₀ n₀) prev₀ d around p₀ c₀ u t₀ z
       item y =
-          lead .then (onward b bs items (slotOf i) n (part b f t) d around p c k a q₀ tk (rw g at walked) (put ∙ rw (code-slot i v)) y)
+          lead .then (onward b bs items (slotOf i) n (part b f t) d around p c k a q₀ tk (rw g at walked) (put ∙ rw (number-slot i v)) y)
 
       module _ (kk : k ≤ 9) (fit : fitsCode i k a ≡ true) {nx : Next} (nn : nx ≡ nextCode i a n) where
         next-is : levelOf nx ≡ rule (slotOf i) .next (tk .lead .arg) n

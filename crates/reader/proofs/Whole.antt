@@ -14,21 +14,27 @@ use borrow.Author.Tests.{lt-ltb, le-ltb}
 use Rattle.cbor.specs.Byte.{all, isByte}
 use Rattle.buffer.proofs.Putting.{sets-append}
 use Rattle.ari.specs.Table.{message, alone, Slot, version, ari, Level, done, due, rule, members}
-use Rattle.ari.specs.Reader.{Limits, Dues, end, sets, frame, push, Answer, refuse, accept, visit, run, counted, Input, Single, Message, firstSlot, bottom, read}
-use Rattle.ari.specs.Items.{Items, none, item, encode, heads, join, Spot, spots, spotAt, insideAt, spotsOf}
+use Rattle.ari.specs.declared.Limits.{Limits}
+use Rattle.ari.specs.declared.Input.{Input}
+use Rattle.ari.specs.declared.Input.the-variants.{Single, Message}
+use Rattle.ari.specs.Reader.{Dues, end, sets, frame, push, Answer, refuse, accept, visit, run, counted, firstSlot, bottom, read}
+use Rattle.ari.proofs.Join.{join}
+use Rattle.ari.specs.Items.{Items, none, item, encode, heads, Spot, spots, spotAt, insideAt, spotsOf}
 use Rattle.ari.specs.Decode.{decode}
-use Rattle.ari.proofs.Due.{Due, due-sets, prevAfter}
+use Rattle.ari.specs.Due.{Due}
+use Rattle.ari.proofs.Due.{due-sets, prevAfter}
 use Rattle.ari.proofs.Join.{encode-join, heads-join}
 use Rattle.ari.proofs.Central.{paste}
 use Rattle.ari.proofs.Weight.{decodes}
 use Rattle.grammar.specs.Code.{slotOf}
+use Rattle.item_table.specs.Entries.{entryOf}
 use Rattle.reader.specs.declared.Walk.{Walk}
 use Rattle.reader.specs.declared.Walk.the-variants.{Read, Refused}
 use Rattle.reader.specs.declared.Answer.{Answer as OutAnswer}
 use Rattle.reader.specs.declared.Answer.the-variants.{Accepted}
 use Rattle.reader.specs.declared.Answer.the-variants as answers
-use Rattle.reader.specs.Walks.{entryOf, entries, Held, Walked, SetsHeld, SetsWalked, afterWalk, afterSets}
-use Rattle.reader.specs.Answers.{limitsOf, answerOf, refusalOf, Kept}
+use Rattle.reader.specs.Walks.{entries, Held, Walked, SetsHeld, SetsWalked, afterWalk, afterSets}
+use Rattle.reader.specs.Answers.{answerOf, refusalOf, Kept}
 use Rattle.reader.proofs.Tables.{spots-heads, map-append}
 
 -- a slice's elements are bytes
@@ -148,9 +154,15 @@ pub sets-done : (b : List ℕ) (items d p₀ c₀ : ℕ) (t₀ : List ℕ) (p c 
 sets-done b items d p₀ c₀ t₀ p c t i h g n = i .then (sets-ended b items d p c h g n)
 
 -- The answers.
-module _ (b : List ℕ) (bytes items d : ℕ) where
-  abbrev m : Limits
-  m = limitsOf bytes items d
+module _ (b : List ℕ) (m : Limits) where
+  abbrev bytes : ℕ
+  bytes = m .bytes
+
+  abbrev items : ℕ
+  items = m .items
+
+  abbrev d : ℕ
+  d = m .containers
 
   -- test 1
   pub too-long : (i : Input) → bytes < length b → answers.Refused 1 0 ≡ answerOf (read m i b)
@@ -241,12 +253,25 @@ pub refused : {w : Walk} {r x : ℕ} → w ≡ Refused r x → answers.Refused r
 refused e = rw e
 
 -- of a refused input no table is asked
-pub unkept : (i : Input) (b : List ℕ) (r x : ℕ) (t t′ : List ℕ) → Kept i b (answers.Refused r x) t t′
-unkept i b r x t t′ = record { kept = tt }
+pub unkept : (i : Input) (b : List ℕ) (r x : ℕ) (t t′ : List ℕ) → length t′ ≡ length t → Kept i b (answers.Refused r x) t t′
+unkept i b r x t t′ l = record { kept = l }
 
-pub unkept-walk : (i : Input) (b : List ℕ) {w : Walk} {r x : ℕ} → w ≡ Refused r x → {z : OutAnswer} → z ≡ refusalOf w → (t t′ : List ℕ) → Kept i b z t t′
-unkept-walk i b g e t t′ = rw (e, g) (record { kept = tt })
+pub unkept-walk : (i : Input) (b : List ℕ) {w : Walk} {r x : ℕ} → w ≡ Refused r x → {z : OutAnswer} → z ≡ refusalOf w → (t t′ : List ℕ) → length t′ ≡ length t → Kept i b z t t′
+unkept-walk i b g e t t′ l = rw (e, g) (record { kept = l })
+
+pub unkept-later : (i : Input) (b : List ℕ) {w : Walk} {r x : ℕ} → w ≡ Refused r x → {z : OutAnswer} → z ≡ refusalOf w → (t t₁ t′ : List ℕ) → length t₁ ≡ length t → length t′ ≡ length t₁
+    → Kept i b z t t′
+unkept-later i b g e t t₁ t′ l l₁ = unkept-walk i b g e t t′ (l₁ ∙ l)
 
 pub ruleset single-ways = (too-long, single-refused, single-more, single-accepted, single-kept, unkept, unkept-walk)
 
-pub ruleset message-ways = (too-long, message-refused, message-stopped, message-accepted, message-kept, unkept, unkept-walk)
+pub ruleset message-ways = (too-long, message-refused, message-stopped, message-accepted, message-kept, unkept, unkept-walk, unkept-later)
+
+-- the answer for one input is the answer for that input
+pub input-read : (m : Limits) (b : List ℕ) {i j : Input} → i ≡ j → {a : OutAnswer} → a ≡ answerOf (read m j b) → a ≡ answerOf (read m i b)
+input-read m b e g = rw e g
+
+pub input-kept : (b : List ℕ) {a : OutAnswer} {t t′ : List ℕ} {i j : Input} → i ≡ j → Kept j b a t t′ → Kept i b a t t′
+input-kept b e k = rw e k
+
+pub ruleset of-input = (input-read, input-kept)

@@ -7,7 +7,9 @@ use native.Mathlib.Omega.{arith}
 use lib.ListN.{length}
 use lib.Dec.{ltb}
 use Rattle.cbor.specs.Byte.{all, isByte}
-use Rattle.ari.specs.Reader.{refuse, accept, Input, Message, read}
+use Rattle.ari.specs.declared.Input.{Input}
+use Rattle.ari.specs.declared.Input.the-variants.{Message}
+use Rattle.ari.specs.Reader.{refuse, accept, read}
 use Rattle.ari.specs.Reader as reader
 use Rattle.ari.specs.Limits.{firstLimits}
 use Rattle.ari.specs.Decode.{decode}
@@ -31,7 +33,7 @@ use Rattle.list.specs.Answers.{listedOf, listIn, listOf, said}
 use Rattle.list.proofs.Table.{few-listed}
 use borrow.Author.Tests.{ltb-true, ltb-false}
 use Rattle.ari.specs.Table.{max64}
-use Rattle.ari.specs.Reader.{Single}
+use Rattle.ari.specs.declared.Input.the-variants.{Single}
 use Rattle.ari.specs.Items.{Items, encode}
 use Rattle.text.specs.Text.{Form, spelled, none-at, form, textOf}
 use Rattle.text.specs.Answer.{Output, output, spellOut, writeText, checked, readText, lent}

@@ -1,7 +1,8 @@
 // The C archive: each answer is one number, as host/surfbodkin.h says.
 ghost use mathlib.Core.Path.{_≡_};
 ghost use Prim.Native.Nat.{_<_, _≤_};
-ghost use Rattle.ari.specs.Reader.{read, Single, Message};
+ghost use Rattle.ari.specs.declared.Input.the-variants.{Single, Message};
+ghost use Rattle.ari.specs.Reader.{read};
 ghost use Rattle.ari.specs.Limits.{firstLimits};
 ghost use Rattle.grants.specs.Bytes.{checkBytes, releaseBytes};
 ghost use Rattle.grants.specs.Verdict as verdict;

@@ -13,7 +13,7 @@ use Rattle.cbor.specs.Head.{unsigned, negative, bytes, text, array, map, simple
 use Rattle.cbor.proofs.ByteLaws.{and-true, within-true, pow-pos, all-take, all-drop}
 use Rattle.cbor.proofs.HeadLaws.{Carries, itself, after, carries-lt, width-small, shortest-carries}
 use Rattle.ari.specs.Table.{max64, Slot, version, ari, type, value, namespace, objectNamespace, objectType, objectId, params, key, entry, nonce, setTime, target, report, reportTime, reportSource, Level, done, due, rule, members}
-use Rattle.ari.specs.Reader.{Limits}
+use Rattle.ari.specs.declared.Limits.{Limits}
 use Rattle.ari.specs.Items.{none, encode}
 use Rattle.ari.specs.Decode.{Headed}
 use Rattle.text.specs.Chars.{ascii}

@@ -11,7 +11,8 @@ use Rattle.cbor.specs.Byte.{all, isByte}
 use Rattle.cbor.specs.Head.{array, simple, Lead, leadBytes}
 use Rattle.cbor.proofs.ByteLaws.{and-true}
 use Rattle.ari.specs.Table.{Place, alone, inside, ari, Row, row, Level, done, due, types, typeRows, rule, fits, members}
-use Rattle.ari.specs.Reader.{Limits, Single}
+use Rattle.ari.specs.declared.Limits.{Limits}
+use Rattle.ari.specs.declared.Input.the-variants.{Single}
 use Rattle.ari.specs.Items.{Items, none, item, encode, heads, depth, Spot, insideAt, spots}
 use Rattle.ari.specs.Rules.{Ari, literal, namespace-ref, typed, object-ref, plain, with-params, Stands, an-ari}
 use Rattle.ari.proofs.Due.{Fit, prevAfter}

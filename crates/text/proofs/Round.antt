@@ -11,7 +11,9 @@ use borrow.Author.Tests.{ltb-true, ltb-false, eqb-true, eq-eqb}
 use Rattle.cbor.specs.Byte.{all, isByte}
 use Rattle.cbor.proofs.ByteLaws.{and-true}
 use Rattle.ari.specs.Table.{max64, alone, ari, due}
-use Rattle.ari.specs.Reader.{Limits, Answer, refuse, accept, Single, read}
+use Rattle.ari.specs.declared.Limits.{Limits}
+use Rattle.ari.specs.declared.Input.the-variants.{Single}
+use Rattle.ari.specs.Reader.{Answer, refuse, accept, read}
 use Rattle.ari.specs.Items.{encode, heads}
 use Rattle.ari.specs.Decode.{decode}
 use Rattle.ari.specs.Rules.{Is}

@@ -5,7 +5,9 @@ use mathlib.Core.Bool.{cond}
 use mathlib.Core.List.{List}
 use lib.ListN.{length}
 use lib.Dec.{ltb}
-use Rattle.ari.specs.Reader.{Limits, Answer, refuse, accept, Single, read}
+use Rattle.ari.specs.declared.Limits.{Limits}
+use Rattle.ari.specs.declared.Input.the-variants.{Single}
+use Rattle.ari.specs.Reader.{Answer, refuse, accept, read}
 use Rattle.ari.specs.Items.{Items, encode}
 use Rattle.ari.specs.Decode.{decode}
 use Rattle.ari.specs.Rules.{Is}

@@ -14,9 +14,12 @@ use Rattle.cbor.specs.declared.Head.{Head}
 use Rattle.cbor.specs.declared.Head.the-variants.{Bad, Good}
 use Rattle.cbor.proofs.HeadLaws.{length-lead}
 use Rattle.ari.specs.Table.{alone, ari, Level, done, due, rule, members, ariLevel, referenceLevel}
-use Rattle.ari.specs.Reader.{Limits, Single, read, refuse, accept, end, push}
+use Rattle.ari.specs.declared.Limits.{Limits}
+use Rattle.ari.specs.declared.Input.the-variants.{Single}
+use Rattle.ari.specs.Reader.{read, refuse, accept, end, push}
 use Rattle.ari.specs.Items.{Items, none, item, encode, Spot, spots, insideAt}
-use Rattle.ari.specs.Decode.{decode, Well}
+use Rattle.ari.proofs.Well.{Well}
+use Rattle.ari.specs.Decode.{decode}
 use Rattle.ari.specs.Rules.{Is}
 use Rattle.ari.specs.Limits.{firstLimits}
 use Rattle.ari.proofs.Due.{Fit, prevAfter, container-string}

@@ -10,12 +10,14 @@ use lib.Dec.{ltb}
 use borrow.Author.Tests.{lt-ltb, le-ltb}
 use Rattle.cbor.specs.Byte.{all, isByte}
 use Rattle.ari.specs.Table.{rule, due, ari, inside}
-use Rattle.ari.specs.Reader.{Single, end, push}
+use Rattle.ari.specs.declared.Input.the-variants.{Single}
+use Rattle.ari.specs.Reader.{end, push}
 use Rattle.ari.specs.Items.{Items, encode, depth}
 use Rattle.ari.specs.Decode.{decode}
 use Rattle.ari.specs.Rules.{Is, Stands, an-ari}
 use Rattle.ari.specs.Limits.{firstLimits}
-use Rattle.ari.proofs.Due.{Fit, Due, unsplit}
+use Rattle.ari.specs.Due.{Due}
+use Rattle.ari.proofs.Due.{Fit, unsplit}
 use Rattle.ari.proofs.Decoded.{heads-encode}
 use Rattle.ari.proofs.RulesFit.{here-ari}
 use Rattle.text.specs.Text.{texts, anAriDue, isRelative, isSet, textOf}

@@ -15,7 +15,7 @@ use Rattle.cbor.specs.declared.Head.the-variants.{Bad}
 use Rattle.cbor.specs.declared.Head.the-variants as heads
 use Rattle.cbor.proofs.HeadLaws.{getHead-back, length-lead}
 use Rattle.ari.specs.Table.{rule}
-use Rattle.ari.proofs.Due.{Good}
+use Rattle.ari.specs.Due.{Good}
 use Rattle.grammar.specs.Code.{slotOf}
 use Rattle.reader.specs.declared.End.{End}
 use Rattle.reader.specs.declared.End.the-variants.{At, Short}

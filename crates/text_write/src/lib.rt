@@ -17,7 +17,7 @@ ghost use Rattle.text_write.specs.Said.{ItemAt, Said};
 ghost use lib.ListN.{take};
 ghost use mathlib.Core.List.{_++_};
 ghost use Rattle.ari.specs.Limits.{firstLimits};
-ghost use Rattle.ari.specs.Reader.{Single};
+ghost use Rattle.ari.specs.declared.Input.the-variants.{Single};
 ghost use Rattle.ari.specs.Rules.{Is};
 ghost use Rattle.ari.specs.Decode.{decode};
 ghost use Rattle.text.specs.Answer.{output, writeText, lent};

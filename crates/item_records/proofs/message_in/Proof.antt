@@ -1,7 +1,7 @@
 -- `item_records::message_in` meets its contract: the table has room for each item, and the entry is the item.
 use borrow.Author.Needs.{needs}
 use native.Mathlib.Omega.{arith}
-use Rattle.ari.specs.Reader.{Single, Message}
+use Rattle.ari.specs.declared.Input.the-variants.{Single, Message}
 use Rattle.item_records.proofs.Entries.{item-is, roomy}
 use Rattle.reader.proofs.Whole.{all-bytes}
 use Rattle.item_records.proofs.message_in.Statement.{statement}

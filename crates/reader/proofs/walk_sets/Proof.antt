@@ -25,7 +25,7 @@ walk-sets-spec =
     Inv-loop
     μ-loop
     (λ c. (sets-begin _ _ _ _ _ _, search needs, search needs, search needs))
-    (λ c κs. (search needs, search needs, search needs, search needs, search needs))
+    (λ c κs. search needs)
     (λ c. search needs)
     (λ c. search needs)
     (λ c. search needs)

@@ -1,7 +1,8 @@
 -- `surfbodkin::surfbodkin_check_message` meets its contract: the answer as a number.
 use borrow.Author.Needs.{needs}
 use Rattle.surfbodkin.proofs.Codes.{bounded, coded}
-use Rattle.ari.specs.Reader.{Single, Message, read}
+use Rattle.ari.specs.declared.Input.the-variants.{Single, Message}
+use Rattle.ari.specs.Reader.{read}
 use Rattle.ari.specs.Limits.{firstLimits}
 use Rattle.surfbodkin.proofs.surfbodkin_check_message.Statement.{statement}
 use Rattle.surfbodkin.proofs.surfbodkin_check_message.Tie as tie
