@@ -1,7 +1,7 @@
 // The two inputs and their limits, as the definitions and the functions have them. What an ARI and a message are stands in specs/.
 ghost use mathlib.Core.Path.{_≡_};
-ghost use Prim.Native.Nat.{min};
-ghost use Rattle.ari.specs.Limits.{capped};
+ghost use Prim.Native.Nat.{_≤_, min};
+ghost use Rattle.ari.specs.Limits.{firstLimits, capped};
 
 // What is read: a single ARI in binary form, or an AMP message.
 pub enum Input {
@@ -45,6 +45,7 @@ fn least(a: usize, b: usize) -> usize
 // Limits that a caller gives, none above the gate's own: what functions lend is sized by those.
 pub fn cap(limits: Limits) -> Limits
     ensures { λ r. ⌜ r ≡ capped limits ⌝ }
+    ensures { λ r. ⌜ (r .bytes ≤ firstLimits .bytes) × (r .items ≤ firstLimits .items) × (r .containers ≤ firstLimits .containers) × (r .text ≤ firstLimits .text) ⌝ }
 {
     Limits {
         bytes: least(limits.bytes, BYTES),
