@@ -22,8 +22,8 @@ use Rattle.grants.specs.Verdict.{said}
 use Rattle.grants.specs.declared.Verdict.{Verdict}
 use Rattle.grants.specs.declared.Verdict.the-variants.{Passes, Refused}
 use Rattle.grants.proofs.Signed.{signed-word}
-use Rattle.list.specs.declared.Released.{Released}
-use Rattle.list.specs.Answers.{said as saidOf}
+use Rattle.listing.specs.declared.Released.{Released}
+use Rattle.listing.specs.Answers.{said as saidOf}
 use Rattle.grant_structs.specs.declared.Grant.{Grant as Row}
 use Rattle.grant_structs.specs.declared.Release.{Release}
 use Rattle.grant_structs.specs.Told.{told}
@@ -102,7 +102,7 @@ module _ (t : List Row) (f : Fit t) where
       go (refuse r p) = refl
       go (accept n) = rw (not-ragged t)
 
-  -- so what `list::release` answers of the bytes, in document 01's terms, is what `release_grants` answers of the structs
+  -- so what `listing::release` answers of the bytes, in document 01's terms, is what `release_grants` answers of the structs
   pub same-answer : (b : List ℕ) (s : ℕ) (r : Released) (r′ : Release) → saidOf r ≡ releaseBytes firstLimits b (tableBytes t) s → told r′ ≡ release firstLimits b (grants t) s → saidOf r ≡ told r′
   same-answer b s r r′ e e′ = e ∙ same-release firstLimits b s ∙ sym e′
 

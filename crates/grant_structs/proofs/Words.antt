@@ -19,10 +19,10 @@ use Rattle.ari.proofs.Named.{InRange, numbers-in-range}
 use Rattle.grants.specs.Grants.{Grant, granted, Release, no, judgeFrom, judge, release}
 use Rattle.grants.specs.Bytes.{kindOf, wordOf}
 use Rattle.grants.proofs.Signed.{signed-word}
-use Rattle.list.specs.declared.Listed.{Listed}
-use Rattle.list.specs.declared.Listed.the-variants.{Entries, Refused}
-use Rattle.list.specs.Answers.{entryWords, wordsOf, listedOf, listIn, writtenBy, writtenIn}
-use Rattle.list.proofs.Table.{few-listed}
+use Rattle.listing.specs.declared.Listed.{Listed}
+use Rattle.listing.specs.declared.Listed.the-variants.{Entries, Refused}
+use Rattle.listing.specs.Answers.{entryWords, wordsOf, listedOf, listIn, writtenBy, writtenIn}
+use Rattle.listing.proofs.Table.{few-listed}
 use Rattle.grant_structs.specs.Structs.{spaceBy, kindAt, wordAt, entryBy, entryAt, entriesFrom, answerBy, Decides}
 
 module _ (a b : ℕ) (l : List ℕ) where
@@ -55,7 +55,7 @@ two-each : (es : List Entry) → length (wordsOf es) ≡ 2 * length es
 two-each [] = refl
 two-each (e ∷ es) = omega (arith, two-each es)
 
--- what `list::list_words` answers and writes, in room for 1,024 entries
+-- what `listing::list_words` answers and writes, in room for 1,024 entries
 pub words-decide : (b : List ℕ) → all isByte b ≡ true → (ws : List ℕ) → 2048 ≤ length ws → {l : Listed} → l ≡ listIn 2 firstLimits b ws → {ws′ : List ℕ} → ws′ ≡ writtenIn 2 entryWords firstLimits b ws → Decides b l ws′
 unfolding listIn writtenIn release
 words-decide b bytes ws room {l} e {ws′} f = rw (f, e) (go (read firstLimits Message b) refl)

@@ -12,8 +12,8 @@ use borrow.Author.Tests.{le-leb, lt-leb}
 use Rattle.cbor.specs.Byte.{be}
 use Rattle.cbor.proofs.ByteLaws.{length-be}
 use Rattle.buffer.proofs.Putting.{sets-append}
-use Rattle.list.specs.Answers.{wordPut}
-use Rattle.list.proofs.Stored.{joined, word-roomy}
+use Rattle.listing.specs.Answers.{wordPut}
+use Rattle.listing.proofs.Stored.{joined, word-roomy}
 use Rattle.grant_text.specs.declared.Line.{Line}
 use Rattle.grant_text.specs.declared.Line.the-variants.{Blank, Grant, Bad}
 use Rattle.grant_text.specs.declared.Taken.{Taken}

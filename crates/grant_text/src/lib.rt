@@ -226,8 +226,8 @@ fn put_row(out: &mut [u8], at: usize, subscriber: u64, namespace: u64)
     requires { ⌜ at + 16 ≤ length (now out) ⌝ }
     ensures { λ _. ⌜ now (out .exit) ≡ sets (now (out .entry)) at (be 8 subscriber ++ be 8 namespace) ⌝ }
 {
-    list::put_word(out, at, subscriber);
-    list::put_word(out, at + 8, namespace);
+    listing::put_word(out, at, subscriber);
+    listing::put_word(out, at + 8, namespace);
 }
 
 fn put_if(write: bool, out: &mut [u8], at: usize, subscriber: u64, namespace: u64)

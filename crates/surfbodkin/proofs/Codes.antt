@@ -25,12 +25,12 @@ use Rattle.grants.specs.Bytes.{rows, ragged, whole, releaseBytes}
 use Rattle.grants.specs.declared.Verdict.{Verdict}
 use Rattle.grants.specs.declared.Verdict.the-variants as verdicts
 use Rattle.grants.specs.Verdict as verdict
-use Rattle.list.specs.declared.Listed.{Listed}
-use Rattle.list.specs.declared.Listed.the-variants as listed
-use Rattle.list.specs.declared.Released.{Released}
-use Rattle.list.specs.declared.Released.the-variants as released
-use Rattle.list.specs.Answers.{listedOf, listIn, listOf, said}
-use Rattle.list.proofs.Table.{few-listed}
+use Rattle.listing.specs.declared.Listed.{Listed}
+use Rattle.listing.specs.declared.Listed.the-variants as listed
+use Rattle.listing.specs.declared.Released.{Released}
+use Rattle.listing.specs.declared.Released.the-variants as released
+use Rattle.listing.specs.Answers.{listedOf, listIn, listOf, said}
+use Rattle.listing.proofs.Table.{few-listed}
 use borrow.Author.Tests.{ltb-true, ltb-false}
 use Rattle.ari.specs.Table.{max64}
 use Rattle.ari.specs.declared.Input.the-variants.{Single}

@@ -6,8 +6,8 @@ use Rattle.ari.specs.Reader as reader
 use Rattle.reader.specs.declared.Answer.{Answer}
 use Rattle.reader.specs.declared.Answer.the-variants.{Accepted, Refused}
 use Rattle.grants.specs.Grants.{Check, passes, Release, yes, no}
-use Rattle.list.specs.declared.Listed.{Listed}
-use Rattle.list.specs.declared.Listed.the-variants as listed
+use Rattle.listing.specs.declared.Listed.{Listed}
+use Rattle.listing.specs.declared.Listed.the-variants as listed
 use lib.ListN.{length}
 use Rattle.text.specs.Answer.{Output, output}
 use Rattle.text_write.specs.declared.Written.{Written}

@@ -6,14 +6,14 @@ ghost use Rattle.ari.specs.Reader.{read};
 ghost use Rattle.ari.specs.Limits.{firstLimits};
 ghost use Rattle.grants.specs.Bytes.{checkBytes, releaseBytes};
 ghost use Rattle.grants.specs.Verdict as verdict;
-ghost use Rattle.list.specs.Answers.{listOf, writtenOf, said};
+ghost use Rattle.listing.specs.Answers.{listOf, writtenOf, said};
 ghost use lib.ListN.{length};
 ghost use Rattle.text.specs.Answer.{writeText, readText, lent};
 ghost use Rattle.text_write.specs.Written.{roomAfter};
 ghost use Rattle.surfbodkin.specs.Code.{refusalCode, countCode, checkCode, answerCode, Bounded, listCode, Few, tableCode, releaseCode, Small, outputCode, writtenCode, Short};
 use grants::Verdict;
-use list::Listed;
-use list::Released;
+use listing::Listed;
+use listing::Released;
 use reader::Answer;
 use text_write::Written;
 
@@ -75,7 +75,7 @@ pub extern "C" fn surfbodkin_list(message: &[u8], out: &mut [u8]) -> u64
     ensures { λ r. ⌜ r ≡ listCode (listOf firstLimits (now (message .entry)) (now (out .entry))) ⌝ }
     ensures { λ r. ⌜ now (out .exit) ≡ writtenOf firstLimits (now (message .entry)) (now (out .entry)) ⌝ }
 {
-    list_code(list::list_message(message, out))
+    list_code(listing::list_message(message, out))
 }
 
 fn table_code(a: Verdict) -> u64
@@ -109,7 +109,7 @@ fn release_code(a: Released) -> u64
 pub extern "C" fn surfbodkin_release(message: &[u8], table: &[u8], subscriber: u64) -> u64
     ensures { λ r. ⌜ r ≡ releaseCode (releaseBytes firstLimits (now (message .entry)) (now (table .entry)) subscriber) ⌝ }
 {
-    release_code(list::release(message, table, subscriber))
+    release_code(listing::release(message, table, subscriber))
 }
 
 fn written_code(a: Written) -> u64

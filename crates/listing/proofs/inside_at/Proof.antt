@@ -1,0 +1,19 @@
+-- `listing::inside_at` meets its contract: by the slot, the head, its kind and its length.
+use Rattle.listing.proofs.Ways.{ways}
+use borrow.Author.Needs.{needs}
+use Rattle.listing.proofs.inside_at.Statement.{statement}
+use Rattle.listing.proofs.inside_at.Tie as tie
+
+pub inside-at-spec : {M : Type 1} → statement M
+inside-at-spec =
+    tie.close
+    (tie.spec
+    (λ c κs. search needs)
+    (λ c. search (ways, needs))
+    (λ c κs. search needs)
+    (λ c. search needs)
+    (λ c. search needs)
+    (λ c. search (ways, needs))
+    (λ c. search (ways, needs))
+    (λ c. search (ways, needs))
+    (λ c. search (ways, needs)))
