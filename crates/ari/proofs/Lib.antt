@@ -14,5 +14,7 @@ pub mod Example
 pub mod Numbers
 pub mod Referring
 pub mod Listed
+pub mod Larger
+pub mod ListingBound
 pub mod ListingExample
 pub mod Named
