@@ -84,7 +84,8 @@ module _ (m : Limits) (i : Input) (b : List ℕ) where
   pub unique : {g : Items} {n : ℕ} → Is m i b g n → g ≡ decode b
   unique {g} c = sym (decode-encode g (well-fit g (openEnded i) (due (firstSlot i) 0) [] (stands-fit (c .stands)))) ∙ ap decode (c .bytes)
 
-  is-read : {g : Items} {n : ℕ} → Is m i b g n → read m i b ≡ accept n
+  -- what document 01 makes one is accepted, whatever its bytes are
+  pub is-read : {g : Items} {n : ℕ} → Is m i b g n → read m i b ≡ accept n
   is-read {g} {n} c =
       to-read m i b n
       (record {

@@ -14,6 +14,8 @@ pub mod Example
 pub mod Numbers
 pub mod Referring
 pub mod Listed
+pub mod Larger
+pub mod ListingBound
 pub mod ListingExample
 pub mod Named
 pub mod Well
