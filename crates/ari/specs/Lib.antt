@@ -8,3 +8,4 @@ pub mod Limits
 pub mod Listing
 pub mod References
 pub mod Due
+pub mod Signed

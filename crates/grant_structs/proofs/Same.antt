@@ -17,7 +17,8 @@ use Rattle.ari.specs.Reader.{Answer, accept, refuse, read}
 use Rattle.ari.specs.Listing.{Space, number, listing}
 use Rattle.ari.proofs.Named.{InRange}
 use Rattle.grants.specs.Grants.{Grant, granted, check, judge, release}
-use Rattle.grants.specs.Bytes.{word, rowBy, rowOf, rowsOf, rows, ragged, checkBytes, whole, releaseBytes}
+use Rattle.ari.specs.Signed.{word}
+use Rattle.grants.specs.Bytes.{rowBy, rowOf, rowsOf, rows, ragged, checkBytes, whole, releaseBytes}
 use Rattle.grants.specs.Verdict.{said}
 use Rattle.grants.specs.declared.Verdict.{Verdict}
 use Rattle.grants.specs.declared.Verdict.the-variants.{Passes, Refused}

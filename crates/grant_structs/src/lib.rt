@@ -6,7 +6,7 @@ ghost use lib.ListN.{length, take};
 ghost use Rattle.ari.specs.Limits.{firstLimits};
 ghost use Rattle.ari.specs.Listing.{number};
 ghost use Rattle.grants.specs.Grants.{some, clash, holds, granted, check, judgeFrom, release};
-ghost use Rattle.grants.specs.Bytes.{signed};
+ghost use Rattle.ari.specs.Signed.{signed};
 ghost use Rattle.grants.specs.Verdict.{said};
 ghost use Rattle.grant_structs.specs.Structs.{rowBy, grantOf, grants, meetsBy, foundAt, heldAt, entriesFrom, wantedAt, heldBack, entriesOf, answerBy, Decides};
 ghost use Rattle.grant_structs.specs.Told.{told};

@@ -13,7 +13,9 @@ use lib.Dec.{eqb}
 use borrow.Author.Tests.{eqb-true, eqb-false, eq-eqb, ne-eqb}
 use Rattle.cbor.specs.Byte.{all, isByte}
 use Rattle.cbor.proofs.ByteLaws.{not-false, past}
-use Rattle.ari.specs.Reader.{Limits, Answer, refuse, accept, aMessage, read}
+use Rattle.ari.specs.declared.Limits.{Limits}
+use Rattle.ari.specs.declared.Input.the-variants.{Message}
+use Rattle.ari.specs.Reader.{Answer, refuse, accept, read}
 use Rattle.ari.specs.Items.{Items}
 use Rattle.ari.specs.Decode.{decode}
 use Rattle.ari.specs.Rules.{Is}
@@ -110,9 +112,9 @@ equal-unless s s′ n = go (eqb s s′) refl
     go false e = absurd (n (eqb-false s s′ e))
 
 -- A message: whatever limits accept it, and whatever derivation makes it one.
-module _ {m : Limits} {b : List ℕ} {g : Items} {n : ℕ} (c : Is m aMessage b g n) where
-  accepted : read m aMessage b ≡ accept n
-  accepted = is-read m aMessage b c
+module _ {m : Limits} {b : List ℕ} {g : Items} {n : ℕ} (c : Is m Message b g n) where
+  accepted : read m Message b ≡ accept n
+  accepted = is-read m Message b c
 
   -- "release is granted exactly if every listed namespace is a number granted to that subscriber"
   pub released-exactly-if-granted : (t : List Grant) (s : ℕ) → (release m b t s ≡ yes) ↔ AllGranted t s (references (c .stands))
@@ -135,7 +137,7 @@ module _ {m : Limits} {b : List ℕ} {g : Items} {n : ℕ} (c : Is m aMessage b 
     where
       go : (a : Release) → release m b t s ≡ a → (a ≡ yes) ⊎ ((k : ℕ) × (a ≡ no k))
       go (refused r p) e =
-          let q : read m aMessage b ≡ refuse r p = refused-exactly-if m b t s r p .0 e in
+          let q : read m Message b ≡ refuse r p = refused-exactly-if m b t s r p .0 e in
           absurd (let z : _≡_ {A = ℕ} 0 1 = cc (accepted) in omega arith)
       go yes e = inl refl
       go (no k) e = inr (k, refl)
@@ -155,21 +157,21 @@ others-rows-never-matter = only-own-rows
 
 -- bytes that document 01 makes no message
 abbrev pub NoMessage : Limits → List ℕ → Type 0
-NoMessage m b = (g : Items) (n : ℕ) → Is m aMessage b g n → ⊥
+NoMessage m b = (g : Items) (n : ℕ) → Is m Message b g n → ⊥
 
 module _ (m : Limits) (b : List ℕ) (h : all isByte b ≡ true) where
   -- Such bytes are refused as the reading of them is, and never released.
   pub no-message-is-refused : NoMessage m b → (t : List Grant) (s : ℕ)
-      → (r : ℕ) × (p : ℕ) × (read m aMessage b ≡ refuse r p) × (release m b t s ≡ Release.refused r p)
-  no-message-is-refused x t s = go (read m aMessage b) refl
+      → (r : ℕ) × (p : ℕ) × (read m Message b ≡ refuse r p) × (release m b t s ≡ Release.refused r p)
+  no-message-is-refused x t s = go (read m Message b) refl
     where
-      go : (a : Answer) → read m aMessage b ≡ a → (r : ℕ) × (p : ℕ) × (a ≡ refuse r p) × (release m b t s ≡ Release.refused r p)
+      go : (a : Answer) → read m Message b ≡ a → (r : ℕ) × (p : ℕ) × (a ≡ refuse r p) × (release m b t s ≡ Release.refused r p)
       go (refuse r p) e = (r, p, refl, refused-exactly-if m b t s r p .1 e)
-      go (accept n) e = absurd (x (decode b) n (demand-two m aMessage b n h .0 e))
+      go (accept n) e = absurd (x (decode b) n (demand-two m Message b n h .0 e))
 
   -- What is released is a message, and there is its derivation.
-  pub released-is-a-message : (t : List Grant) (s : ℕ) → release m b t s ≡ yes → (n : ℕ) × Is m aMessage b (decode b) n
-  released-is-a-message t s e = let (n, q) = released-exactly-if m b t s .0 e .0 in (n, demand-two m aMessage b n h .0 q)
+  pub released-is-a-message : (t : List Grant) (s : ℕ) → release m b t s ≡ yes → (n : ℕ) × Is m Message b (decode b) n
+  released-is-a-message t s e = let (n, q) = released-exactly-if m b t s .0 e .0 in (n, demand-two m Message b n h .0 q)
 
 -- The same of the table of bytes that the C host passes, by its rows. Bytes that are not whole rows are no grant table.
 abbrev pub Whole : List ℕ → Type 0
@@ -181,7 +183,7 @@ not-ragged t w = rw (eq-eqb (length t % 16) 0 w)
 is-whole : (t : List ℕ) → ragged t ≡ false → Whole t
 is-whole t e = eqb-true (length t % 16) 0 (not-false _ e)
 
-module _ {m : Limits} {b : List ℕ} {g : Items} {n : ℕ} (c : Is m aMessage b g n) where
+module _ {m : Limits} {b : List ℕ} {g : Items} {n : ℕ} (c : Is m Message b g n) where
   module _ (t : List ℕ) (s : ℕ) where
     on-bytes : releaseBytes m b t s ≡ cond (ragged t) (Release.refused 18 (length t / 16)) (release m b (rows t) s)
     unfolding releaseBytes
@@ -229,6 +231,6 @@ bytes-others-rows-never-matter m b t t′ s w w′ h =
 
 -- What is no message is refused as its reading is, whatever bytes stand for the table.
 pub bytes-no-message-is-refused : (m : Limits) (b : List ℕ) → all isByte b ≡ true → NoMessage m b → (t : List ℕ) (s : ℕ)
-    → (r : ℕ) × (p : ℕ) × (read m aMessage b ≡ refuse r p) × (releaseBytes m b t s ≡ Release.refused r p)
+    → (r : ℕ) × (p : ℕ) × (read m Message b ≡ refuse r p) × (releaseBytes m b t s ≡ Release.refused r p)
 unfolding releaseBytes
 bytes-no-message-is-refused m b h x t s = let (r, p, e, q) = no-message-is-refused m b h x (rows t) s in (r, p, e, rw e)

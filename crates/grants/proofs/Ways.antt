@@ -11,7 +11,8 @@ use borrow.Author.Tests.{eq-eqb, ne-eqb, le-leb, lt-leb}
 use Rattle.cbor.specs.Byte.{value}
 use Rattle.cbor.proofs.NumberWays.{value-join, two-bytes}
 use Rattle.grants.specs.Grants.{Grant, some, same, below0, clash, passes, refused, checkFrom, check, holds}
-use Rattle.grants.specs.Bytes.{signed, wordAt, rowBy, rowOf, holdsAt, rows, checkBytes}
+use Rattle.ari.specs.Signed.{signed}
+use Rattle.grants.specs.Bytes.{wordAt, rowBy, rowOf, holdsAt, rows, checkBytes}
 use Rattle.grants.proofs.Signed.{same-words, not-negative, negative}
 
 -- big-endian numbers, two bytes at a time

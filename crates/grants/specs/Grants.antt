@@ -54,21 +54,3 @@ abbrev pub granted : List Grant → ℕ → Space → Bool
 granted t s (number z) = some (holds s z) t
 granted t s (name p n) = false
 granted t s relative = false
-
--- "the message's refusal, or yes, or no with the number of the first listed entry that isn't granted, entries from 0"
-pub data Release : Type 0 where
-  refused : ℕ → ℕ → Release  -- number, place
-  yes : Release
-  no : ℕ → Release
-
-abbrev pub judgeFrom : (Space → Bool) → ℕ → List Entry → Release
-judgeFrom ok i [] = yes
-judgeFrom ok i (e ∷ es) = let r = judgeFrom ok (suc i) es in cond (ok (e .space)) r (no i)
-
-abbrev pub judge : Answer → (Space → Bool) → List Entry → Release
-judge (refuse r p) ok es = refused r p
-judge (accept n) ok es = judgeFrom ok 0 es
-
--- "Release takes a message, the table and a subscriber". It doesn't run the table's check.
-unfoldable pub release : Limits → List ℕ → List Grant → ℕ → Release
-release m b t s = judge (read m Message b) (granted t s) (listing b)

@@ -5,7 +5,8 @@ ghost use lib.ListN.{length, take, drop};
 ghost use Rattle.cbor.specs.Byte.{value};
 ghost use Rattle.ari.specs.Listing.{number};
 ghost use Rattle.grants.specs.Grants.{some, clash, holds, granted};
-ghost use Rattle.grants.specs.Bytes.{signed, wordAt, rowOf, holdsAt, rows, rowBy, checkBytes};
+ghost use Rattle.ari.specs.Signed.{signed};
+ghost use Rattle.grants.specs.Bytes.{wordAt, rowOf, holdsAt, rows, rowBy, checkBytes};
 ghost use Rattle.grants.specs.Verdict.{said};
 
 // The check's answer: the table passes, or 18 with a row.

@@ -206,11 +206,14 @@ module _ {m : Limits} {i : Input} {b : List ℕ} {n : ℕ} {t : List ℕ} (c : T
   number-is : number ≡ fine-at .number
   number-is = ap slotNumber (sym (fine-at .slot-is)) ∙ number-slot (fine-at .number) (fine-at .is-slot)
 
+  pub short-at : (x .first < 65536) × (x .after < 65536)
+  short-at = (omega (arith, places .0, places .1, places .2, c .is .short, c .small), omega (arith, places .2, c .is .short, c .small))
+
   pub item-at : itemOf (getD t k 0) ≡ record { first = x .first; after = x .after; around = x .around; slot = number }
   unfolding itemOf entryOf
   item-at =
-      let hf : x .first < 65536 = omega (arith, places .0, places .1, places .2, c .is .short, c .small) in
-      let ha : x .after < 65536 = omega (arith, places .2, c .is .short, c .small) in
+      let hf : x .first < 65536 = short-at .0 in
+      let ha : x .after < 65536 = short-at .1 in
       let hr : x .around < 256 = omega (arith, fine-at .shallow, c .shallow) in
       let hs : number < 256 = omega (arith, fine-at .is-slot, number-is) in
       rw (c .kept k h, first-field (x .first) (x .after) (x .around) number hf ha hr hs, after-field (x .first) (x .after) (x .around) number hf ha hr hs, around-field (x .first) (x .after) (x .around) number hf ha hr hs, slot-field (x .first) (x .after) (x .around) number hf ha hr hs)

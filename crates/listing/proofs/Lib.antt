@@ -3,4 +3,3 @@ pub mod Stored
 pub mod Table
 pub mod Written
 pub mod Outcome
-pub mod Search

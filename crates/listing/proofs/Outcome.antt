@@ -1,41 +1,28 @@
--- From the message's answer and table to the answers.
-use Prim.Native.Nat.{ℕ, suc, _*_, _/_, _%_, _<_, _≤_, min}
+-- From the message's answer and table to what is listed and written.
+use Prim.Native.Nat.{ℕ, _*_, _/_, _<_, _≤_}
 use mathlib.Core.Path.{_≡_, refl, sym, _∙_, ap}
 use mathlib.Core.Bool.{Bool, true, false, cond}
-use mathlib.Core.List.{List, [], _∷_, _++_}
+use mathlib.Core.List.{List, _++_}
 use native.Mathlib.Omega.{arith}
 use native.Mathlib.Nat.{le-trans, mul-le-mul-left, mul-div-le}
-use lib.ListN.{length, getD, drop, length-map}
+use lib.ListN.{length, drop}
 use lib.Dec.{ltb}
-use mir.Syntax.{w8}
-use mir.Val.{Fits}
-use borrow.Author.Tests.{lt-ltb, le-ltb, ltb-false, eq-eqb, ne-eqb}
-use Rattle.cbor.specs.Byte.{all, isByte}
+use borrow.Author.Tests.{lt-ltb, le-ltb, ltb-false}
+use Rattle.ari.specs.declared.Limits.{Limits}
 use Rattle.ari.specs.declared.Input.the-variants.{Message}
-use Rattle.ari.specs.Reader.{refuse, accept, read}
-use Rattle.ari.specs.Reader as reader
-use Rattle.ari.specs.Limits.{firstLimits}
-use Rattle.ari.specs.Decode.{decode}
-use Rattle.ari.specs.Rules.{Is}
-use Rattle.ari.specs.Items.{Spot, spotsOf}
-use Rattle.ari.specs.Table.{isReference}
-use Rattle.ari.specs.Listing.{Entry, referring, listing}
-use Rattle.ari.proofs.Spots.{spot-count}
-use Rattle.ari.proofs.Demand.{demand-two}
-use Rattle.ari.proofs.Decoded.{heads-encode}
+use Rattle.ari.specs.Reader.{accept, read}
+use Rattle.ari.specs.Listing.{Entry, listing}
+use Rattle.item_table.specs.Entries.{Tabled}
 use Rattle.reader.specs.declared.Answer.{Answer}
 use Rattle.reader.specs.declared.Answer.the-variants.{Accepted}
 use Rattle.reader.specs.declared.Answer.the-variants as answers
-use Rattle.reader.specs.Answers.{answerOf, Kept}
-use Rattle.reader.proofs.Whole.{all-bytes}
-use Rattle.grants.specs.Grants.{granted, Release, judgeFrom, release}
-use Rattle.grants.specs.Bytes.{rows, entryBytes, releaseBytes}
-use Rattle.item_records.specs.Records.{noSpot}
-use Rattle.item_records.proofs.Entries.{entry-is}
+use Rattle.reader.specs.Answers.{answerOf}
+use Rattle.reader.proofs.Kept.{accepted, refused}
 use Rattle.listing.specs.declared.Listed.{Listed}
 use Rattle.listing.specs.declared.Listed.the-variants.{Entries, Refused}
-use Rattle.listing.specs.Answers.{each, listedOf, listIn, writtenBy, writtenIn}
-use Rattle.listing.specs.Entries.{Tabled}
+use Rattle.listing.specs.Bytes.{listingBytes}
+use Rattle.listing.specs.Answers.{listedOf, listOf, writtenBy, writtenOf}
+use Rattle.listing.proofs.Table.{few-listed}
 
 module _ (es : List Entry) (n room : ℕ) {r : ℕ} (e : r ≡ length es) where
   pub room-short : room < r → Refused 16 r ≡ listedOf (accept n) es room
@@ -44,103 +31,50 @@ module _ (es : List Entry) (n room : ℕ) {r : ℕ} (e : r ≡ length es) where
   pub room-enough : r ≤ room → Entries r n ≡ listedOf (accept n) es room
   room-enough h = let k : length es ≤ room = omega arith in rw (le-ltb room (length es) k, e)
 
-module _ (es : List Entry) (n m w : ℕ) {r : Listed} (e : r ≡ listedOf (accept n) es (m / w)) {k j : ℕ} (f : r ≡ Entries k j) where
-  pub room-for : w * length es ≤ m
-  room-for = go (ltb (m / w) (length es)) refl (sym e ∙ f)
+module _ (es : List Entry) (n m : ℕ) {r : Listed} (e : r ≡ listedOf (accept n) es (m / 24)) {k j : ℕ} (f : r ≡ Entries k j) where
+  pub room-for : 24 * length es ≤ m
+  room-for = go (ltb (m / 24) (length es)) refl (sym e ∙ f)
     where
-      go : (t : Bool) → ltb (m / w) (length es) ≡ t → cond t (Refused 16 (length es)) (Entries (length es) n) ≡ Entries k j → w * length es ≤ m
+      go : (t : Bool) → ltb (m / 24) (length es) ≡ t → cond t (Refused 16 (length es)) (Entries (length es) n) ≡ Entries k j → 24 * length es ≤ m
       go true h q = absurd (let z : _≡_ {A = ℕ} 0 1 = cc in omega arith)
-      go false h q = le-trans (mul-le-mul-left w (ltb-false (m / w) (length es) h)) (mul-div-le m w)
+      go false h q = le-trans (mul-le-mul-left 24 (ltb-false (m / 24) (length es) h)) (mul-div-le m 24)
 
 -- no more references than items, so room for all items is room for them
-fewer-referring : (xs : List Spot) → length (referring xs) ≤ length xs
-fewer-referring [] = omega arith
-fewer-referring (x ∷ xs) = go (isReference (x .slot) (x .lead)) (fewer-referring xs)
-  where
-    go : (t : Bool) → length (referring xs) ≤ length xs → length (cond t (x ∷ referring xs) (referring xs)) ≤ suc (length xs)
-    go true h = omega arith
-    go false h = omega arith
+module _ (r : ℕ) {m : Limits} {b t : List ℕ} {n : ℕ} (c : Tabled m Message b n t) (h : n ≤ r / 24) where
+  pub room-for-all : 24 * length (listing b) ≤ r
+  room-for-all = omega (arith, few-listed (c .is))
 
-fewer-listed : {b t : List ℕ} {n : ℕ} → Tabled b n t → length (listing b) ≤ n
-unfolding listing
-fewer-listed {b} c = rw length-map (omega (arith, fewer-referring (spotsOf Message (decode b)), spot-count (c .is)))
-
-module _ (m : ℕ) {b t : List ℕ} {n : ℕ} (c : Tabled b n t) (h : n ≤ m / 24) where
-  pub room-for-all : 24 * length (listing b) ≤ m
-  room-for-all = omega (arith, fewer-listed c)
-
-  pub all-listed : {end : ℕ} → end ≡ 24 * length (listing b) → Entries (end / 24) n ≡ listedOf (accept n) (listing b) (m / 24)
+  pub all-listed : {end : ℕ} → end ≡ 24 * length (listing b) → Entries (end / 24) n ≡ listedOf (accept n) (listing b) (r / 24)
   all-listed {end} e =
       let z : end / 24 ≡ length (listing b) = omega arith in
-      room-enough (listing b) n (m / 24) z (omega (arith, z, fewer-listed c))
+      room-enough (listing b) n (r / 24) z (omega (arith, z, few-listed (c .is)))
 
 -- what is answered tells what is written
-module _ (w : ℕ) (put : Entry → List ℕ) (es : List Entry) (out : List ℕ) {r : Listed} {k j : ℕ} where
-  pub answer-written : r ≡ Entries k j → {out′ : List ℕ} → out′ ≡ each put es ++ drop (w * length es) out → out′ ≡ writtenBy w put r es out
+module _ (es : List Entry) (out : List ℕ) {r : Listed} {k j : ℕ} where
+  pub answer-written : r ≡ Entries k j → {out′ : List ℕ} → out′ ≡ listingBytes es ++ drop (24 * length es) out → out′ ≡ writtenBy r es out
   answer-written f h = h ∙ rw f
 
-  pub answer-unwritten : r ≡ Refused k j → out ≡ writtenBy w put r es out
+  pub answer-unwritten : r ≡ Refused k j → out ≡ writtenBy r es out
   answer-unwritten f = rw f
 
 pub ruleset rooms = (room-for-all, all-listed, room-short, room-enough, room-for, answer-written, answer-unwritten)
 
-was-accepted : (x : reader.Answer) {n : ℕ} → Accepted n ≡ answerOf x → x ≡ accept n
-was-accepted (refuse r p) e = absurd (let z : _≡_ {A = ℕ} 0 1 = cc in omega arith)
-was-accepted (accept m) e = cc
+module _ (m : Limits) (b out : List ℕ) {a : Answer} (e : a ≡ answerOf (read m Message b)) where
+  pub list-refused : {r p : ℕ} → a ≡ answers.Refused r p → Refused r p ≡ listOf m b out
+  unfolding listOf
+  list-refused f = rw (refused m Message b e f)
 
-was-refused : (x : reader.Answer) {r p : ℕ} → answers.Refused r p ≡ answerOf x → x ≡ refuse r p
-was-refused (refuse r p) e = cc
-was-refused (accept m) e = absurd (let z : _≡_ {A = ℕ} 0 1 = cc in omega arith)
+  pub none-written : {r p : ℕ} → a ≡ answers.Refused r p → out ≡ writtenOf m b out
+  unfolding writtenOf listOf
+  none-written f = rw (refused m Message b e f)
 
--- a message has no more items than bytes
-fewer-than-bytes : {b : List ℕ} {n : ℕ} → Is firstLimits Message b (decode b) n → n ≤ length b
-fewer-than-bytes {b} {n} c = omega (arith, c .count, heads-encode (decode b), ap length (c .bytes))
+  module _ {n : ℕ} (f : a ≡ Accepted n) {r : Listed} (g : r ≡ listedOf (accept n) (listing b) (length out / 24)) where
+    pub list-accepted : r ≡ listOf m b out
+    unfolding listOf
+    list-accepted = rw (accepted m Message b e f) g
 
-module _ (b : List ℕ) {a : Answer} (e : a ≡ answerOf (read firstLimits Message b)) where
-  pub accepted : {n : ℕ} → a ≡ Accepted n → read firstLimits Message b ≡ accept n
-  accepted f = was-accepted (read firstLimits Message b) (sym f ∙ e)
+    pub list-written : {out′ : List ℕ} → out′ ≡ writtenBy r (listing b) out → out′ ≡ writtenOf m b out
+    unfolding writtenOf
+    list-written h = h ∙ rw list-accepted
 
-  pub refused : {r p : ℕ} → a ≡ answers.Refused r p → read firstLimits Message b ≡ refuse r p
-  refused f = was-refused (read firstLimits Message b) (sym f ∙ e)
-
-  pub tabled : {t t′ : List ℕ} → Kept Message b a t t′ → length t′ ≡ length t → ((i : ℕ) → Fits w8 (getD b i 0)) → min 1024 (length b) ≤ length t → {n : ℕ} → a ≡ Accepted n → Tabled b n t′
-  tabled {t} y l bytes room {n} f =
-      let bs : all isByte b ≡ true = all-bytes b bytes in
-      let c : Is firstLimits Message b (decode b) n = demand-two firstLimits Message b n bs .0 (accepted f) in
-      let kept = rw f at y in
-      let few : n ≤ length t = omega (arith, room, c .few, fewer-than-bytes c) in
-      record { is = c; room = omega (arith, few, l); kept = λ k h. entry-is Message b k t noSpot c few (kept .kept) h }
-
-  module _ (out : List ℕ) (w : ℕ) where
-    pub list-refused : {r p : ℕ} → a ≡ answers.Refused r p → Refused r p ≡ listIn w firstLimits b out
-    unfolding listIn
-    list-refused f = rw (refused f)
-
-    pub none-written : (put : Entry → List ℕ) {r p : ℕ} → a ≡ answers.Refused r p → out ≡ writtenIn w put firstLimits b out
-    unfolding writtenIn listIn
-    none-written put f = rw (refused f)
-
-    module _ {n : ℕ} (f : a ≡ Accepted n) {r : Listed} (g : r ≡ listedOf (accept n) (listing b) (length out / w)) where
-      pub list-accepted : r ≡ listIn w firstLimits b out
-      unfolding listIn
-      list-accepted = rw (accepted f) g
-
-      pub list-written : (put : Entry → List ℕ) {out′ : List ℕ} → out′ ≡ writtenBy w put r (listing b) out → out′ ≡ writtenIn w put firstLimits b out
-      unfolding writtenIn
-      list-written put h = h ∙ rw list-accepted
-
-  module _ (t : List ℕ) (s : ℕ) where
-    pub release-refused : {r p : ℕ} → a ≡ answers.Refused r p → Release.refused r p ≡ releaseBytes firstLimits b t s
-    unfolding releaseBytes
-    release-refused f = rw (refused f)
-
-    module _ {n : ℕ} (f : a ≡ Accepted n) where
-      pub release-ragged : (length t % 16 ≡ 0 → ⊥) → Release.refused 18 (length t / 16) ≡ releaseBytes firstLimits b t s
-      unfolding releaseBytes
-      release-ragged h = rw (accepted f, ne-eqb (length t % 16) 0 h)
-
-      pub release-judged : length t % 16 ≡ 0 → {x : Release} → x ≡ judgeFrom (granted (rows t) s) 0 (listing b) → x ≡ releaseBytes firstLimits b t s
-      unfolding releaseBytes release
-      release-judged h g = rw (accepted f, eq-eqb (length t % 16) 0 h) g
-
-pub ruleset outcomes = (list-refused, none-written, list-accepted, list-written, release-refused, release-ragged, release-judged)
+pub ruleset outcomes = (list-refused, none-written, list-accepted, list-written)

@@ -9,7 +9,7 @@ use borrow.Author.Tests.{le-leb, lt-leb}
 use Rattle.cbor.specs.Byte.{be}
 use Rattle.cbor.proofs.ByteLaws.{length-be, be-join}
 use Rattle.buffer.proofs.Putting.{sets-append}
-use Rattle.listing.specs.Answers.{wordPut}
+use Rattle.listing.specs.Codes.{wordPut}
 
 module _ (o : List ℕ) (at : ℕ) where
   pub pair-stored : (x y : ℕ) → set (set o at x) (at + 1) y ≡ sets o at (x ∷ y ∷ [])

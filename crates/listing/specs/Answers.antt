@@ -1,68 +1,30 @@
--- The listing as it is handed over, and release: document 01's numbers and values for each case of the enums.
-use Prim.Native.Nat.{ℕ, _+_, _*_, _/_}
+-- The listing as it is handed over: R48, R49, R66, R81, R94, R95. Interface: listedOf, listOf, writtenBy, writtenOf.
+use Prim.Native.Nat.{ℕ, _*_, _/_}
 use mathlib.Core.Bool.{cond}
-use mathlib.Core.List.{List, [], _∷_, _++_}
+use mathlib.Core.List.{List, _++_}
 use lib.ListN.{length, drop}
-use lib.Seq.{sets}
-use lib.Dec.{ltb, leb}
-use Rattle.cbor.specs.Byte.{be}
+use lib.Dec.{ltb}
 use Rattle.ari.specs.declared.Limits.{Limits}
 use Rattle.ari.specs.declared.Input.the-variants.{Message}
 use Rattle.ari.specs.Reader.{refuse, accept, read}
 use Rattle.ari.specs.Reader as reader
 use Rattle.ari.specs.Listing.{Entry, listing}
-use Rattle.grants.specs.Grants.{Release, yes, no}
-use Rattle.grants.specs.Bytes.{kindOf, wordOf, entryBytes}
 use Rattle.listing.specs.declared.Listed.{Listed}
 use Rattle.listing.specs.declared.Listed.the-variants.{Entries, Refused}
-use Rattle.listing.specs.declared.Released.{Released}
-use Rattle.listing.specs.declared.Released.the-variants as released
+use Rattle.listing.specs.Bytes.{listingBytes}
 
--- a number of eight bytes in a room, which stays as it was where it is too short
-unfoldable pub wordPut : List ℕ → ℕ → ℕ → List ℕ
-wordPut o at x = cond (leb (at + 8) (length o)) (sets o at (be 8 x)) o
-
--- entries one behind the other
-abbrev pub each : (Entry → List ℕ) → List Entry → List ℕ
-each f [] = []
-each f (e ∷ es) = f e ++ each f es
-
--- "The listing comes back as bytes, 24 an entry"
-abbrev pub listingBytes : List Entry → List ℕ
-listingBytes = each entryBytes
-
--- The namespaces alone, as words: two an entry, the last two numbers of its bytes.
-abbrev pub entryWords : Entry → List ℕ
-entryWords e = kindOf (e .space) ∷ wordOf (e .space) ∷ []
-
-abbrev pub wordsOf : List Entry → List ℕ
-wordsOf = each entryWords
-
--- "Room counts in whole entries." "Where room is short, 16 gives the number of references and nothing is written"
+-- R95: room counts in whole entries; R81: where it is short, 16 gives the number of references
 abbrev pub listedOf : reader.Answer → List Entry → ℕ → Listed
 listedOf (refuse r p) es room = Refused r p
 listedOf (accept n) es room = cond (ltb room (length es)) (Refused 16 (length es)) (Entries (length es) n)
 
--- an entry takes w places
-unfoldable pub listIn : ℕ → Limits → List ℕ → List ℕ → Listed
-listIn w m b out = listedOf (read m Message b) (listing b) (length out / w)
+unfoldable pub listOf : Limits → List ℕ → List ℕ → Listed
+listOf m b out = listedOf (read m Message b) (listing b) (length out / 24)
 
-abbrev pub listOf : Limits → List ℕ → List ℕ → Listed
-listOf = listIn 24
+-- R48: a refusal leaves the room as it was; R49: an acceptance leaves what is past its answer
+abbrev pub writtenBy : Listed → List Entry → List ℕ → List ℕ
+writtenBy (Refused r p) es out = out
+writtenBy (Entries k n) es out = listingBytes es ++ drop (24 * length es) out
 
--- "A refusal .. leaves all lent memory unchanged. An acceptance leaves room past its answer unchanged."
-abbrev pub writtenBy : ℕ → (Entry → List ℕ) → Listed → List Entry → List ℕ → List ℕ
-writtenBy w f (Refused r p) es out = out
-writtenBy w f (Entries k n) es out = each f es ++ drop (w * length es) out
-
-unfoldable pub writtenIn : ℕ → (Entry → List ℕ) → Limits → List ℕ → List ℕ → List ℕ
-writtenIn w f m b out = writtenBy w f (listIn w m b out) (listing b) out
-
-abbrev pub writtenOf : Limits → List ℕ → List ℕ → List ℕ
-writtenOf = writtenIn 24 entryBytes
-
--- "the message's refusal, or yes, or no with the number of the first listed entry that isn't granted"
-abbrev pub said : Released → Release
-said released.Yes = yes
-said (released.No k) = no k
-said (released.Refused r p) = Release.refused r p
+unfoldable pub writtenOf : Limits → List ℕ → List ℕ → List ℕ
+writtenOf m b out = writtenBy (listOf m b out) (listing b) out

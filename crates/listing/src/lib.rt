@@ -1,4 +1,4 @@
-// The listing of a message, and its release, read off the walk's table and the message's bytes.
+// The listing of a message, read off the item table and the message's bytes.
 ghost use mathlib.Core.Path.{_≡_};
 ghost use mathlib.Core.List.{[], _∷_, _++_};
 ghost use Prim.Native.Nat.{_+_, _*_, _/_, _^_, _<_, _≤_, min};
@@ -6,58 +6,40 @@ ghost use lib.ListN.{length, drop};
 ghost use lib.Seq.{sets};
 ghost use Rattle.cbor.specs.Byte.{be};
 ghost use Rattle.cbor.specs.Answer.{headAt};
+ghost use Rattle.ari.specs.declared.Input.the-variants as input;
 ghost use Rattle.ari.specs.Reader.{accept};
-ghost use Rattle.ari.specs.Limits.{firstLimits};
+ghost use Rattle.ari.specs.Limits.{firstLimits, capped};
 ghost use Rattle.ari.specs.Listing.{listing};
-ghost use Rattle.grants.specs.Grants.{granted, judgeFrom};
-ghost use Rattle.grants.specs.Bytes.{rows, entryBytes, releaseBytes};
-ghost use Rattle.listing.specs.Answers.{wordPut, listingBytes, entryWords, wordsOf, listedOf, listIn, listOf, writtenBy, writtenIn, writtenOf, said};
-ghost use Rattle.listing.specs.Entries.{insideFrom, namespaceOf, Tabled};
+ghost use Rattle.item_table.specs.Entries.{Tabled};
+ghost use Rattle.listing.specs.Bytes.{listingBytes};
+ghost use Rattle.listing.specs.Answers.{listedOf, listOf, writtenBy, writtenOf};
+ghost use Rattle.listing.specs.Entries.{namespaceOf, referenceFrom};
+ghost use Rattle.listing.specs.Codes.{wordPut, kindCode, wordCode, entryCode};
+use ari::Input;
+use ari::Limits;
 use reader::Answer;
 
 // The entries listed with the item count; or the message's own refusal; or 16 with the number of references.
 pub enum Listed {
     Entries { listed: usize, count: usize },
-    Refused { number: u64, place: usize },
+    Refused { number: u8, place: usize },
 }
 
-// Yes; no with the number of the first listed entry that is not granted; the message's own refusal, or 18 with the number of whole rows.
-pub enum Released {
-    Yes,
-    No(usize),
-    Refused { number: u64, place: usize },
+// A namespace: a number in two's complement; a name, by the place of its head and its length; relative.
+pub enum Namespace {
+    Number(u64),
+    Name { place: usize, length: u64 },
+    Relative,
 }
 
-// Where the members of a reference begin. What is no reference has none.
-enum Inside {
+// What a word of the item table stands for: no reference; or one, with its ends and its namespace.
+pub enum Reference {
     Nothing,
-    At(usize),
-}
-
-// A namespace as an entry's two last numbers.
-struct Namespace {
-    kind: u64,
-    word: u64,
-}
-
-// The item of an entry of the table: an array of length 1, 3 or 4 where an ARI or an object reference is due.
-fn inside_at(s: &[u8], entry: u64) -> Inside
-    ensures { λ r. ⌜ r ≡ insideFrom (now (s .entry)) entry ⌝ }
-{
-    if !grammar::asks(entry / 1099511627776 % 256) {
-        return Inside::Nothing;
-    }
-    let h = cbor::head_again(s, (entry % 65536) as usize);
-    let cbor::Head::Good { kind, arg, next } = h else {
-        return Inside::Nothing;
-    };
-    if kind != 4 {
-        return Inside::Nothing;
-    }
-    if arg == 2 {
-        return Inside::Nothing;
-    }
-    Inside::At(next)
+    To {
+        first: usize,
+        after: usize,
+        namespace: Namespace,
+    },
 }
 
 // The namespace whose head stands at a place.
@@ -66,35 +48,56 @@ fn namespace_at(s: &[u8], at: usize) -> Namespace
 {
     let h = cbor::head_again(s, at);
     let cbor::Head::Good { kind, arg, next: _ } = h else {
-        return Namespace { kind: 2, word: 0 };
+        return Namespace::Relative;
     };
     match kind {
-        0 => Namespace { kind: 0, word: arg },
-        1 => Namespace {
-            kind: 0,
-            word: 18446744073709551615 - arg,
+        0 => Namespace::Number(arg),
+        1 => Namespace::Number(18446744073709551615 - arg),
+        3 => Namespace::Name {
+            place: at,
+            length: arg,
         },
-        3 => Namespace {
-            kind: 1,
-            word: at as u64,
-        },
-        _ => Namespace { kind: 2, word: 0 },
+        _ => Namespace::Relative,
+    }
+}
+
+// The reference that a word of the item table stands for.
+pub fn reference_at(s: &[u8], entry: u64) -> Reference
+    ensures { λ r. ⌜ r ≡ referenceFrom (now (s .entry)) entry ⌝ }
+{
+    let x = item_table::item_of(entry);
+    let h = cbor::head_again(s, x.first);
+    let cbor::Head::Good { kind, arg, next } = h else {
+        return Reference::Nothing;
+    };
+    if !item_table::is_reference(x.slot, kind, arg) {
+        return Reference::Nothing;
+    }
+    let namespace = namespace_at(s, next);
+    Reference::To {
+        first: x.first,
+        after: x.after,
+        namespace,
     }
 }
 
 // How many references the items of a table are.
-fn count_references(s: &[u8], count: usize, table: &[u64]) -> usize
-    requires { ⌜ Tabled (now s) count (now table) ⌝ }
+fn count_references(s: &[u8], limits: Limits, count: usize, entries: &[u64]) -> usize
+    requires { ⌜ Tabled limits input.Message (now s) count (now entries) ⌝ }
     ensures { λ r. ⌜ r ≡ length (listing (now (s .entry))) ⌝ }
 {
     let mut listed = 0;
     let mut k = 0;
     while k < count {
-        let inside = inside_at(s, table[k]);
+        let r = reference_at(s, entries[k]);
         k += 1;
-        match inside {
-            Inside::Nothing => {}
-            Inside::At(_) => listed += 1,
+        match r {
+            Reference::Nothing => {}
+            Reference::To {
+                first: _,
+                after: _,
+                namespace: _,
+            } => listed += 1,
         }
     }
     listed
@@ -138,8 +141,31 @@ pub fn put_word(out: &mut [u8], at: usize, x: u64)
     put8(out, at, x);
 }
 
-// The 24 bytes of an entry; its two ends are one number.
-fn put_entry(out: &mut [u8], at: usize, ends: u64, kind: u64, word: u64)
+// A namespace's two numbers in an entry.
+fn kind_code(n: Namespace) -> u64
+    ensures { λ r. ⌜ r ≡ kindCode n ⌝ }
+{
+    match n {
+        Namespace::Number(_) => 0,
+        Namespace::Name {
+            place: _,
+            length: _,
+        } => 1,
+        Namespace::Relative => 2,
+    }
+}
+
+fn word_code(n: Namespace) -> u64
+    ensures { λ r. ⌜ r ≡ wordCode n ⌝ }
+{
+    match n {
+        Namespace::Number(word) => word,
+        Namespace::Name { place, length: _ } => place as u64,
+        Namespace::Relative => 0,
+    }
+}
+
+fn put_numbers(out: &mut [u8], at: usize, ends: u64, kind: u64, word: u64)
     requires { ⌜ at + 24 ≤ length (now out) ⌝ }
     ensures { λ _. ⌜ now (out .exit) ≡ sets (now (out .entry)) at (be 8 ends ++ (be 8 kind ++ be 8 word)) ⌝ }
 {
@@ -148,9 +174,18 @@ fn put_entry(out: &mut [u8], at: usize, ends: u64, kind: u64, word: u64)
     put8(out, at + 16, word);
 }
 
+// The 24 bytes of an entry; its two ends are one number.
+fn put_entry(out: &mut [u8], at: usize, first: usize, after: usize, namespace: Namespace)
+    requires { ⌜ (at + 24 ≤ length (now out)) × (first < 65536) × (after < 65536) ⌝ }
+    ensures { λ _. ⌜ now (out .exit) ≡ sets (now (out .entry)) at (entryCode first after namespace) ⌝ }
+{
+    let ends = first as u64 * 4294967296 + after as u64;
+    put_numbers(out, at, ends, kind_code(namespace), word_code(namespace));
+}
+
 // The entries of a table's references, where there is room for them, and the place behind them.
-fn write_entries(s: &[u8], count: usize, table: &[u64], out: &mut [u8]) -> usize
-    requires { ⌜ Tabled (now s) count (now table) ⌝ }
+fn write_entries(s: &[u8], limits: Limits, count: usize, entries: &[u64], out: &mut [u8]) -> usize
+    requires { ⌜ Tabled limits input.Message (now s) count (now entries) ⌝ }
     requires { ⌜ 24 * length (listing (now s)) ≤ length (now out) ⌝ }
     ensures { λ r. ⌜ r ≡ 24 * length (listing (now (s .entry))) ⌝ }
     ensures { λ _. ⌜ now (out .exit) ≡ listingBytes (listing (now (s .entry))) ++ drop (24 * length (listing (now (s .entry)))) (now (out .entry)) ⌝ }
@@ -158,20 +193,16 @@ fn write_entries(s: &[u8], count: usize, table: &[u64], out: &mut [u8]) -> usize
     let mut at = 0;
     let mut k = 0;
     while k < count {
-        let entry = table[k];
-        let inside = inside_at(s, entry);
+        let r = reference_at(s, entries[k]);
         k += 1;
-        match inside {
-            Inside::Nothing => {}
-            Inside::At(next) => {
-                let n = namespace_at(s, next);
-                put_entry(
-                    out,
-                    at,
-                    entry % 65536 * 4294967296 + entry / 65536 % 65536,
-                    n.kind,
-                    n.word,
-                );
+        match r {
+            Reference::Nothing => {}
+            Reference::To {
+                first,
+                after,
+                namespace,
+            } => {
+                put_entry(out, at, first, after, namespace);
                 at += 24;
             }
         }
@@ -180,11 +211,11 @@ fn write_entries(s: &[u8], count: usize, table: &[u64], out: &mut [u8]) -> usize
 }
 
 // What a table's message answers where there is room for so many entries.
-fn answer_in(s: &[u8], count: usize, table: &[u64], room: usize) -> Listed
-    requires { ⌜ Tabled (now s) count (now table) ⌝ }
+fn answer_in(s: &[u8], limits: Limits, count: usize, entries: &[u64], room: usize) -> Listed
+    requires { ⌜ Tabled limits input.Message (now s) count (now entries) ⌝ }
     ensures { λ r. ⌜ r ≡ listedOf (accept count) (listing (now (s .entry))) room ⌝ }
 {
-    let listed = count_references(s, count, table);
+    let listed = count_references(s, limits, count, entries);
     if room < listed {
         return Listed::Refused {
             number: 16,
@@ -194,199 +225,67 @@ fn answer_in(s: &[u8], count: usize, table: &[u64], room: usize) -> Listed
     Listed::Entries { listed, count }
 }
 
-fn list_table(s: &[u8], count: usize, table: &[u64], out: &mut [u8]) -> Listed
-    requires { ⌜ Tabled (now s) count (now table) ⌝ }
+fn list_table(s: &[u8], limits: Limits, count: usize, entries: &[u64], out: &mut [u8]) -> Listed
+    requires { ⌜ Tabled limits input.Message (now s) count (now entries) ⌝ }
     ensures { λ r. ⌜ r ≡ listedOf (accept count) (listing (now (s .entry))) (length (now (out .entry)) / 24) ⌝ }
-    ensures { λ r. ⌜ now (out .exit) ≡ writtenBy 24 entryBytes r (listing (now (s .entry))) (now (out .entry)) ⌝ }
+    ensures { λ r. ⌜ now (out .exit) ≡ writtenBy r (listing (now (s .entry))) (now (out .entry)) ⌝ }
 {
     if count <= out.len() / 24 {
         // room for every item: the references need not be counted before
-        let end = write_entries(s, count, table, out);
+        let end = write_entries(s, limits, count, entries, out);
         return Listed::Entries {
             listed: end / 24,
             count,
         };
     }
-    let r = answer_in(s, count, table, out.len() / 24);
+    let r = answer_in(s, limits, count, entries, out.len() / 24);
     if let Listed::Entries {
         listed: _,
         count: _,
     } = r {
-        write_entries(s, count, table, out);
+        write_entries(s, limits, count, entries, out);
     }
     r
 }
 
-fn list_in(s: &[u8], out: &mut [u8], table: &mut [u64]) -> Listed
-    requires { ⌜ min 1024 (length (now s)) ≤ length (now table) ⌝ }
-    ensures { λ r. ⌜ r ≡ listOf firstLimits (now (s .entry)) (now (out .entry)) ⌝ }
-    ensures { λ r. ⌜ now (out .exit) ≡ writtenOf firstLimits (now (s .entry)) (now (out .entry)) ⌝ }
+fn list_in(s: &[u8], limits: Limits, out: &mut [u8], entries: &mut [u64]) -> Listed
+    requires { ⌜ (min (limits .items) (length (now s)) ≤ length (now entries)) × (limits .bytes < 65536) × (limits .containers < 256) ⌝ }
+    ensures { λ r. ⌜ r ≡ listOf limits (now (s .entry)) (now (out .entry)) ⌝ }
+    ensures { λ r. ⌜ now (out .exit) ≡ writtenOf limits (now (s .entry)) (now (out .entry)) ⌝ }
 {
-    match reader::keep_message(s, table) {
+    match reader::keep(Input::Message, limits, s, entries) {
         Answer::Refused { number, place } => Listed::Refused { number, place },
-        Answer::Accepted(count) => list_table(s, count, table, out),
+        Answer::Accepted(count) => list_table(s, limits, count, entries, out),
     }
 }
 
 // A message has no more items than bytes: a table of 128 serves a small one, and is cleared in a fraction of the time.
-fn list_small(s: &[u8], out: &mut [u8]) -> Listed
-    requires { ⌜ length (now s) ≤ 128 ⌝ }
-    ensures { λ r. ⌜ r ≡ listOf firstLimits (now (s .entry)) (now (out .entry)) ⌝ }
-    ensures { λ r. ⌜ now (out .exit) ≡ writtenOf firstLimits (now (s .entry)) (now (out .entry)) ⌝ }
+fn list_small(s: &[u8], limits: Limits, out: &mut [u8]) -> Listed
+    requires { ⌜ (length (now s) ≤ 128) × (limits .bytes < 65536) × (limits .containers < 256) ⌝ }
+    ensures { λ r. ⌜ r ≡ listOf limits (now (s .entry)) (now (out .entry)) ⌝ }
+    ensures { λ r. ⌜ now (out .exit) ≡ writtenOf limits (now (s .entry)) (now (out .entry)) ⌝ }
 {
-    let mut table = [0u64; 128];
-    list_in(s, out, &mut table)
+    let mut entries = [0u64; 128];
+    list_in(s, limits, out, &mut entries)
 }
 
-// The listing of a message, in the lent room.
+// The listing of a message within these limits, none above the gate's own, in the lent room.
+pub fn list_within(limits: Limits, s: &[u8], out: &mut [u8]) -> Listed
+    ensures { λ r. ⌜ r ≡ listOf (capped limits) (now (s .entry)) (now (out .entry)) ⌝ }
+    ensures { λ r. ⌜ now (out .exit) ≡ writtenOf (capped limits) (now (s .entry)) (now (out .entry)) ⌝ }
+{
+    let most = ari::cap(limits);
+    if s.len() <= 128 {
+        return list_small(s, most, out);
+    }
+    let mut entries = [0u64; ari::ITEMS];
+    list_in(s, most, out, &mut entries)
+}
+
+// The listing of a message.
 pub fn list_message(s: &[u8], out: &mut [u8]) -> Listed
     ensures { λ r. ⌜ r ≡ listOf firstLimits (now (s .entry)) (now (out .entry)) ⌝ }
     ensures { λ r. ⌜ now (out .exit) ≡ writtenOf firstLimits (now (s .entry)) (now (out .entry)) ⌝ }
 {
-    if s.len() <= 128 {
-        return list_small(s, out);
-    }
-    let mut table = [0u64; reader::ITEMS];
-    list_in(s, out, &mut table)
-}
-
-// The two words of an entry.
-fn put_words(out: &mut [u64], at: usize, kind: u64, word: u64)
-    requires { ⌜ at + 2 ≤ length (now out) ⌝ }
-    ensures { λ _. ⌜ now (out .exit) ≡ sets (now (out .entry)) at (kind ∷ word ∷ []) ⌝ }
-{
-    out[at] = kind;
-    out[at + 1] = word;
-}
-
-// The same as `write_entries`, of the namespaces alone.
-fn write_words(s: &[u8], count: usize, table: &[u64], out: &mut [u64])
-    requires { ⌜ Tabled (now s) count (now table) ⌝ }
-    requires { ⌜ 2 * length (listing (now s)) ≤ length (now out) ⌝ }
-    ensures { λ _. ⌜ now (out .exit) ≡ wordsOf (listing (now (s .entry))) ++ drop (2 * length (listing (now (s .entry)))) (now (out .entry)) ⌝ }
-{
-    let mut at = 0;
-    let mut k = 0;
-    while k < count {
-        let inside = inside_at(s, table[k]);
-        k += 1;
-        match inside {
-            Inside::Nothing => {}
-            Inside::At(next) => {
-                let n = namespace_at(s, next);
-                put_words(out, at, n.kind, n.word);
-                at += 2;
-            }
-        }
-    }
-}
-
-fn words_table(s: &[u8], count: usize, table: &[u64], out: &mut [u64]) -> Listed
-    requires { ⌜ Tabled (now s) count (now table) ⌝ }
-    ensures { λ r. ⌜ r ≡ listedOf (accept count) (listing (now (s .entry))) (length (now (out .entry)) / 2) ⌝ }
-    ensures { λ r. ⌜ now (out .exit) ≡ writtenBy 2 entryWords r (listing (now (s .entry))) (now (out .entry)) ⌝ }
-{
-    let r = answer_in(s, count, table, out.len() / 2);
-    if let Listed::Entries {
-        listed: _,
-        count: _,
-    } = r {
-        write_words(s, count, table, out);
-    }
-    r
-}
-
-fn words_in(s: &[u8], out: &mut [u64], table: &mut [u64]) -> Listed
-    requires { ⌜ min 1024 (length (now s)) ≤ length (now table) ⌝ }
-    ensures { λ r. ⌜ r ≡ listIn 2 firstLimits (now (s .entry)) (now (out .entry)) ⌝ }
-    ensures { λ r. ⌜ now (out .exit) ≡ writtenIn 2 entryWords firstLimits (now (s .entry)) (now (out .entry)) ⌝ }
-{
-    match reader::keep_message(s, table) {
-        Answer::Refused { number, place } => Listed::Refused { number, place },
-        Answer::Accepted(count) => words_table(s, count, table, out),
-    }
-}
-
-// The namespaces of a message's listing, two words each in the lent room.
-pub fn list_words(s: &[u8], out: &mut [u64]) -> Listed
-    ensures { λ r. ⌜ r ≡ listIn 2 firstLimits (now (s .entry)) (now (out .entry)) ⌝ }
-    ensures { λ r. ⌜ now (out .exit) ≡ writtenIn 2 entryWords firstLimits (now (s .entry)) (now (out .entry)) ⌝ }
-{
-    let mut table = [0u64; reader::ITEMS];
-    words_in(s, out, &mut table)
-}
-
-// Entries by rows. The search is left at the first entry that no row grants: a number to the subscriber, a name or a relative one to nobody.
-fn release_table(s: &[u8], count: usize, table: &[u64], t: &[u8], subscriber: u64) -> Released
-    requires { ⌜ Tabled (now s) count (now table) ⌝ }
-    ensures { λ r. ⌜ said r ≡ judgeFrom (granted (rows (now (t .entry))) subscriber) 0 (listing (now (s .entry))) ⌝ }
-{
-    let mut entry = 0;
-    let mut k = 0;
-    'entries: while k < count {
-        let inside = inside_at(s, table[k]);
-        match inside {
-            Inside::Nothing => k += 1,
-            Inside::At(next) => {
-                let n = namespace_at(s, next);
-                if n.kind != 0 {
-                    break 'entries;
-                }
-                let word = n.word;
-                let mut at = 0;
-                'rows: loop {
-                    if t.len() - at < 16 {
-                        break 'entries;
-                    }
-                    if grants::holds_at(t, at, subscriber, word) {
-                        break 'rows;
-                    }
-                    at += 16;
-                }
-                entry += 1;
-                k += 1;
-            }
-        }
-    }
-    if k < count {
-        return Released::No(entry);
-    }
-    Released::Yes
-}
-
-fn release_in(s: &[u8], t: &[u8], subscriber: u64, table: &mut [u64]) -> Released
-    requires { ⌜ min 1024 (length (now s)) ≤ length (now table) ⌝ }
-    ensures { λ r. ⌜ said r ≡ releaseBytes firstLimits (now (s .entry)) (now (t .entry)) subscriber ⌝ }
-{
-    match reader::keep_message(s, table) {
-        Answer::Refused { number, place } => Released::Refused { number, place },
-        Answer::Accepted(count) => {
-            if t.len() % 16 != 0 {
-                return Released::Refused {
-                    number: 18,
-                    place: t.len() / 16,
-                };
-            }
-            release_table(s, count, table, t, subscriber)
-        }
-    }
-}
-
-fn release_small(s: &[u8], t: &[u8], subscriber: u64) -> Released
-    requires { ⌜ length (now s) ≤ 128 ⌝ }
-    ensures { λ r. ⌜ said r ≡ releaseBytes firstLimits (now (s .entry)) (now (t .entry)) subscriber ⌝ }
-{
-    let mut table = [0u64; 128];
-    release_in(s, t, subscriber, &mut table)
-}
-
-// Whether a message is released to a subscriber under a grant table as bytes.
-pub fn release(s: &[u8], t: &[u8], subscriber: u64) -> Released
-    ensures { λ r. ⌜ said r ≡ releaseBytes firstLimits (now (s .entry)) (now (t .entry)) subscriber ⌝ }
-{
-    if s.len() <= 128 {
-        return release_small(s, t, subscriber);
-    }
-    let mut table = [0u64; reader::ITEMS];
-    release_in(s, t, subscriber, &mut table)
+    list_within(ari::LIMITS, s, out)
 }

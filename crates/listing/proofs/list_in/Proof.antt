@@ -1,5 +1,6 @@
 -- `listing::list_in` meets its contract: the message's refusal, or the table's listing.
-use Rattle.listing.proofs.Outcome.{tabled, outcomes}
+use Rattle.reader.proofs.Kept.{tabled}
+use Rattle.listing.proofs.Outcome.{outcomes}
 use borrow.Author.Needs.{needs}
 use Rattle.listing.proofs.list_in.Statement.{statement}
 use Rattle.listing.proofs.list_in.Tie as tie

@@ -9,12 +9,12 @@ list-table-spec =
     tie.close
     (tie.spec
     (λ c κs. search (rooms, needs))
-    (λ c. search needs)
     (λ c. search (rooms, needs))
-    (λ c κs. search needs)
-    (λ c. search needs)
+    (λ c. search (rooms, needs))
     (λ c κs. search (rooms, needs))
-    (λ c. search needs)
-    (λ c. search needs)
     (λ c. search (rooms, needs))
-    (λ c. search needs))
+    (λ c κs. search (rooms, needs))
+    (λ c. search (rooms, needs))
+    (λ c. search (rooms, needs))
+    (λ c. search (rooms, needs))
+    (λ c. search (rooms, needs)))

@@ -1,24 +1,16 @@
--- `listing::put_entry` meets its contract: three numbers one behind the other.
-use Rattle.listing.proofs.Stored.{entry-stored}
+-- `listing::put_entry` meets its contract: its ends as one number, its namespace as two.
 use borrow.Author.Needs.{needs}
 use Rattle.listing.proofs.put_entry.Statement.{statement}
 use Rattle.listing.proofs.put_entry.Tie as tie
-
-returns : tie.Need-returns
-returns c =
-    let second = c .before .before .before .before .before .before in
-    let first = second .before .before .before .before in
-    let a = first .before .before .before .args in
-    entry-stored (a .out .now) (a .at) (a .ends) (a .kind) (a .word) (first .put8 .ensures) (second .put82 .ensures) (c .before .before .put83 .ensures)
 
 pub put-entry-spec : {M : Type 1} → statement M
 put-entry-spec =
     tie.close
     (tie.spec
-    (λ c κs. search needs)
+    (λ c. search needs)
     (λ c. search needs)
     (λ c κs. search needs)
-    (λ c. search needs)
+    (λ c κs. search needs)
     (λ c κs. search needs)
     (λ c. search needs)
-    returns)
+    (λ c. cc))

@@ -10,7 +10,8 @@ use Rattle.cbor.specs.Answer.{headAt}
 use Rattle.ari.specs.Listing.{Space, number, name, relative, listing}
 use Rattle.ari.proofs.Named.{InRange}
 use Rattle.grants.specs.Grants.{Grant, some, holds, granted, yes, no, judgeFrom}
-use Rattle.grants.specs.Bytes.{word, signed, rowOf, holdsAt, rows}
+use Rattle.ari.specs.Signed.{word, signed}
+use Rattle.grants.specs.Bytes.{rowOf, holdsAt, rows}
 use Rattle.grants.proofs.Signed.{signed-word}
 use Rattle.grants.proofs.Ways.{row-holds, some-end, some-here, some-behind}
 use Rattle.listing.specs.declared.Inside.{Inside}
