@@ -1,17 +1,12 @@
--- The table and the listing as bytes: document 01, 'Grants'.
-use Prim.Native.Nat.{ℕ, zero, suc, _+_, _-_, _/_, _%_}
+-- The grant table as bytes: R93, R96. Interface: wordAt, rowOf, holdsAt, rows, ragged, checkBytes.
+use Prim.Native.Nat.{ℕ, zero, suc, _+_, _/_, _%_}
 use mathlib.Core.Bool.{Bool, not, _&&_, cond}
-use mathlib.Core.List.{List, [], _∷_, _++_}
+use mathlib.Core.List.{List, [], _∷_}
 use lib.ListN.{length, take, drop}
-use lib.IntN.{ℤ, pos, negsuc}
 use lib.Dec.{leb, eqb}
-use Rattle.cbor.specs.Byte.{be, value}
-use Rattle.ari.specs.Table.{max63, max64}
-use Rattle.ari.specs.declared.Limits.{Limits}
-use Rattle.ari.specs.declared.Input.the-variants.{Message}
-use Rattle.ari.specs.Reader.{Answer, refuse, accept, read}
-use Rattle.ari.specs.Listing.{Space, number, name, relative, Entry}
-use Rattle.grants.specs.Grants.{Grant, holds, Check, refused, check, Release, release}
+use Rattle.cbor.specs.Byte.{value}
+use Rattle.ari.specs.Signed.{signed}
+use Rattle.grants.specs.Grants.{Grant, holds, Check, refused, check}
 
 -- the number of the eight bytes from a place on; 0 where there are not so many
 unfoldable pub wordAt : List ℕ → ℕ → ℕ

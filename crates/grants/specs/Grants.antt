@@ -1,13 +1,10 @@
--- The grant table, its check, and release: document 01, 'Grants'.
+-- The grant table and its check: R83 to R85, R87, R88. Interface: Grant, clash, Check, check, holds, granted.
 use Prim.Native.Nat.{ℕ, suc}
 use mathlib.Core.Bool.{Bool, true, false, not, _&&_, _||_, cond}
 use mathlib.Core.List.{List, [], _∷_, _++_}
 use lib.IntN.{ℤ, pos, negsuc}
 use lib.Dec.{eqb}
-use Rattle.ari.specs.declared.Limits.{Limits}
-use Rattle.ari.specs.declared.Input.the-variants.{Message}
-use Rattle.ari.specs.Reader.{Answer, refuse, accept, read}
-use Rattle.ari.specs.Listing.{Space, number, name, relative, Entry, listing}
+use Rattle.ari.specs.Listing.{Space, number, name, relative}
 
 -- "a lent list of grant records, each a subscriber and a namespace number, of any length, in any order"
 pub record Grant : Type 0 where

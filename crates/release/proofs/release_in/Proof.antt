@@ -1,8 +1,9 @@
--- `listing::release_in` meets its contract: the message's refusal, 18, or what the search says.
-use Rattle.listing.proofs.Outcome.{tabled, outcomes}
+-- `release::release_in` meets its contract: the message's refusal, 18, or what the search says.
+use Rattle.release.proofs.Search.{outcomes}
+use Rattle.reader.proofs.Kept.{tabled}
 use borrow.Author.Needs.{needs}
-use Rattle.listing.proofs.release_in.Statement.{statement}
-use Rattle.listing.proofs.release_in.Tie as tie
+use Rattle.release.proofs.release_in.Statement.{statement}
+use Rattle.release.proofs.release_in.Tie as tie
 
 pub release-in-spec : {M : Type 1} → statement M
 release-in-spec =

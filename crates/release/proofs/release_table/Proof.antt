@@ -1,25 +1,25 @@
--- `listing::release_table` meets its contract: of the rows' loop, no row before `at` grants this entry; of the entries' loop, those before item k are granted.
-use Rattle.listing.proofs.Search.{Passed, Searched, all-passed, no-number, no-row, a-row, searches}
+-- `release::release_table` meets its contract: of the rows' loop, no row before `at` grants this entry; of the entries' loop, those before item k are granted.
+use Rattle.release.proofs.Search.{Passed, Searched, all-passed, no-number, no-row, a-row, searches}
 use mathlib.Core.Logic.{⊎-elim}
 use native.Mathlib.Omega.{arith}
 use borrow.Author.Needs.{needs}
 use Prim.Native.Nat.{_-_, _<_, _≤_}
 use lib.ListN.{length}
-use Rattle.listing.proofs.release_table.Statement.{statement}
-use Rattle.listing.proofs.release_table.Tie as tie
+use Rattle.release.proofs.release_table.Statement.{statement}
+use Rattle.release.proofs.release_table.Tie as tie
 
 abbrev Inv-rows : tie.InvT-rows
-Inv-rows s count table t subscriber entry k next word at₀ at =
-    (k < count) × (entry ≤ k) × (at ≤ length t) × Searched s t subscriber entry k word at
+Inv-rows s count entries grants subscriber entry k word at₀ at =
+    (k < count) × (entry ≤ k) × (at ≤ length grants) × Searched s grants subscriber entry k word at
 
 abbrev μ-rows : tie.MeasureT-rows
-μ-rows s count table t subscriber entry k next word at₀ at = length t - at
+μ-rows s count entries grants subscriber entry k word at₀ at = length grants - at
 
 abbrev Inv-entries : tie.InvT-entries
-Inv-entries s count table t subscriber entry₀ k₀ entry k = (k ≤ count) × (entry ≤ k) × Passed s t subscriber entry k
+Inv-entries s count entries grants subscriber entry₀ k₀ entry k = (k ≤ count) × (entry ≤ k) × Passed s grants subscriber entry k
 
 abbrev μ-entries : tie.MeasureT-entries
-μ-entries s count table t subscriber entry₀ k₀ entry k = count - k
+μ-entries s count entries grants subscriber entry₀ k₀ entry k = count - k
 
 entries-again-2 : tie.Need-entries-again-2 Inv-rows μ-rows Inv-entries μ-entries
 entries-again-2 c = (

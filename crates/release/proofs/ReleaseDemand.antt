@@ -23,11 +23,14 @@ use Rattle.ari.specs.Listing.{Space, number, Entry}
 use Rattle.ari.specs.References.{Placed, references, entryFor}
 use Rattle.ari.proofs.Demand.{demand-two, is-read}
 use Rattle.ari.proofs.Listed.{listing-is, each-is-listed}
-use Rattle.grants.specs.Grants.{Grant, passes, check, Release, refused, yes, no, release}
-use Rattle.grants.specs.Bytes.{rows, ragged, checkBytes, releaseBytes}
-use Rattle.grants.proofs.Judged.{Row, Granted, FirstHeld}
-use Rattle.grants.proofs.Clause.{released-exactly-if, held-exactly-if, refused-exactly-if, only-own-rows, whole-rows, passing-bytes}
-use Rattle.grants.proofs.Clause as clause
+use Rattle.grants.specs.Grants.{Grant, passes, check}
+use Rattle.release.specs.Release.{Release, refused, yes, no, release}
+use Rattle.grants.specs.Bytes.{rows, ragged, checkBytes}
+use Rattle.release.specs.Release.{releaseBytes}
+use Rattle.grants.proofs.Grants.{Row, Granted}
+use Rattle.release.proofs.Judged.{FirstHeld}
+use Rattle.release.proofs.Clause.{released-exactly-if, held-exactly-if, refused-exactly-if, only-own-rows, whole-rows, passing-bytes}
+use Rattle.release.proofs.Clause as clause
 
 -- a reference's namespace
 abbrev pub namespaceOf : Placed → Space

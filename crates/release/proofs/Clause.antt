@@ -12,10 +12,13 @@ use Rattle.ari.specs.declared.Limits.{Limits}
 use Rattle.ari.specs.declared.Input.the-variants.{Message}
 use Rattle.ari.specs.Reader.{Answer, refuse, accept, read}
 use Rattle.ari.specs.Listing.{Space, number, name, relative, Entry, listing}
-use Rattle.grants.specs.Grants.{Grant, Check, passes, check, granted, Release, yes, no, judgeFrom, judge, release}
-use Rattle.grants.specs.Bytes.{rows, ragged, checkBytes, whole, releaseBytes}
-use Rattle.grants.proofs.Judged.{Row, Granted, granted-exactly-if, FirstHeld, judged-yes, judged-no}
+use Rattle.grants.specs.Grants.{Grant, Check, passes, check, granted}
+use Rattle.release.specs.Release.{Release, yes, no, judgeFrom, judge, release}
+use Rattle.grants.specs.Bytes.{rows, ragged, checkBytes}
+use Rattle.release.specs.Release.{whole, releaseBytes}
+use Rattle.grants.proofs.Grants.{Row, Granted, granted-exactly-if}
+use Rattle.release.proofs.Judged.{FirstHeld, judged-yes, judged-no}
 use Rattle.grants.proofs.Checked.{passes-exactly-if}
 
 -- a message that is accepted
 abbrev pub Accepted : Limits → List ℕ → Type 0
