@@ -109,4 +109,17 @@ module _ (p : ℕ → Bool) where
     pub run-on : {x : Bool} → i < length t → x ≡ p (getD t i 0) → x ≡ true → Ahead t a (i + 1)
     run-on h e q = record { on = omega (arith, s .on); inside = omega arith; then = λ w. s .then (grown t i h (sym e ∙ q) w) }
 
+-- where a run ends before the text does, the byte there has not the property
+stops : (p : ℕ → Bool) (u : List ℕ) {x : ℕ} {v : List ℕ} → past p u ≡ x ∷ v → p x ≡ false
+unfolding past
+stops p [] e = absurd (let z : 0 ≡ suc _ = ap length e in omega arith)
+stops p (y ∷ u) {x} {v} e = go (λ h. stops p u h) (p y) refl e
+  where
+    go : (past p u ≡ x ∷ v → p x ≡ false) → (b : Bool) → p y ≡ b → cond b (past p u) (y ∷ u) ≡ x ∷ v → p x ≡ false
+    go ih true q h = ih h
+    go ih false q h = let z : y ≡ x = cc in rw z at q
+
+pub run-stops : (p : ℕ → Bool) (t : List ℕ) {a e : ℕ} → RunTo p t a e → e < length t → p (getD t e 0) ≡ false
+run-stops p t {a} {e} w h = stops p (drop a t) (w .past-is ∙ here t e h)
+
 pub ruleset runs = (run-begins, run-ends, run-out, run-on)

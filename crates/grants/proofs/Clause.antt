@@ -7,7 +7,7 @@ use mathlib.Core.List.{List, [], _∷_, List·Memᴰ}
 use native.Mathlib.Omega.{arith}
 use lib.ListN.{length}
 use lib.IntN.{ℤ, negsuc}
-use Rattle.cbor.proofs.ByteLaws.{past}
+use Rattle.buffer.proofs.ByteLaws.{past}
 use Rattle.ari.specs.Reader.{Limits, Answer, refuse, accept, aMessage, read}
 use Rattle.ari.specs.Listing.{Space, number, name, relative, Entry, listing}
 use Rattle.grants.specs.Grants.{Grant, Check, passes, check, granted, Release, yes, no, judgeFrom, judge, release}

@@ -10,7 +10,7 @@ use lib.ListN.{length}
 use lib.IntN.{ℤ, pos, negsuc}
 use lib.Dec.{eqb}
 use borrow.Author.Tests.{eqb-true, eq-eqb}
-use Rattle.cbor.proofs.ByteLaws.{and-true, or-true, or-right}
+use Rattle.buffer.proofs.ByteLaws.{and-true, or-true, or-right}
 use Rattle.ari.specs.Listing.{Space, number, name, relative, Entry}
 use Rattle.grants.specs.Grants.{Grant, some, same, holds, granted, yes, no, judgeFrom}
 

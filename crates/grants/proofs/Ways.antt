@@ -8,7 +8,7 @@ use lib.ListN.{length, take, drop, getD, length-append, length-drop, take-append
 use lib.Seq.{drop-drop, length-take-le, take-append-le, drop-append-le, take-add}
 use lib.Dec.{eqb}
 use borrow.Author.Tests.{eq-eqb, ne-eqb, le-leb, lt-leb}
-use Rattle.cbor.specs.Byte.{value}
+use Rattle.buffer.specs.Bytes.{value}
 use Rattle.cbor.proofs.NumberWays.{value-join, two-bytes}
 use Rattle.grants.specs.Grants.{Grant, some, same, below0, clash, passes, refused, checkFrom, check, holds}
 use Rattle.grants.specs.Bytes.{signed, wordAt, rowBy, rowOf, holdsAt, rows, checkBytes}

@@ -5,7 +5,7 @@ use mathlib.Core.List.{List, [], _∷_, _++_}
 use lib.ListN.{length, take, drop}
 use lib.IntN.{ℤ, pos, negsuc}
 use lib.Dec.{leb, eqb}
-use Rattle.cbor.specs.Byte.{be, value}
+use Rattle.buffer.specs.Bytes.{be, value}
 use Rattle.ari.specs.Table.{max63, max64}
 use Rattle.ari.specs.Reader.{Limits, Answer, refuse, accept, aMessage, read}
 use Rattle.ari.specs.Listing.{Space, number, name, relative, Entry}

@@ -2,7 +2,7 @@
 ghost use mathlib.Core.Path.{_≡_};
 ghost use Prim.Native.Nat.{_+_, _*_, _^_, _<_, _≤_};
 ghost use lib.ListN.{length, take, drop};
-ghost use Rattle.cbor.specs.Byte.{value};
+ghost use Rattle.buffer.specs.Bytes.{value};
 ghost use Rattle.ari.specs.Listing.{number};
 ghost use Rattle.grants.specs.Grants.{some, clash, holds, granted};
 ghost use Rattle.grants.specs.Bytes.{signed, wordAt, rowOf, holdsAt, rows, rowBy, checkBytes};

@@ -22,7 +22,7 @@ use Rattle.ari.specs.Items.{Items, none, item, encode, depth, Spot, spots, spot
 use Rattle.ari.specs.Decode.{decode}
 use Rattle.ari.specs.Limits.{firstLimits}
 use Rattle.ari.proofs.Numbers.{Numbered, numbered}
-use Rattle.cbor.specs.Byte.{all, isByte}
+use Rattle.buffer.specs.Bytes.{all, isByte}
 use Rattle.ari.specs.Rules.{Is}
 use Rattle.ari.proofs.Due.{Fit, prevAfter, members-leaf}
 use Rattle.ari.proofs.Demand.{stands-fit, demand-two}

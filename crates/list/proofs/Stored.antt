@@ -6,8 +6,8 @@ use native.Mathlib.Omega.{arith}
 use lib.ListN.{length, set}
 use lib.Seq.{sets}
 use borrow.Author.Tests.{le-leb, lt-leb}
-use Rattle.cbor.specs.Byte.{be}
-use Rattle.cbor.proofs.ByteLaws.{length-be, be-join}
+use Rattle.buffer.specs.Bytes.{be}
+use Rattle.buffer.proofs.ByteLaws.{length-be, be-join}
 use Rattle.buffer.proofs.Putting.{sets-append}
 use Rattle.list.specs.Answers.{wordPut}
 

@@ -5,7 +5,7 @@ use mathlib.Core.List.{List, [], _∷_, _++_}
 use lib.ListN.{length, drop}
 use lib.Seq.{sets}
 use lib.Dec.{ltb, leb}
-use Rattle.cbor.specs.Byte.{be}
+use Rattle.buffer.specs.Bytes.{be}
 use Rattle.ari.specs.Reader.{Limits, aMessage, refuse, accept, read}
 use Rattle.ari.specs.Reader as reader
 use Rattle.ari.specs.Listing.{Entry, listing}

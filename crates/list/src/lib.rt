@@ -4,7 +4,7 @@ ghost use mathlib.Core.List.{[], _∷_, _++_};
 ghost use Prim.Native.Nat.{_+_, _*_, _/_, _^_, _<_, _≤_, min};
 ghost use lib.ListN.{length, drop};
 ghost use lib.Seq.{sets};
-ghost use Rattle.cbor.specs.Byte.{be};
+ghost use Rattle.buffer.specs.Bytes.{be};
 ghost use Rattle.cbor.specs.Answer.{headAt};
 ghost use Rattle.ari.specs.Reader.{accept};
 ghost use Rattle.ari.specs.Limits.{firstLimits};

@@ -6,7 +6,7 @@ use mathlib.Core.List.{List, [], _∷_}
 use native.Mathlib.Omega.{arith}
 use lib.ListN.{length}
 use lib.Dec.{ltb}
-use Rattle.cbor.specs.Byte.{all, isByte}
+use Rattle.buffer.specs.Bytes.{all, isByte}
 use Rattle.ari.specs.Reader.{refuse, accept, Input, aMessage, read}
 use Rattle.ari.specs.Reader as reader
 use Rattle.ari.specs.Limits.{firstLimits}
