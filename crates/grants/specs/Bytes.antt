@@ -19,10 +19,6 @@ word (negsuc a) = max64 - a
 unfoldable pub signed : ℕ → ℤ
 signed n = cond (leb n max63) (pos n) (negsuc (max64 - n))
 
--- the number of the eight bytes from a place on; 0 where there are not so many
-unfoldable pub wordAt : List ℕ → ℕ → ℕ
-wordAt b at = cond (leb (at + 8) (length b)) (value (take 8 (drop at b))) 0
-
 -- "16 a row, big-endian: subscriber (unsigned, 8), namespace (two's complement, 8)"
 abbrev pub rowBy : ℕ → ℕ → Grant
 rowBy s n = record { subscriber = s; namespace = signed n }

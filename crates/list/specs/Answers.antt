@@ -1,11 +1,9 @@
 -- The listing as it is handed over, and release: document 01's numbers and values for each case of the enums.
-use Prim.Native.Nat.{ℕ, _+_, _*_, _/_}
+use Prim.Native.Nat.{ℕ, _*_, _/_}
 use mathlib.Core.Bool.{cond}
 use mathlib.Core.List.{List, [], _∷_, _++_}
 use lib.ListN.{length, drop}
-use lib.Seq.{sets}
-use lib.Dec.{ltb, leb}
-use Rattle.buffer.specs.Bytes.{be}
+use lib.Dec.{ltb}
 use Rattle.ari.specs.Reader.{Limits, aMessage, refuse, accept, read}
 use Rattle.ari.specs.Reader as reader
 use Rattle.ari.specs.Listing.{Entry, listing}
@@ -15,10 +13,6 @@ use Rattle.list.specs.declared.Listed.{Listed}
 use Rattle.list.specs.declared.Listed.the-variants.{Entries, Refused}
 use Rattle.list.specs.declared.Released.{Released}
 use Rattle.list.specs.declared.Released.the-variants as released
-
--- a number of eight bytes in a room, which stays as it was where it is too short
-unfoldable pub wordPut : List ℕ → ℕ → ℕ → List ℕ
-wordPut o at x = cond (leb (at + 8) (length o)) (sets o at (be 8 x)) o
 
 -- entries one behind the other
 abbrev pub each : (Entry → List ℕ) → List Entry → List ℕ

@@ -3,7 +3,7 @@ use Prim.Native.Nat.{_+_, _<_}
 use lib.ListN.{length}
 use native.Mathlib.Omega.{arith}
 use lib.Seq.{lt-length-set}
-use Rattle.list.proofs.Stored.{stores}
+use Rattle.buffer.proofs.Numbers.{pair-stored}
 use borrow.Author.Needs.{needs}
 use Rattle.list.proofs.put_words.Statement.{statement}
 use Rattle.list.proofs.put_words.Tie as tie
@@ -18,4 +18,4 @@ put-words-spec =
     (λ c. search needs)
     (λ c. let h : c .args .at + 1 < length (c .args .out .now) = omega arith in lt-length-set (c .args .out .now) (c .args .at) (c .args .kind) h)
     (λ c. search needs)
-    (λ c. search (stores, needs)))
+    (λ c. search (pair-stored, needs)))
