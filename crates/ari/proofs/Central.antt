@@ -9,9 +9,9 @@ use lib.ListN.{length, take, drop, length-append, take-append-drop}
 use lib.Seq.{take-at, drop-at, length-take-le, drop-drop, drop-append-add}
 use lib.Dec.{ltb, eqb}
 use borrow.Author.Tests.{ltb-false, le-ltb, eqb-false, ne-eqb}
-use Rattle.cbor.specs.Byte.{all, isByte}
+use Rattle.buffer.specs.Bytes.{all, isByte}
 use Rattle.cbor.specs.Head.{text, Lead, size, leadBytes, Got, bad, got, getHead, stringSize, isContainer}
-use Rattle.cbor.proofs.ByteLaws.{not-false, past, all-drop}
+use Rattle.buffer.proofs.ByteLaws.{not-false, past, all-drop}
 use Rattle.cbor.proofs.HeadLaws.{length-lead, getHead-back, getHead-forth}
 use Rattle.ari.specs.Table.{message, Slot, ari, Level, done, due, rule, fits, members}
 use Rattle.ari.specs.declared.Limits.{Limits}

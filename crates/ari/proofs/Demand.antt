@@ -7,10 +7,10 @@ use mathlib.Core.List.{List, [], _∷_}
 use native.Mathlib.Omega.{arith}
 use lib.Dec.{eqb}
 use borrow.Author.Tests.{eqb-true}
-use Rattle.cbor.specs.Byte.{all, isByte, within}
+use Rattle.buffer.specs.Bytes.{all, isByte, within}
 use Rattle.cbor.specs.Head.{unsigned, Lead, isContainer}
 use Rattle.cbor.specs.Utf8.{utf8}
-use Rattle.cbor.proofs.ByteLaws.{and-true, or-nil, not-false, within-true}
+use Rattle.buffer.proofs.ByteLaws.{and-true, or-nil, not-false, within-true}
 use Rattle.ari.specs.Table.{version, row, due, done, rule, fits}
 use Rattle.ari.specs.declared.Limits.{Limits}
 use Rattle.ari.specs.declared.Input.{Input}

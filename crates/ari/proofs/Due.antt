@@ -8,7 +8,7 @@ use lib.ListN.{length}
 use lib.Dec.{eqb}
 use borrow.Author.Tests.{eqb-false, ne-eqb, eq-eqb, le-leb, lt-leb}
 use Rattle.cbor.specs.Head.{text, array, map, Lead, Sound, stringSize, isContainer}
-use Rattle.cbor.proofs.ByteLaws.{within-true}
+use Rattle.buffer.proofs.ByteLaws.{within-true}
 use Rattle.ari.specs.Table.{message, Slot, ari, Level, done, due, rule, fits, members}
 use Rattle.ari.specs.Reader.{Dues, end, sets, frame, push, keyBytes, wrongVersion, notGreater, isEmpty, keyAfter, behind}
 use Rattle.ari.specs.Items.{Items, none, item, depth}

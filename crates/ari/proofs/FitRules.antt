@@ -7,9 +7,10 @@ use native.Mathlib.Omega.{arith}
 use lib.ListN.{length}
 use lib.Dec.{eqb}
 use borrow.Author.Tests.{eqb-true, eqb-false, ne-eqb}
-use Rattle.cbor.specs.Byte.{within, below}
+use Rattle.buffer.specs.Bytes.{within}
+use Rattle.cbor.specs.Byte.{below}
 use Rattle.cbor.specs.Head.{array, map, Lead, isContainer}
-use Rattle.cbor.proofs.ByteLaws.{not-false, within-true, within-is}
+use Rattle.buffer.proofs.ByteLaws.{not-false, within-true, within-is}
 use Rattle.ari.specs.Table.{Place, alone, message, inside, param, anywhere, Slot, ari, value, params, key, nonce, target, report, reportTime, Row, row, max64, arrays, literals, ariRows, types, done, due, many, ariLevel, rule, fits, members}
 use Rattle.ari.specs.Reader.{keyBytes}
 use Rattle.ari.specs.Items.{Items, none, item}

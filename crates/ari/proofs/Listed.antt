@@ -8,9 +8,9 @@ use native.Mathlib.Omega.{arith}
 use lib.ListN.{length, take, drop, length-append}
 use lib.Seq.{take-at}
 use borrow.Author.Tests.{lt-leb}
-use Rattle.cbor.specs.Byte.{within}
+use Rattle.buffer.specs.Bytes.{within}
 use Rattle.cbor.specs.Head.{bytes, text, array, Lead, isContainer}
-use Rattle.cbor.proofs.ByteLaws.{within-true}
+use Rattle.buffer.proofs.ByteLaws.{within-true}
 use Rattle.cbor.proofs.HeadLaws.{length-lead}
 use Rattle.ari.specs.Table.{message, Slot, version, ari, Level, done, due, rule, members, isReference}
 use Rattle.ari.specs.declared.Limits.{Limits}

@@ -6,9 +6,10 @@ use mathlib.Core.List.{List, [], _∷_, _++_}
 use native.Mathlib.Omega.{arith}
 use lib.Dec.{eqb}
 use borrow.Author.Tests.{eq-eqb, ne-eqb}
-use Rattle.cbor.specs.Byte.{within, below}
+use Rattle.buffer.specs.Bytes.{within}
+use Rattle.cbor.specs.Byte.{below}
 use Rattle.cbor.specs.Head.{array, Lead, isContainer}
-use Rattle.cbor.proofs.ByteLaws.{or-right, within-true, within-is}
+use Rattle.buffer.proofs.ByteLaws.{or-right, within-true, within-is}
 use Rattle.cbor.proofs.HeadLaws.{sound-64}
 use Rattle.ari.specs.Table.{Place, alone, message, inside, param, anywhere, Slot, ari, type, value, namespace, objectNamespace, objectType, objectId, params, key, entry, nonce, setTime, target, report, reportTime, reportSource, Row, row, max64, arrays, literals, ariRows, types, Own, none, one, rising, filled, many, referenceLevel, rule, fits, members}
 use Rattle.ari.specs.Reader.{keyBytes, wrongVersion, notGreater, isEmpty}

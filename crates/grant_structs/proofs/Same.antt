@@ -8,8 +8,8 @@ use lib.ListN.{length, take, drop, length-append}
 use lib.Seq.{take-at, drop-at, drop-drop}
 use lib.IntN.{ℤ, pos, negsuc}
 use borrow.Author.Tests.{eq-eqb}
-use Rattle.cbor.specs.Byte.{be, value}
-use Rattle.cbor.proofs.ByteLaws.{length-be, value-be}
+use Rattle.buffer.specs.Bytes.{be, value}
+use Rattle.buffer.proofs.ByteLaws.{length-be, value-be}
 use Rattle.ari.specs.Limits.{firstLimits}
 use Rattle.ari.specs.declared.Limits.{Limits}
 use Rattle.ari.specs.declared.Input.the-variants.{Message}

@@ -1,7 +1,7 @@
 -- Grant structs in bytes, 16 a row: document 01, 'Grants'.
 use Prim.Native.Nat.{ℕ}
 use mathlib.Core.List.{List, [], _∷_, _++_}
-use Rattle.cbor.specs.Byte.{be}
+use Rattle.buffer.specs.Bytes.{be}
 use Rattle.ari.specs.Signed.{word}
 use Rattle.grant_structs.specs.declared.Grant.{Grant as Row}
 

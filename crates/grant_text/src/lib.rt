@@ -6,7 +6,7 @@ ghost use mathlib.Core.List.{_++_};
 ghost use Prim.Native.Nat.{_+_, _/_, _≤_, _<_};
 ghost use lib.ListN.{length};
 ghost use lib.Seq.{sets};
-ghost use Rattle.cbor.specs.Byte.{be};
+ghost use Rattle.buffer.specs.Bytes.{be};
 ghost use Rattle.grant_text.specs.Numbers.{pushOf, digitsOf, unsignedOf, positiveOf, negativeOf, signedOf};
 ghost use Rattle.grant_text.specs.Rows.{blank, isOf, RunTo, grantOf, fieldsOf, rowOf};
 ghost use Rattle.grant_text.specs.Table.{TakenAt, tableOf, roomAfter, Turned};

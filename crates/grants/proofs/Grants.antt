@@ -7,7 +7,7 @@ use mathlib.Core.List.{List, [], _∷_, List·Memᴰ, List·Memᴰ·head, List·
 use lib.IntN.{ℤ, pos, negsuc}
 use lib.Dec.{eqb}
 use borrow.Author.Tests.{eqb-true, eq-eqb}
-use Rattle.cbor.proofs.ByteLaws.{and-true, or-true, or-right}
+use Rattle.buffer.proofs.ByteLaws.{and-true, or-true, or-right}
 use Rattle.ari.specs.Listing.{Space, number, name, relative}
 use Rattle.grants.specs.Grants.{Grant, some, same, holds, granted}
 

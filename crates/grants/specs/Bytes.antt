@@ -1,16 +1,12 @@
--- The grant table as bytes: R93, R96. Interface: wordAt, rowOf, holdsAt, rows, ragged, checkBytes.
+-- The grant table as bytes: R93, R96. Interface: rowOf, holdsAt, rows, ragged, checkBytes.
 use Prim.Native.Nat.{ℕ, zero, suc, _+_, _/_, _%_}
 use mathlib.Core.Bool.{Bool, not, _&&_, cond}
 use mathlib.Core.List.{List, [], _∷_}
 use lib.ListN.{length, take, drop}
 use lib.Dec.{leb, eqb}
-use Rattle.cbor.specs.Byte.{value}
+use Rattle.buffer.specs.Bytes.{value}
 use Rattle.ari.specs.Signed.{signed}
 use Rattle.grants.specs.Grants.{Grant, holds, Check, refused, check}
-
--- the number of the eight bytes from a place on; 0 where there are not so many
-unfoldable pub wordAt : List ℕ → ℕ → ℕ
-wordAt b at = cond (leb (at + 8) (length b)) (value (take 8 (drop at b))) 0
 
 -- "16 a row, big-endian: subscriber (unsigned, 8), namespace (two's complement, 8)"
 abbrev pub rowBy : ℕ → ℕ → Grant

@@ -12,7 +12,7 @@ use borrow.Author.Tests.{eqb-true, not-true, not-false, ne-eqb, eq-eqb}
 use Rattle.cbor.specs.Head.{Lead, Sound, counted, a-simple, a-float, size, stringSize, leadBytes, isContainer}
 use Rattle.cbor.specs.declared.Head.the-variants.{Good}
 use Rattle.cbor.specs.Answer.{headAt}
-use Rattle.cbor.proofs.ByteLaws.{and-true}
+use Rattle.buffer.proofs.ByteLaws.{and-true}
 use Rattle.cbor.proofs.HeadLaws.{getHead-back}
 use Rattle.ari.specs.Table.{message, Slot, ari, Level, done, due, rule, members, isReference}
 use Rattle.ari.specs.declared.Limits.{Limits}

@@ -13,7 +13,7 @@ use lib.Dec.{eqb}
 use borrow.Author.Tests.{eqb-true}
 use Rattle.cbor.specs.Head.{unsigned, negative, text, array, Lead, size, stringSize, leadBytes}
 use Rattle.cbor.specs.Answer.{headAt}
-use Rattle.cbor.proofs.ByteLaws.{and-true}
+use Rattle.buffer.proofs.ByteLaws.{and-true}
 use Rattle.cbor.proofs.HeadLaws.{length-lead}
 use Rattle.ari.specs.Table.{Slot, max64, rule, isReference}
 use Rattle.ari.specs.declared.Limits.{Limits}

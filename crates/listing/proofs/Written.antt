@@ -6,8 +6,8 @@ use native.Mathlib.Omega.{arith}
 use native.Mathlib.Nat.{add-zero, zero-add, mul-zero, mul-suc}
 use lib.ListN.{length, getD, take, drop, length-append, take-append-drop}
 use lib.Seq.{sets, sets-eq, length-sets, length-take-le, take-at, drop-at, drop-drop}
-use Rattle.cbor.proofs.ByteLaws.{be-join}
-use Rattle.cbor.specs.Byte.{be}
+use Rattle.buffer.proofs.ByteLaws.{be-join}
+use Rattle.buffer.specs.Bytes.{be}
 use Rattle.ari.specs.declared.Limits.{Limits}
 use Rattle.ari.specs.declared.Input.the-variants.{Message}
 use Rattle.ari.specs.Listing.{Space, number, name, relative, Entry, listing}

@@ -1,7 +1,7 @@
 -- The listing as bytes: R94. Interface: kindOf, wordOf, entryBytes, listingBytes.
 use Prim.Native.Nat.{ℕ}
 use mathlib.Core.List.{List, [], _∷_, _++_}
-use Rattle.cbor.specs.Byte.{be}
+use Rattle.buffer.specs.Bytes.{be}
 use Rattle.ari.specs.Signed.{word}
 use Rattle.ari.specs.Listing.{Space, number, name, relative, Entry}
 

@@ -1,11 +1,7 @@
--- Private to src/: an entry's numbers as the code has them, and a number put into lent room.
+-- Private to src/: an entry's numbers as the code has them.
 use Prim.Native.Nat.{ℕ, _+_, _*_}
-use mathlib.Core.Bool.{cond}
 use mathlib.Core.List.{List, _++_}
-use lib.ListN.{length}
-use lib.Seq.{sets}
-use lib.Dec.{leb}
-use Rattle.cbor.specs.Byte.{be}
+use Rattle.buffer.specs.Bytes.{be}
 use Rattle.listing.specs.declared.Namespace.{Namespace}
 use Rattle.listing.specs.declared.Namespace.the-variants.{Number, Name, Relative}
 
@@ -22,7 +18,3 @@ wordCode Relative = 0
 -- its two ends are one number
 abbrev pub entryCode : ℕ → ℕ → Namespace → List ℕ
 entryCode first after n = be 8 (first * 4294967296 + after) ++ (be 8 (kindCode n) ++ be 8 (wordCode n))
-
--- a number of eight bytes in a room, which stays as it was where it is too short
-unfoldable pub wordPut : List ℕ → ℕ → ℕ → List ℕ
-wordPut o at x = cond (leb (at + 8) (length o)) (sets o at (be 8 x)) o

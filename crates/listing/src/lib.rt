@@ -1,10 +1,10 @@
 // The listing of a message, read off the item table and the message's bytes.
 ghost use mathlib.Core.Path.{_≡_};
-ghost use mathlib.Core.List.{[], _∷_, _++_};
+ghost use mathlib.Core.List.{_++_};
 ghost use Prim.Native.Nat.{_+_, _*_, _/_, _^_, _<_, _≤_, min};
 ghost use lib.ListN.{length, drop};
 ghost use lib.Seq.{sets};
-ghost use Rattle.cbor.specs.Byte.{be};
+ghost use Rattle.buffer.specs.Bytes.{be};
 ghost use Rattle.cbor.specs.Answer.{headAt};
 ghost use Rattle.ari.specs.declared.Input.the-variants as input;
 ghost use Rattle.ari.specs.Reader.{accept};
@@ -14,7 +14,7 @@ ghost use Rattle.item_table.specs.Entries.{Tabled};
 ghost use Rattle.listing.specs.Bytes.{listingBytes};
 ghost use Rattle.listing.specs.Answers.{listedOf, listOf, writtenBy, writtenOf};
 ghost use Rattle.listing.specs.Entries.{namespaceOf, referenceFrom};
-ghost use Rattle.listing.specs.Codes.{wordPut, kindCode, wordCode, entryCode};
+ghost use Rattle.listing.specs.Codes.{kindCode, wordCode, entryCode};
 use ari::Input;
 use ari::Limits;
 use reader::Answer;
@@ -103,44 +103,6 @@ fn count_references(s: &[u8], limits: Limits, count: usize, entries: &[u64]) -> 
     listed
 }
 
-// Big-endian numbers are stored.
-fn put2(out: &mut [u8], at: usize, x: u64)
-    requires { ⌜ (at + 2 ≤ length (now out)) × (x < 2 ^ 16) ⌝ }
-    ensures { λ _. ⌜ now (out .exit) ≡ sets (now (out .entry)) at (be 2 x) ⌝ }
-{
-    out[at] = (x / 256) as u8;
-    out[at + 1] = (x % 256) as u8;
-}
-
-fn put4(out: &mut [u8], at: usize, x: u64)
-    requires { ⌜ (at + 4 ≤ length (now out)) × (x < 2 ^ 32) ⌝ }
-    ensures { λ _. ⌜ now (out .exit) ≡ sets (now (out .entry)) at (be 4 x) ⌝ }
-{
-    put2(out, at, x / 65536);
-    put2(out, at + 2, x % 65536);
-}
-
-fn put8(out: &mut [u8], at: usize, x: u64)
-    requires { ⌜ at + 8 ≤ length (now out) ⌝ }
-    ensures { λ _. ⌜ now (out .exit) ≡ sets (now (out .entry)) at (be 8 x) ⌝ }
-{
-    put4(out, at, x / 4294967296);
-    put4(out, at + 4, x % 4294967296);
-}
-
-// A number of eight bytes, where there is room for it.
-pub fn put_word(out: &mut [u8], at: usize, x: u64)
-    ensures { λ _. ⌜ now (out .exit) ≡ wordPut (now (out .entry)) at x ⌝ }
-{
-    if out.len() < 8 {
-        return;
-    }
-    if out.len() - 8 < at {
-        return;
-    }
-    put8(out, at, x);
-}
-
 // A namespace's two numbers in an entry.
 fn kind_code(n: Namespace) -> u64
     ensures { λ r. ⌜ r ≡ kindCode n ⌝ }
@@ -169,9 +131,9 @@ fn put_numbers(out: &mut [u8], at: usize, ends: u64, kind: u64, word: u64)
     requires { ⌜ at + 24 ≤ length (now out) ⌝ }
     ensures { λ _. ⌜ now (out .exit) ≡ sets (now (out .entry)) at (be 8 ends ++ (be 8 kind ++ be 8 word)) ⌝ }
 {
-    put8(out, at, ends);
-    put8(out, at + 8, kind);
-    put8(out, at + 16, word);
+    buffer::store8(out, at, ends);
+    buffer::store8(out, at + 8, kind);
+    buffer::store8(out, at + 16, word);
 }
 
 // The 24 bytes of an entry; its two ends are one number.

@@ -10,7 +10,7 @@ use lib.Dec.{eqb}
 use mir.Syntax.{w64}
 use mir.Val.{Fits}
 use borrow.Author.Tests.{eqb-false, eqb-true}
-use Rattle.cbor.specs.Byte.{within}
+use Rattle.buffer.specs.Bytes.{within}
 use Rattle.cbor.specs.Head.{isContainer}
 use Rattle.ari.specs.Table.{Slot, Own, none, one, rising, filled, Level, due}
 use Rattle.cbor.proofs.HeadLaws.{length-lead}

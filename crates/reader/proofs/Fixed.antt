@@ -11,10 +11,10 @@ use lib.Dec.{eqb, ltb}
 use mir.Syntax.{w64}
 use mir.Val.{Fits}
 use borrow.Author.Tests.{lt-ltb, le-ltb, ne-eqb, ltb-true, eqb-true, eqb-false}
-use Rattle.cbor.specs.Byte.{all, isByte}
+use Rattle.buffer.specs.Bytes.{all, isByte}
 use Rattle.cbor.specs.Head.{Lead, leadBytes, shortest, majorOf, width, got, getHead, Sound, counted, stringSize, isContainer}
 use Rattle.cbor.proofs.HeadLaws.{getHead-back}
-use Rattle.cbor.proofs.ByteLaws.{and-true, not-false, not-true}
+use Rattle.buffer.proofs.ByteLaws.{and-true, not-false, not-true}
 use Rattle.ari.specs.Table.{message, Slot, version, ari, due, rule, members}
 use Rattle.ari.specs.Reader.{judge, judgeContent, judgeGot}
 use Rattle.ari.specs.Reader as reader

@@ -8,7 +8,7 @@ use lib.ListN.{length, take, drop, length-drop}
 use lib.Seq.{drop-drop, length-take-le}
 use lib.Dec.{ltb, leb, eqb}
 use borrow.Author.Tests.{lt-ltb, le-ltb, le-leb, lt-leb, eq-eqb, ne-eqb, ltb-true, ltb-false, not-true, not-false}
-use Rattle.cbor.specs.Byte.{all, isByte, within}
+use Rattle.buffer.specs.Bytes.{all, isByte, within}
 use Rattle.cbor.specs.Head.{Lead, size, Got, bad, got, getHead, stringSize, isContainer}
 use Rattle.cbor.specs.declared.Head.{Head}
 use Rattle.cbor.specs.declared.Head.the-variants.{Bad, Good}

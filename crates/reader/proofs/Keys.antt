@@ -9,11 +9,12 @@ use lib.ListN.{length, getD, take, drop, length-append, take-append-drop}
 use lib.Seq.{take-at, length-take-le}
 use lib.Dec.{eqb, leb}
 use borrow.Author.Tests.{eq-eqb, ne-eqb, eqb-true, leb-true}
-use Rattle.cbor.specs.Byte.{all, isByte, within, below}
+use Rattle.buffer.specs.Bytes.{all, isByte, within}
+use Rattle.cbor.specs.Byte.{below}
 use Rattle.cbor.specs.Utf8.{utf8}
 use Rattle.ari.specs.Name.{identifier, namespaceName}
 use Rattle.cbor.specs.Head.{Lead, size, leadBytes, shortBytes, isContainer, Got, got, getHead, stringSize}
-use Rattle.cbor.proofs.ByteLaws.{and-true, or-true, all-drop}
+use Rattle.buffer.proofs.ByteLaws.{and-true, or-true, all-drop}
 use Rattle.cbor.proofs.HeadLaws.{length-lead, lead-short, getHead-forth}
 use Rattle.ari.specs.Table.{Place, Slot, version, ari, type, value, namespace, objectNamespace, objectType, objectId, params, key, entry, nonce, setTime, target, report, reportTime, reportSource, Own, none, one, rising, filled, Rule, rule, fits, max64, max63}
 use Rattle.ari.specs.Reader.{keyBytes, keyAfter, wrongVersion, notGreater, isEmpty}

@@ -9,9 +9,9 @@ use lib.ListN.{length, getD, take, drop, set, length-append}
 use lib.Seq.{length-take-le}
 use lib.Dec.{eqb}
 use borrow.Author.Tests.{eqb-false, ne-eqb, eqb-true}
-use Rattle.cbor.specs.Byte.{all, isByte}
+use Rattle.buffer.specs.Bytes.{all, isByte}
 use Rattle.cbor.specs.Head.{Lead, size, stringSize}
-use Rattle.cbor.proofs.ByteLaws.{and-true}
+use Rattle.buffer.proofs.ByteLaws.{and-true}
 use Rattle.ari.specs.Table.{Slot, Own, none, one, rising, filled, Level, done, due, rule, members}
 use Rattle.ari.specs.Reader.{keyBytes, keyAfter}
 use Rattle.ari.proofs.Due.{prevAfter}

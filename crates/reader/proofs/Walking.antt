@@ -8,9 +8,9 @@ use lib.ListN.{length, take, drop, set, length-append, take-append-drop}
 use lib.Seq.{sets, drop-drop, length-take-le, length-sets}
 use lib.Dec.{eqb}
 use borrow.Author.Tests.{eqb-false, ne-eqb}
-use Rattle.cbor.specs.Byte.{all, isByte}
+use Rattle.buffer.specs.Bytes.{all, isByte}
 use Rattle.cbor.specs.Head.{Lead, size, leadBytes, Got, bad, got, getHead, stringSize, isContainer}
-use Rattle.cbor.proofs.ByteLaws.{all-drop}
+use Rattle.buffer.proofs.ByteLaws.{all-drop}
 use Rattle.cbor.proofs.HeadLaws.{getHead-forth, length-lead, head-fits}
 use Rattle.ari.specs.Table.{Slot, Level, done, due, rule, members}
 use Rattle.ari.specs.Reader.{Dues, end, frame, push, behind, keyBytes, keyAfter, judge, judgeGot, Answer, refuse, takeStep, visit, run}

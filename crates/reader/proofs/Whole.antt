@@ -11,7 +11,7 @@ use lib.Dec.{ltb}
 use mir.Syntax.{w8}
 use mir.Val.{Fits}
 use borrow.Author.Tests.{lt-ltb, le-ltb}
-use Rattle.cbor.specs.Byte.{all, isByte}
+use Rattle.buffer.specs.Bytes.{all, isByte}
 use Rattle.buffer.proofs.Putting.{sets-append}
 use Rattle.ari.specs.Table.{message, alone, Slot, version, ari, Level, done, due, rule, members}
 use Rattle.ari.specs.declared.Limits.{Limits}

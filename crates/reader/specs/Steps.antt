@@ -5,7 +5,7 @@ use mathlib.Core.Bool.{Bool, true, false, not, _&&_, cond}
 use mathlib.Core.List.{List, [], _∷_}
 use lib.ListN.{length, getD, take, drop}
 use lib.Dec.{ltb, eqb}
-use Rattle.cbor.specs.Byte.{within}
+use Rattle.buffer.specs.Bytes.{within}
 use Rattle.cbor.specs.declared.Head as cbor
 use Rattle.cbor.specs.declared.Head.the-variants as cbors
 use Rattle.cbor.specs.Head.{text, Lead, size, Got, bad, got, getHead, stringSize, isContainer}

@@ -6,7 +6,7 @@ ghost use lib.ListN.{length};
 ghost use lib.Dec.{eqb};
 ghost use mathlib.Core.List.{[]};
 ghost use Prim.Native.Nat.{pred, suc};
-ghost use Rattle.cbor.specs.Byte.{all, isByte};
+ghost use Rattle.buffer.specs.Bytes.{all, isByte};
 ghost use Rattle.cbor.specs.Head.{isContainer};
 ghost use Rattle.cbor.specs.Answer.{headAt};
 ghost use Rattle.cbor.specs.declared.Head.the-variants.{Good};

@@ -11,8 +11,8 @@ use lib.ListN.{length, length-map}
 use lib.IntN.{ℤ, negsuc}
 use lib.Dec.{eqb}
 use borrow.Author.Tests.{eqb-true, eqb-false, eq-eqb, ne-eqb}
-use Rattle.cbor.specs.Byte.{all, isByte}
-use Rattle.cbor.proofs.ByteLaws.{not-false, past}
+use Rattle.buffer.specs.Bytes.{all, isByte}
+use Rattle.buffer.proofs.ByteLaws.{not-false, past}
 use Rattle.ari.specs.declared.Limits.{Limits}
 use Rattle.ari.specs.declared.Input.the-variants.{Message}
 use Rattle.ari.specs.Reader.{Answer, refuse, accept, read}

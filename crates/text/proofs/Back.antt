@@ -10,7 +10,7 @@ use lib.Seq.{drop-at}
 use lib.Dec.{eqb}
 use borrow.Author.Tests.{eqb-true, eqb-false, eq-eqb}
 use Rattle.cbor.specs.Head.{array, map, simple, Lead, Sound, isContainer}
-use Rattle.cbor.proofs.ByteLaws.{within-true}
+use Rattle.buffer.proofs.ByteLaws.{within-true}
 use Rattle.ari.specs.Table.{Place, param, outermost, Row, row, Slot, ari, type, value, namespace, objectNamespace, objectType, objectId, params, key, entry, Level, done, due, many, rule, members}
 use Rattle.ari.specs.Items.{Items, none, item, heads, depth}
 use Rattle.ari.specs.Decode.{Headed}

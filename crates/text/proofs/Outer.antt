@@ -7,9 +7,9 @@ use native.Mathlib.Omega.{arith}
 use lib.ListN.{length, drop}
 use lib.Dec.{eqb}
 use borrow.Author.Tests.{eqb-true}
-use Rattle.cbor.specs.Byte.{all, isByte}
+use Rattle.buffer.specs.Bytes.{all, isByte}
 use Rattle.cbor.specs.Head.{array, simple, Lead, leadBytes}
-use Rattle.cbor.proofs.ByteLaws.{and-true}
+use Rattle.buffer.proofs.ByteLaws.{and-true}
 use Rattle.ari.specs.Table.{Place, alone, inside, ari, Row, row, Level, done, due, types, typeRows, rule, fits, members}
 use Rattle.ari.specs.declared.Limits.{Limits}
 use Rattle.ari.specs.declared.Input.the-variants.{Single}

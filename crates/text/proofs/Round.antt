@@ -8,8 +8,8 @@ use native.Mathlib.Omega.{arith}
 use lib.ListN.{length}
 use lib.Dec.{ltb, eqb}
 use borrow.Author.Tests.{ltb-true, ltb-false, eqb-true, eq-eqb}
-use Rattle.cbor.specs.Byte.{all, isByte}
-use Rattle.cbor.proofs.ByteLaws.{and-true}
+use Rattle.buffer.specs.Bytes.{all, isByte}
+use Rattle.buffer.proofs.ByteLaws.{and-true}
 use Rattle.ari.specs.Table.{max64, alone, ari, due}
 use Rattle.ari.specs.declared.Limits.{Limits}
 use Rattle.ari.specs.declared.Input.the-variants.{Single}

@@ -8,7 +8,7 @@ use lib.ListN.{length, take, drop}
 use lib.Seq.{sets, sets-eq, take-append-seam}
 use lib.Dec.{ltb}
 use borrow.Author.Tests.{lt-ltb, le-ltb}
-use Rattle.cbor.specs.Byte.{all, isByte}
+use Rattle.buffer.specs.Bytes.{all, isByte}
 use Rattle.ari.specs.Table.{rule, due, ari, inside}
 use Rattle.ari.specs.declared.Input.the-variants.{Single}
 use Rattle.ari.specs.Reader.{end, push}

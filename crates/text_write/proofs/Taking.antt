@@ -7,7 +7,7 @@ use native.Mathlib.Omega.{arith}
 use lib.ListN.{length, drop, length-append, length-drop}
 use lib.Dec.{ltb, leb, eqb}
 use borrow.Author.Tests.{lt-ltb, le-ltb, ltb-true, ltb-false}
-use Rattle.cbor.specs.Byte.{within}
+use Rattle.buffer.specs.Bytes.{within}
 use Rattle.cbor.specs.Head.{Lead, size, leadBytes, getHead, stringSize, isContainer}
 use Rattle.cbor.specs.Answer.{headAt, Passed}
 use Rattle.cbor.specs.declared.Head.{Head}

@@ -1,7 +1,7 @@
 // An ARI's text: one walk over an accepted ARI, which puts what each head writes before its members and after them.
 ghost use mathlib.Core.Path.{_≡_};
 ghost use mathlib.Core.Bool.{true, false, _&&_};
-ghost use Rattle.cbor.specs.Byte.{all, isByte};
+ghost use Rattle.buffer.specs.Bytes.{all, isByte};
 ghost use Prim.Native.Nat.{pred, _+_, _*_, _≤_, min};
 ghost use lib.ListN.{length};
 ghost use lib.Dec.{eqb};

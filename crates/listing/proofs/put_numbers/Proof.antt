@@ -9,7 +9,7 @@ returns c =
     let second = c .before .before .before .before .before .before in
     let first = second .before .before .before .before in
     let a = first .before .before .before .args in
-    entry-stored (a .out .now) (a .at) (a .ends) (a .kind) (a .word) (first .put8 .ensures) (second .put82 .ensures) (c .before .before .put83 .ensures)
+    entry-stored (a .out .now) (a .at) (a .ends) (a .kind) (a .word) (first .before .before .before .pre) (first .store8 .ensures) (second .store82 .ensures) (c .before .before .store83 .ensures)
 
 pub put-numbers-spec : {M : Type 1} → statement M
 put-numbers-spec =

@@ -5,7 +5,7 @@ use mathlib.Core.Bool.{true}
 use native.Mathlib.Omega.{arith}
 use lib.ListN.{length}
 use borrow.Author.Needs.{needs}
-use Rattle.cbor.specs.Byte.{all, isByte}
+use Rattle.buffer.specs.Bytes.{all, isByte}
 use Rattle.reader.proofs.Bounds.{bounds, read-past, falls-to}
 use Rattle.reader.proofs.Whole.{SetsLead, sets-begin, sets-again, sets-halt, sets-done}
 use Rattle.reader.proofs.walk_sets.Statement.{statement}
