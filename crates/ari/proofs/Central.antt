@@ -16,7 +16,8 @@ use Rattle.cbor.proofs.HeadLaws.{length-lead, getHead-back, getHead-forth}
 use Rattle.ari.specs.Table.{message, Slot, ari, Level, done, due, rule, fits, members}
 use Rattle.ari.specs.declared.Limits.{Limits}
 use Rattle.ari.specs.declared.Input.{Input}
-use Rattle.ari.specs.Reader.{Dues, end, sets, frame, push, keyBytes, wrongVersion, notGreater, isEmpty, Step, no, yes, judge, judgeContent, judgeGot, behind, Answer, refuse, accept, Go, takeStep, visitFrame, visit, run, counted, firstSlot, bottom, read}
+use Rattle.cbor.specs.Head.{keyBytes}
+use Rattle.ari.specs.Reader.{Dues, end, sets, frame, push, wrongVersion, notGreater, isEmpty, Step, no, yes, judge, judgeContent, judgeGot, behind, Answer, refuse, accept, Go, takeStep, visitFrame, visit, run, counted, firstSlot, bottom, read}
 use Rattle.ari.proofs.Join.{join}
 use Rattle.ari.specs.Items.{Items, none, item, encode, heads}
 use Rattle.ari.specs.Due.{Good, Due}

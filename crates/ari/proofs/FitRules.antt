@@ -12,7 +12,7 @@ use Rattle.cbor.specs.Byte.{below}
 use Rattle.cbor.specs.Head.{array, map, Lead, isContainer}
 use Rattle.buffer.proofs.ByteLaws.{not-false, within-true, within-is}
 use Rattle.ari.specs.Table.{Place, alone, message, inside, param, anywhere, Slot, ari, value, params, key, nonce, target, report, reportTime, Row, row, max64, arrays, literals, ariRows, types, done, due, many, ariLevel, rule, fits, members}
-use Rattle.ari.specs.Reader.{keyBytes}
+use Rattle.cbor.specs.Head.{keyBytes}
 use Rattle.ari.specs.Items.{Items, none, item}
 use Rattle.ari.proofs.Well.{trees}
 use Rattle.ari.specs.Rules.{Plain, Holds, Nonce, Vast, Ari, literal, namespace-ref, typed, object-ref, Object, plain, with-params, Params, list, table, Value, simple-value, ac, am, execset, rptset, Aris, no-aris, aris, Pairs, no-pairs, pairs, Targets, no-targets, targets, Reports, no-reports, reports}

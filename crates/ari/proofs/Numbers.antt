@@ -10,7 +10,8 @@ use Rattle.cbor.specs.Head.{text, Lead, size, Got, bad, got, getHead, getFrom, 
 use Rattle.ari.specs.Table.{Slot, ari, message, rule, fits}
 use Rattle.ari.specs.declared.Limits.{Limits}
 use Rattle.ari.specs.declared.Input.{Input}
-use Rattle.ari.specs.Reader.{Dues, end, sets, frame, keyBytes, wrongVersion, notGreater, isEmpty, Step, no, yes, judge, judgeContent, judgeGot, Answer, refuse, accept, Go, takeStep, visit, run, counted, firstSlot, bottom, read}
+use Rattle.cbor.specs.Head.{keyBytes}
+use Rattle.ari.specs.Reader.{Dues, end, sets, frame, wrongVersion, notGreater, isEmpty, Step, no, yes, judge, judgeContent, judgeGot, Answer, refuse, accept, Go, takeStep, visit, run, counted, firstSlot, bottom, read}
 
 -- one of a test's two ways
 either : {A : Type 0} (P : A → Type 0) (t : Bool) {x y : A} → P x → P y → P (cond t x y)

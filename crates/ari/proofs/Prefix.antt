@@ -13,7 +13,8 @@ use Rattle.cbor.proofs.HeadLaws.{head-fits}
 use Rattle.ari.specs.Table.{message, Slot, ari, rule, fits}
 use Rattle.ari.specs.declared.Limits.{Limits}
 use Rattle.ari.specs.declared.Input.{Input}
-use Rattle.ari.specs.Reader.{Dues, end, sets, frame, keyBytes, wrongVersion, notGreater, isEmpty, Step, no, yes, judge, judgeContent, judgeGot, Answer, refuse, accept, Go, takeStep, visitFrame, visit, run, counted, read}
+use Rattle.cbor.specs.Head.{keyBytes}
+use Rattle.ari.specs.Reader.{Dues, end, sets, frame, wrongVersion, notGreater, isEmpty, Step, no, yes, judge, judgeContent, judgeGot, Answer, refuse, accept, Go, takeStep, visitFrame, visit, run, counted, read}
 use Rattle.ari.proofs.Central.{judged, start}
 
 -- the head is there, or it is refused with 2

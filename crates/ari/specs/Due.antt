@@ -8,7 +8,8 @@ use lib.ListN.{length}
 use lib.Dec.{eqb}
 use Rattle.cbor.specs.Head.{text, Lead, Sound, stringSize, isContainer}
 use Rattle.ari.specs.Table.{message, Slot, ari, rule, fits, members}
-use Rattle.ari.specs.Reader.{Dues, end, sets, frame, push, keyBytes, wrongVersion, notGreater, isEmpty, behind}
+use Rattle.cbor.specs.Head.{keyBytes}
+use Rattle.ari.specs.Reader.{Dues, end, sets, frame, push, wrongVersion, notGreater, isEmpty, behind}
 use Rattle.ari.specs.Items.{Items, none, item}
 
 -- a head with its string may stand at a slot after a key before

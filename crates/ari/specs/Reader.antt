@@ -5,7 +5,7 @@ use mathlib.Core.List.{List, [], _∷_, _++_}
 use lib.ListN.{length, take, drop}
 use lib.Dec.{ltb, eqb}
 use Rattle.cbor.specs.Byte.{below}
-use Rattle.cbor.specs.Head.{text, Lead, size, Got, bad, got, getHead, shortBytes, stringSize, isContainer}
+use Rattle.cbor.specs.Head.{text, Lead, size, Got, bad, got, getHead, keyBytes, stringSize, isContainer}
 use Rattle.ari.specs.declared.Limits.{Limits}
 use Rattle.ari.specs.declared.Input.{Input}
 use Rattle.ari.specs.declared.Input.the-variants.{Single, Message}
@@ -21,10 +21,6 @@ pub data Dues : Type 0 where
 abbrev pub push : Level → List ℕ → ℕ → Dues → Dues
 push done prev d ds = ds
 push (due s n) prev d ds = frame s n prev d ds
-
--- a key's bytes, in their shortest form
-abbrev pub keyBytes : Lead → List ℕ → List ℕ
-keyBytes l str = shortBytes (l .kind) (l .arg) ++ str
 
 -- test 8
 abbrev pub wrongVersion : Own → ℕ → Bool

@@ -13,7 +13,7 @@ use Rattle.ari.specs.Table.{Place, alone, message, inside, param, inner,
 use Rattle.ari.specs.declared.Limits.{Limits}
 use Rattle.ari.specs.declared.Input.{Input}
 use Rattle.ari.specs.declared.Input.the-variants.{Single, Message}
-use Rattle.ari.specs.Reader.{keyBytes}
+use Rattle.cbor.specs.Head.{keyBytes}
 use Rattle.ari.specs.Items.{Items, none, item, encode, heads, depth}
 
 -- an item with no members, of one of these kinds and ranges; a text string is spelled so

@@ -9,13 +9,14 @@ use lib.Seq.{drop-drop, length-take-le}
 use lib.Dec.{ltb, leb, eqb}
 use borrow.Author.Tests.{lt-ltb, le-ltb, le-leb, lt-leb, eq-eqb, ne-eqb, ltb-true, ltb-false, not-true, not-false}
 use Rattle.buffer.specs.Bytes.{all, isByte, within}
-use Rattle.cbor.specs.Head.{Lead, size, Got, bad, got, getHead, stringSize, isContainer}
+use Rattle.cbor.specs.Head.{Lead, size, Got, bad, got, getHead, stringSize, isContainer, keyOf}
 use Rattle.cbor.specs.declared.Head.{Head}
 use Rattle.cbor.specs.declared.Head.the-variants.{Bad, Good}
 use Rattle.cbor.specs.Answer.{answer, headAt}
 use Rattle.cbor.proofs.HeadWays.{Read, read}
 use Rattle.ari.specs.Table.{Slot, Own, rising, rule, fits}
-use Rattle.ari.specs.Reader.{keyBytes, wrongVersion, notGreater, isEmpty, judgeContent, judge, judgeGot}
+use Rattle.cbor.specs.Head.{keyBytes}
+use Rattle.ari.specs.Reader.{wrongVersion, notGreater, isEmpty, judgeContent, judge, judgeGot}
 use Rattle.ari.specs.Reader as reader
 use Rattle.grammar.specs.Code.{slotOf, ownOf, fitsCode}
 use Rattle.grammar.proofs.Right.{IsSlot, fits-right}
@@ -23,8 +24,9 @@ use Rattle.reader.specs.declared.Step.{Step}
 use Rattle.reader.specs.declared.Step.the-variants.{Taken, Refused}
 use Rattle.reader.specs.declared.End.{End}
 use Rattle.reader.specs.declared.End.the-variants.{At, Short}
-use Rattle.reader.specs.Steps.{part, stringEnd, stepAnswer, stepAt, contentGot, contentAt, ContentShown, Bounded, noHead}
-use Rattle.reader.proofs.Keys.{ordered-kind, key-bytes, same-order, no-key, filled-other}
+use Rattle.buffer.specs.Bytes.{part}
+use Rattle.reader.specs.Steps.{stringEnd, stepAnswer, stepAt, contentGot, contentAt, ContentShown, Bounded, noHead}
+use Rattle.reader.proofs.Keys.{ordered-kind, key-bytes, own-key, same-order, no-key, filled-other}
 
 -- a string's end
 module _ (b : List ℕ) (a q : ℕ) where
@@ -185,18 +187,18 @@ module _ (b : List ℕ) (p : ℕ) (s : Slot) (prev : List ℕ) {k a q : ℕ} (e 
       well-spelt : (eqb (l .kind) 3 && not (rule s .spelling str)) ≡ false
       well-spelt = sym spelling-is ∙ sym c ∙ t
 
-      order-is : notGreater (rule s .own) prev (part b p x) ≡ notGreater (rule s .own) prev (keyBytes l str)
+      order-is : notGreater (rule s .own) prev (keyOf (part b p x)) ≡ notGreater (rule s .own) prev (keyBytes l str)
       order-is =
           let st = stands b p k a q e in
           let i : p + (size l + stringSize l) ≡ x = omega (arith, st .next-is, en .end-is) in
-          same-order (rule s .own) prev (part b p x) (keyBytes l str)
-          (λ o. sym (key-bytes b p l bs (st .is-got) (ordered-kind s (l .kind) (l .arg) o (rw (st .kind-is, st .arg-is) fit)) (en .there) x i))
+          same-order (rule s .own) prev (keyOf (part b p x)) (keyBytes l str)
+          (λ o. sym (own-key b bs p x) ∙ sym (key-bytes b p l bs (st .is-got) (ordered-kind s (l .kind) (l .arg) o (rw (st .kind-is, st .arg-is) fit)) (en .there) x i))
 
-      pub is-unordered : {u : Bool} → u ≡ notGreater (rule s .own) prev (part b p x) → u ≡ true → Refused 11 p ≡ contentAt b p s prev
+      pub is-unordered : {u : Bool} → u ≡ notGreater (rule s .own) prev (keyOf (part b p x)) → u ≡ true → Refused 11 p ≡ contentAt b p s prev
       unfolding judgeContent
       is-unordered d v = rw (not-short, well-spelt, sym order-is ∙ sym d ∙ v) (refl) ∙ content-is
 
-      module _ {u : Bool} (d : u ≡ notGreater (rule s .own) prev (part b p x)) (v : u ≡ false) where
+      module _ {u : Bool} (d : u ≡ notGreater (rule s .own) prev (keyOf (part b p x))) (v : u ≡ false) where
         empty-is : isEmpty (rule s .own) a ≡ isEmpty (rule s .own) (l .arg)
         empty-is = rw (stands b p k a q e .arg-is)
 
@@ -217,7 +219,7 @@ pub is-plain : (b : List ℕ) (p i : ℕ) (prev : List ℕ) {k a q : ℕ} → he
     → {x : ℕ} → y ≡ At x → {m : Bool} → m ≡ (eqb k 3 && not (rule (slotOf i) .spelling (part b q x))) → m ≡ false → all isByte b ≡ true
     → fits k a (rule (slotOf i) .rows) ≡ true → IsSlot i → {o : ℕ} → o ≡ ownOf i → o ≡ 0 → Taken k a x ≡ contentAt b p (slotOf i) prev
 is-plain b p i prev {k} {a} {q} e n g {x} f c t bs fit v {o} eo z =
-    is-taken b p (slotOf i) prev e n g f c t bs fit (no-key i v eo (λ u. omega arith) prev (part b p x)) refl (filled-other i v eo (λ u. omega arith) a) refl
+    is-taken b p (slotOf i) prev e n g f c t bs fit (no-key i v eo (λ u. omega arith) prev (keyOf (part b p x))) refl (filled-other i v eo (λ u. omega arith) a) refl
 
 -- the tests 2 to 8
 module _ (b : List ℕ) (p i : ℕ) (prev : List ℕ) (c items d : ℕ) where

@@ -13,7 +13,8 @@ use Rattle.cbor.specs.Head.{Lead, size, leadBytes, Got, bad, got, getHead, stri
 use Rattle.buffer.proofs.ByteLaws.{all-drop}
 use Rattle.cbor.proofs.HeadLaws.{getHead-forth, length-lead, head-fits}
 use Rattle.ari.specs.Table.{Slot, Level, done, due, rule, members}
-use Rattle.ari.specs.Reader.{Dues, end, frame, push, behind, keyBytes, keyAfter, judge, judgeGot, Answer, refuse, takeStep, visit, run}
+use Rattle.cbor.specs.Head.{keyBytes}
+use Rattle.ari.specs.Reader.{Dues, end, frame, push, behind, keyAfter, judge, judgeGot, Answer, refuse, takeStep, visit, run}
 use Rattle.ari.specs.Reader as reader
 use Rattle.ari.specs.Items.{Items, none, item, encode, heads, spots, insideAt, spotAt}
 use Rattle.ari.specs.Due.{Due, Good}

@@ -10,7 +10,8 @@ use Rattle.cbor.specs.declared.Head as cbor
 use Rattle.cbor.specs.declared.Head.the-variants as cbors
 use Rattle.cbor.specs.Head.{text, Lead, size, Got, bad, got, getHead, stringSize, isContainer}
 use Rattle.ari.specs.Table.{Slot, Own, none, one, rising, filled, rule}
-use Rattle.ari.specs.Reader.{keyBytes, notGreater, isEmpty, judgeContent, judgeGot}
+use Rattle.cbor.specs.Head.{keyBytes}
+use Rattle.ari.specs.Reader.{notGreater, isEmpty, judgeContent, judgeGot}
 use Rattle.ari.specs.Reader as reader
 use Rattle.reader.specs.declared.Step.{Step}
 use Rattle.reader.specs.declared.Step.the-variants.{Taken, Refused}
@@ -19,10 +20,6 @@ use Rattle.reader.specs.declared.Walk.{Walk}
 use Rattle.reader.specs.declared.Walk.the-variants as walk
 use Rattle.reader.specs.declared.End.{End}
 use Rattle.reader.specs.declared.End.the-variants.{At, Short}
-
--- the bytes from one place to another
-abbrev pub part : List ℕ → ℕ → ℕ → List ℕ
-part b from to = take (to - from) (drop from b)
 
 -- a byte stands at a place, where so many items may still come
 abbrev pub standsAt : List ℕ → ℕ → ℕ → ℕ → Bool

@@ -7,7 +7,7 @@ ghost use lib.Dec.{eqb};
 ghost use mathlib.Core.List.{[]};
 ghost use Prim.Native.Nat.{pred, suc};
 ghost use Rattle.buffer.specs.Bytes.{all, isByte};
-ghost use Rattle.cbor.specs.Head.{isContainer};
+ghost use Rattle.cbor.specs.Head.{isContainer, keyOf};
 ghost use Rattle.cbor.specs.Answer.{headAt};
 ghost use Rattle.cbor.specs.declared.Head.the-variants.{Good};
 ghost use Rattle.ari.specs.Table.{rule, due};
@@ -15,7 +15,8 @@ ghost use Rattle.grammar.specs.Code.{fitsCode, ownOf};
 ghost use Rattle.ari.specs.Reader.{wrongVersion, notGreater, isEmpty};
 ghost use Rattle.grammar.specs.Code.{slotOf};
 ghost use Rattle.grammar.proofs.Right.{IsSlot};
-ghost use Rattle.reader.specs.Steps.{part, standsAt, stringEnd, stepAt, contentAt, ContentShown, noHead, stoppedOf, Bounded, keySpan};
+ghost use Rattle.buffer.specs.Bytes.{part};
+ghost use Rattle.reader.specs.Steps.{standsAt, stringEnd, stepAt, contentAt, ContentShown, noHead, stoppedOf, Bounded, keySpan};
 ghost use Rattle.reader.specs.Walks.{insideLevel, Walked, SetsWalked};
 ghost use Rattle.ari.specs.declared.Input.the-variants.{Single, Message};
 ghost use Rattle.ari.specs.Reader.{read};
@@ -119,12 +120,12 @@ fn is_misspelt(s: &[u8], slot: u64, kind: u8, next: usize, end: usize) -> bool
 // Test 11.
 fn is_not_greater(s: &[u8], slot: u64, own: u64, prev: Span, at: usize, end: usize) -> bool
     requires { ⌜ IsSlot slot × (own ≡ ownOf slot) × (prev .from ≤ prev .to) × (prev .to ≤ length (now s)) × (at ≤ end) × (end ≤ length (now s)) ⌝ }
-    ensures { λ r. ⌜ r ≡ notGreater (rule (slotOf slot) .own) (part (now (s .entry)) (prev .from) (prev .to)) (part (now (s .entry)) at end) ⌝ }
+    ensures { λ r. ⌜ r ≡ notGreater (rule (slotOf slot) .own) (keyOf (part (now (s .entry)) (prev .from) (prev .to))) (keyOf (part (now (s .entry)) at end)) ⌝ }
 {
     if own == 2 {
         let from = prev.from;
         let to = prev.to;
-        return !cbor::is_below(&s[from..to], &s[at..end]);
+        return !cbor::is_key_below(&s[from..to], &s[at..end]);
     }
     false
 }
@@ -153,7 +154,7 @@ fn judge_content(
 ) -> Step
     requires { ⌜ (all isByte (now s) ≡ true) × IsSlot slot × (own ≡ ownOf slot) × (prev .from ≤ prev .to) × (prev .to ≤ length (now s)) ⌝ }
     requires { ⌜ (headAt (now s) at ≡ Good kind arg next) × (at < next) × (next ≤ length (now s)) × (fitsCode slot kind arg ≡ true) × (kind ≤ 9) ⌝ }
-    ensures { λ r. ⌜ r ≡ contentAt (now (s .entry)) at (slotOf slot) (part (now (s .entry)) (prev .from) (prev .to)) ⌝ }
+    ensures { λ r. ⌜ r ≡ contentAt (now (s .entry)) at (slotOf slot) (keyOf (part (now (s .entry)) (prev .from) (prev .to))) ⌝ }
     ensures { λ r. ⌜ ContentShown (now (s .entry)) kind arg next r ⌝ }
 {
     let e = string_end(s, kind, arg, next);
@@ -236,7 +237,7 @@ fn take_head(
     depth: usize,
 ) -> Step
     requires { ⌜ (all isByte (now s) ≡ true) × IsSlot slot × (prev .from ≤ prev .to) × (prev .to ≤ length (now s)) ⌝ }
-    ensures { λ r. ⌜ r ≡ stepAt (now (s .entry)) at (slotOf slot) (part (now (s .entry)) (prev .from) (prev .to)) (items - count) depth ⌝ }
+    ensures { λ r. ⌜ r ≡ stepAt (now (s .entry)) at (slotOf slot) (keyOf (part (now (s .entry)) (prev .from) (prev .to))) (items - count) depth ⌝ }
     ensures { λ r. ⌜ Bounded (now (s .entry)) at count items depth slot r ⌝ }
 {
     let h = cbor::head_at(s, at);

@@ -10,10 +10,11 @@ use borrow.Author.Needs.{needs}
 use borrow.Fn.Kinds.{In}
 use borrow.Fn.PlainCycle.{Measures, is, falls, and}
 use Rattle.buffer.specs.Bytes.{all, isByte}
+use Rattle.cbor.specs.Head.{keyOf}
 use Rattle.ari.specs.Table.{rule}
 use Rattle.grammar.specs.Code.{slotOf}
 use Rattle.grammar.proofs.Right.{IsSlot}
-use Rattle.reader.specs.Steps.{part}
+use Rattle.buffer.specs.Bytes.{part}
 use Rattle.reader.proofs.Bounds.{nothing-inside, opened, bounds, taken-on, taken-in, taken-kind, taken-fits, read-in, read-few, read-on, less-deep, one-in, one-fits, falls-on, span-order, span-within}
 use Rattle.reader.proofs.Loop.{Leads, begins, halts, breaks, ends, again, next-slotted, turns}
 use Rattle.reader.proofs.walk_inside.Reads as walk-inside
@@ -55,7 +56,7 @@ walk-level-below t =
 
 abbrev walk-level-Inv-loop : walk-level-lts.InvT-loop
 walk-level-Inv-loop s at count items depth around slot more table₀ p₀ c₀ place₀ left₀ prev₀ table p c place left prev =
-    Leads s items (slotOf slot) more [] depth around at count table₀ (slotOf place) left (part s (prev .from) (prev .to)) p c table
+    Leads s items (slotOf slot) more [] depth around at count table₀ (slotOf place) left (keyOf (part s (prev .from) (prev .to))) p c table
     × IsSlot place × (prev .from ≤ prev .to) × (prev .to ≤ length s) × (p ≤ length s) × (c ≤ items) × (length table ≡ length table₀)
     × (all isByte s ≡ true) × (depth + around < 2 ^ 64)
 
