@@ -56,6 +56,14 @@ module _ {room room′ : List ℕ} {r : ℕ} {u : List ℕ} (p : Put room room�
           let none : behind ≡ [] = drop-of-length-le u {i = length room} (omega (arith, leb-false (length room) (length u) e)) in
           rw none
 
+  pub front-in : r ≤ length room′
+  front-in = omega (arith, front-end, ap length front-room, length-append front (drop (length front) room))
+
+  pub front-taken : take (r - 0) room′ ≡ front
+  front-taken =
+      let z : r - 0 ≡ length front = omega (arith, front-end) in
+      rw (z, front-room) (take-append-seam front (drop (length front) room))
+
 -- an ARI with a text form may stand inside another
 inside-fit : {g : Items} → Stands Single g → isSet g ≡ false → Fit g false anAriDue []
 unfolding rule

@@ -1,5 +1,5 @@
 -- What writing a text, or reading one, answers, and what the lent room holds then: R48, R49. Interface: writtenOf, roomAfter. Private to src/: spellingBy,
--- spellingOf, schemeOf, WritesWhole.
+-- spellingOf, schemeOf, WritesWhole, small.
 use Prim.Native.Nat.{ℕ}
 use mathlib.Core.Path.{_≡_}
 use mathlib.Core.Bool.{Bool, cond}
@@ -44,3 +44,7 @@ schemeOf x = cond x [] (ascii "ari:")
 -- Of each tree that may stand as the whole input, and opens no more than d containers, the text was put.
 pub record WritesWhole (b : List ℕ) (d : ℕ) (x : Bool) (r : ℕ) (room room′ : List ℕ) : Type 0 where
   pub text-of : (g : Items) → Due g (push anAriDue [] d end) → encode g ≡ b → Put room room′ 0 r (schemeOf x ++ texts g anAriDue)
+
+-- the bytes of an ARI that is written through a small scratch
+abbrev pub small : ℕ
+small = 64

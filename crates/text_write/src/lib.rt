@@ -20,7 +20,7 @@ ghost use Rattle.ari.specs.Rules.{Is};
 ghost use Rattle.ari.specs.Decode.{decode};
 ghost use Rattle.text.specs.Answer.{output, writeText, lent, cut, longest};
 ghost use Rattle.text_write.specs.Forms.{setBy, memberBy, outerOf, FloatAt};
-ghost use Rattle.text_write.specs.Written.{writtenOf, roomAfter, spellingOf, schemeOf, WritesWhole};
+ghost use Rattle.text_write.specs.Written.{writtenOf, roomAfter, spellingOf, schemeOf, WritesWhole, small};
 use ari::Input;
 use ari::Limits;
 use reader::Answer;
@@ -349,7 +349,7 @@ const SMALL_TEXT: usize = 4 + 19 * SMALL;
 
 // A small ARI needs a small scratch, which is cleared in a fraction of the time.
 fn write_small(limits: Limits, s: &[u8], out: &mut [u8]) -> Written
-    requires { ⌜ length (now s) ≤ 64 ⌝ }
+    requires { ⌜ length (now s) ≤ small ⌝ }
     ensures { λ r. ⌜ r ≡ writtenOf (lent (length (now (out .entry))) (writeText limits (now (s .entry)))) ⌝ }
     ensures { λ r. ⌜ now (out .exit) ≡ roomAfter (now (out .entry)) (lent (length (now (out .entry))) (writeText limits (now (s .entry)))) ⌝ }
 {
