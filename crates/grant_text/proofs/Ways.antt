@@ -14,7 +14,7 @@ use Rattle.grant_text.specs.declared.Number.the-variants.{Value, Bad}
 use Rattle.grant_text.specs.declared.Line.{Line}
 use Rattle.grant_text.specs.declared.Line.the-variants as line
 use Rattle.grant_text.specs.Numbers.{pushOf, onward, digitsOf, unsignedOf, positiveOf, negativeOf, signedOf}
-use Rattle.reader.specs.Steps.{part}
+use Rattle.buffer.specs.Bytes.{part}
 use Rattle.grant_text.specs.Rows.{blank, isOf, front, past, RunTo, grantOf, isEmpty, wordsOf, lineOf, fieldsOf, rowOf}
 
 -- a byte and those behind it

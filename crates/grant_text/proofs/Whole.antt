@@ -19,7 +19,7 @@ use Rattle.grant_text.specs.declared.Line.the-variants.{Blank, Grant, Ba
 use Rattle.grant_text.specs.declared.Taken.{Taken}
 use Rattle.grant_text.specs.declared.Table.{Table}
 use Rattle.grant_text.specs.declared.Table.the-variants as table
-use Rattle.reader.specs.Steps.{part}
+use Rattle.buffer.specs.Bytes.{part}
 use Rattle.grant_text.specs.Rows.{isOf, front, past, RunTo, rowOf}
 use Rattle.grant_text.specs.Table.{onto, lines, contents, gather, tableOf, packed, roomAfter, Turned, TakenAt}
 

@@ -5,7 +5,7 @@ use mathlib.Core.Bool.{Bool, not, _||_, cond}
 use mathlib.Core.List.{List, [], _∷_}
 use lib.ListN.{length, drop}
 use lib.Dec.{ltb, eqb}
-use Rattle.reader.specs.Steps.{part}
+use Rattle.buffer.specs.Bytes.{part}
 use Rattle.grant_text.specs.declared.Number.{Number}
 use Rattle.grant_text.specs.declared.Number.the-variants as number
 use Rattle.grant_text.specs.declared.Line.{Line}

@@ -1,4 +1,4 @@
--- "A text has at most 4 bytes, and 3 for each binary byte and 16 for each item."
+-- R112: a text has at most 4 bytes, and 3 for each binary byte and 16 for each item.
 use Prim.Native.Nat.{ℕ, suc, _+_, _*_, _≤_}
 use mathlib.Core.Path.{_≡_, refl}
 use mathlib.Core.Bool.{Bool, true, false, _&&_, cond}

@@ -73,7 +73,7 @@ all-digits =
     by-digits (λ u n. all isDigit u ≡ true) (λ n h. rw (digit-is n h))
     (λ u n h ih. all-append isDigit u ((48 + n % 10) ∷ []) ih (rw (digit-is (n % 10) (omega arith))))
 
--- "plain decimal: no leading zero, plus sign or -0": digits, and the first is no zero unless it is the only one
+-- R104: digits, and the first is no zero unless it is the only one
 abbrev pub plain : List ℕ → Bool
 plain u = all isDigit u && (eqb (length u) 1 || startsBy (within 49 57) u)
 

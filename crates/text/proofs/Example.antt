@@ -1,4 +1,4 @@
--- Document 01's texts and some more, written and read again, as one statement over one table, at its limits.
+-- The worked examples' texts and some more, written and read again, as one statement over one table, within the gate's own limits.
 use Prim.Native.Nat.{ℕ}
 use Prim.Native.String.{String}
 use mathlib.Core.Path.{_≡_, refl}

@@ -107,7 +107,7 @@ relative-first x (object-ref {w = w} f (with-params {l = l} {l₁ = l₁} h p₁
     let (a, b) = held-text w h in
     rw (a, b, z)
 
--- "Outermost `ari:`, except before a relative reference": taken off again
+-- R99: the scheme is taken off again
 abbrev unscheme : List ℕ → List ℕ
 unscheme t = cond (starts 46 t) t (drop 4 t)
 

@@ -1,4 +1,5 @@
--- From a text to a candidate, along the slots. Lax, and never failing: the candidate counts only if its own text is the text that was read.
+-- From a text to a candidate, along the slots. Lax, and never failing: the candidate counts only if its own text is the text that was read (R110).
+-- Interface: candidate, same. All others are its parts, which the private contracts of text_read_item and text_read cite.
 use Prim.Native.Nat.{ℕ, zero, suc, pred, _+_, _-_, _*_}
 use Prim.Native.Char.{code}
 use mathlib.Core.Bool.{Bool, true, false, not, _&&_, _||_, cond}

@@ -14,7 +14,7 @@ use borrow.Author.Tests.{lt-ltb, le-ltb, ltb-true, ltb-false, leb-true, eq-eqb, 
 use Rattle.buffer.specs.Bytes.{be, value, all, isByte}
 use Rattle.buffer.proofs.ByteLaws.{and-true, value-lt, be-value, all-take, all-drop}
 use Rattle.ari.specs.Decode.{Headed}
-use Rattle.reader.specs.Steps.{part}
+use Rattle.buffer.specs.Bytes.{part}
 use Rattle.text.specs.Chars.{ascii}
 use Rattle.text.specs.Text.{Name, name, names}
 use Rattle.text.specs.Parse.{ends, inWord, front, past, startsBy, starts, number, any, unescape, unhexes, inner, headOf, stringOf, integerOf, literalOf, startsNumber, nameOf, same, numberIn, typeNumber, typeOf, commas, count, Taken, takeWord, takeGroup, parts, takeReference, takeAri, takeNothing}

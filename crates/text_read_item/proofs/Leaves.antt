@@ -15,7 +15,7 @@ use Rattle.cbor.specs.Head.{width, shortest, majorOf, leadBytes}
 use Rattle.buffer.proofs.ByteLaws.{be-join}
 use Rattle.cbor.proofs.HeadLaws.{width-small}
 use Rattle.ari.specs.Table.{max64}
-use Rattle.reader.specs.Steps.{part}
+use Rattle.buffer.specs.Bytes.{part}
 use Rattle.buffer.specs.Put.{Put}
 use Rattle.buffer.proofs.Putting.{put-nothing, put-both}
 use Rattle.text.specs.Parse.{ends, front, past, startsBy, starts, push, number, unhex, any, first, second, unescape, unhexes, leadOf, startsNumber, opened, commas, count}

@@ -14,7 +14,7 @@ use Rattle.buffer.proofs.ByteLaws.{and-true, within-true}
 use Rattle.cbor.proofs.Computed.{allFrom, all-at}
 use Rattle.ari.specs.Table.{Slot, version, ari, type, value, namespace, objectNamespace, objectType, objectId, params, key, entry, nonce, setTime, target, report, reportTime, reportSource}
 use Rattle.grammar.specs.Code.{slots, slotOf}
-use Rattle.reader.specs.Steps.{part}
+use Rattle.buffer.specs.Bytes.{part}
 use Rattle.buffer.specs.Put.{Put}
 use Rattle.text_write_item.specs.Ways.{ways, wayAt, closing, afterBy}
 use Rattle.buffer.proofs.Putting.{put-both}

@@ -8,7 +8,7 @@ use lib.ListN.{length, drop}
 use lib.Dec.{ltb, eqb}
 use Rattle.cbor.specs.Head.{bytes, text, array, map, simple, leadBytes}
 use Rattle.ari.specs.Decode.{Headed}
-use Rattle.reader.specs.Steps.{part}
+use Rattle.buffer.specs.Bytes.{part}
 use Rattle.buffer.specs.Put.{Put}
 use Rattle.text.specs.Chars.{ascii}
 use Rattle.text.specs.Text.{Name, name}

@@ -10,7 +10,7 @@ ghost use Rattle.buffer.specs.Put.{Put};
 ghost use Rattle.text_write_item.specs.Ways.{wayAt, afterBy};
 ghost use Rattle.text.specs.Parse.{ends, starts, push, number, unhex, any, unescape, unhexes, leadOf, integerOf, literalOf, nameOf, typeOf, typeNumber, startsNumber, past, opened, commas, count, parts, takeWord, takeReference, takeAri, takeGroup, takeAt};
 ghost use Rattle.text.specs.Text.{names};
-ghost use Rattle.reader.specs.Steps.{part};
+ghost use Rattle.buffer.specs.Bytes.{part};
 ghost use Rattle.text_read_item.specs.Words.{firstOf, NextTo, WordTo, EscapeAt, strBy, Small, Bounded, Found, plainAt, wordAt, textWord, bytesWord, keyOf, keyIn, commaOf, takeValue, takeSpace, takeParams, groupOf, takeWay, Read};
 
 // A head that was read: its kind and argument, the text behind what it writes before its members, the place behind its bytes.

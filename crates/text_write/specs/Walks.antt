@@ -1,4 +1,4 @@
--- What the walk that writes a text finds and puts. It is told of every tree that may stand where it walks.
+-- The walk that writes a text: what it finds and what it puts, for every tree that may stand where it walks. Private to src/: Inside, ItemAt, Writes.
 use Prim.Native.Nat.{ℕ, _+_, _≤_, _<_}
 use mathlib.Core.Path.{_≡_}
 use mathlib.Core.Bool.{true, false, _&&_}
@@ -25,12 +25,12 @@ Inside b p d Nothing = Unit {0}
 -- The head at p, at a slot where d containers may still be opened: each head that may stand there is taken as it is.
 pub record ItemAt (b : List ℕ) (p i d : ℕ) (x : Item) : Type 0 where
   pub inside : Inside b p d x
-  pub told : (l : Lead) (str z prev : List ℕ) → Good (slotOf i) prev l str → (isContainer (l .kind) && eqb d 0) ≡ false → drop p b ≡ leadBytes l ++ (str ++ z)
+  pub takes : (l : Lead) (str z prev : List ℕ) → Good (slotOf i) prev l str → (isContainer (l .kind) && eqb d 0) ≡ false → drop p b ≡ leadBytes l ++ (str ++ z)
       → x ≡ Taken (l .kind) (l .arg) (p + size l) (p + (size l + length str))
 
 -- A walk over a level from p on that puts text from `at` on and ends at w: of each tree that is due there it puts the text.
-pub record Said (b : List ℕ) (v : Level) (d p at : ℕ) (w : Pos) (room room′ : List ℕ) : Type 0 where
+pub record Writes (b : List ℕ) (v : Level) (d p at : ℕ) (w : Pos) (room room′ : List ℕ) : Type 0 where
   pub on : p ≤ w .next
   pub within : w .next ≤ length b
-  pub told : (g : Items) (prev z : List ℕ) → Due g (push v prev d end) → drop p b ≡ encode g ++ z
+  pub text-of : (g : Items) (prev z : List ℕ) → Due g (push v prev d end) → drop p b ≡ encode g ++ z
       → (w .next ≡ p + length (encode g)) × Put room room′ at (w .end) (texts g v)
