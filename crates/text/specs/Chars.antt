@@ -16,8 +16,8 @@ ascii (String._∷_ c s) = code c ∷ ascii s
 
 -- R104: plain decimal, at most f digits and one
 unfoldable pub digits : ℕ → ℕ → List ℕ
-digits zero n = (48 + n) ∷ []
-digits (suc f) n = let r = digits f (n / 10) in cond (ltb n 10) ((48 + n) ∷ []) (r ++ ((48 + n % 10) ∷ []))
+digits zero n = (code "0" + n) ∷ []
+digits (suc f) n = let r = digits f (n / 10) in cond (ltb n 10) ((code "0" + n) ∷ []) (r ++ ((code "0" + n % 10) ∷ []))
 
 -- 20 digits hold every number of 64 bits
 unfoldable pub decimal : ℕ → List ℕ
@@ -29,7 +29,7 @@ integer k a = cond (eqb k negative) (code "-" ∷ decimal (suc a)) (decimal a)
 
 -- a hex digit, where ten is spelled so
 unfoldable pub hex : ℕ → ℕ → ℕ
-hex ten d = cond (ltb d 10) (48 + d) (ten + (d - 10))
+hex ten d = cond (ltb d 10) (code "0" + d) (ten + (d - 10))
 
 -- a byte's two hex digits
 abbrev pub hexes : ℕ → ℕ → List ℕ

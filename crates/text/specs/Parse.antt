@@ -40,14 +40,16 @@ starts c = startsBy (λ x. eqb x c)
 
 -- One digit more; 0 for another byte, or past 64 bits.
 unfoldable pub push : ℕ → ℕ → ℕ
-push n x = cond (within 48 57 x && leb (n * 10 + (x - 48)) max64) (n * 10 + (x - 48)) 0
+push n x = cond (within (code "0") (code "9") x && leb (n * 10 + (x - code "0")) max64) (n * 10 + (x - code "0")) 0
 
 unfoldable pub number : ℕ → List ℕ → ℕ
 number n [] = n
 number n (x ∷ t) = number (push n x) t
 
 unfoldable pub unhex : ℕ → ℕ
-unhex c = cond (within 48 57 c) (c - 48) (cond (within 65 70 c) (c - 55) (cond (within 97 102 c) (c - 87) 0))
+unhex c =
+    cond (within (code "0") (code "9") c) (c - code "0")
+    (cond (within (code "A") (code "F") c) (c - (code "A" - 10)) (cond (within (code "a") (code "f") c) (c - (code "a" - 10)) 0))
 
 -- Reading escapes: anything may come; after a %; after a % and a first digit.
 pub data Await : Type 0 where
@@ -96,7 +98,7 @@ literalOf u =
     (cond (starts (code "u") u) (headOf simple 23 []) (integerOf u))))))
 
 unfoldable pub startsNumber : ℕ → Bool
-startsNumber x = within 48 57 x || eqb x (code "-")
+startsNumber x = within (code "0") (code "9") x || eqb x (code "-")
 
 unfoldable pub nameOf : List ℕ → Headed
 nameOf u = cond (startsBy startsNumber u) (integerOf u) (stringOf text u)

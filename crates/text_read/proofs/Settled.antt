@@ -1,33 +1,33 @@
 -- What the candidate's bytes come to, as many as there is room for: the text's own answer. Too many bytes are no ARI, whole or cut; and a text of which
 -- more was put than the text that was read has is another one, whole or cut.
 use Prim.Native.Nat.{ℕ, _+_, _-_, _≤_, _<_}
+use Prim.Native.Char.{code}
 use mathlib.Core.Path.{_≡_, refl, sym, _∙_, ap}
 use mathlib.Core.Bool.{Bool, true, false, _&&_, cond}
 use mathlib.Core.List.{List, [], _∷_}
 use native.Mathlib.Omega.{arith}
 use lib.ListN.{length, take, drop, getD, length-take}
-use lib.Seq.{take-all, length-take-le}
-use lib.Dec.{ltb, leb, eqb}
+use lib.Seq.{take-all}
+use lib.Dec.{leb, eqb}
 use borrow.Author.Tests.{lt-ltb, le-ltb, leb-true, leb-false, ne-eqb, eq-eqb}
 use Rattle.ari.specs.declared.Limits.{Limits}
-use Rattle.ari.specs.declared.Input.the-variants.{Single}
 use Rattle.ari.specs.Reader.{read}
 use Rattle.ari.specs.Items.{encode}
 use Rattle.text.specs.Text.{anAriDue}
 use Rattle.text.specs.Parse.{starts, same, parse, level, candidate}
-use Rattle.text.specs.Answer.{Output, refused, output, writeText, checked, readText, lent, cut}
+use Rattle.text.specs.Answer.{refused, output, writeText, checked, readText, lent, cut}
 use Rattle.buffer.specs.Put.{Put}
 use Rattle.buffer.proofs.Putting.{put-size}
 use Rattle.text_write.specs.declared.Written.{Written}
 use Rattle.text_write.specs.declared.Written.the-variants.{Bytes, Refused}
 use Rattle.text_write.specs.Written.{writtenOf, roomAfter}
-use Rattle.text_write.proofs.Handing.{Front, front-of, not-put, front-end, front-taken}
+use Rattle.text_write.proofs.Handing.{Front, front-of, not-put, front-taken}
 use Rattle.text_read_item.proofs.Leaves.{here, beyond}
 use Rattle.text_read.specs.declared.Pos.{Pos}
 use Rattle.text_read.specs.Parsed.{Parsed, Begins}
 
 -- the walk over the whole text
-candidate-is : (m : Limits) (t : List ℕ) → candidate m t ≡ level (parse (m .items) (m .containers)) (m .items) anAriDue (cond (starts 46 t) t (drop 4 t)) .items
+candidate-is : (m : Limits) (t : List ℕ) → candidate m t ≡ level (parse (m .items) (m .containers)) (m .items) anAriDue (cond (starts (code ".") t) t (drop 4 t)) .items
 unfolding candidate parse
 candidate-is m t = refl
 

@@ -1,5 +1,6 @@
 -- The walk that reads: one law for each way that a turn ends; the premises are the facts that the code leaves.
 use Prim.Native.Nat.{ℕ, zero, suc, pred, _+_, _-_, _*_, _≤_, _<_}
+use Prim.Native.Char.{code}
 use mathlib.Core.Path.{_≡_, refl, sym, _∙_, ap}
 use mathlib.Core.Bool.{Bool, true, false, cond}
 use mathlib.Core.List.{List, [], _∷_, _++_, append-assoc}
@@ -225,14 +226,14 @@ unfolding startsBy
 begins-empty [] h = record { is = refl; inside = omega arith }
 begins-empty (x ∷ t) h = absurd (omega arith)
 
-pub begins-relative : (t : List ℕ) → (length t ≡ 0 → ⊥) → getD t 0 0 ≡ 46 → Begins t 0
+pub begins-relative : (t : List ℕ) → (length t ≡ 0 → ⊥) → getD t 0 0 ≡ code "." → Begins t 0
 unfolding startsBy
 begins-relative [] h e = absurd (h refl)
 begins-relative (x ∷ t) h e = record { is = rw e; inside = omega arith }
 
-pub begins-absolute : (t : List ℕ) {r : ℕ} → (length t ≡ 0 → ⊥) → (getD t 0 0 ≡ 46 → ⊥) → NextTo t 0 4 r → Begins t r
+pub begins-absolute : (t : List ℕ) {r : ℕ} → (length t ≡ 0 → ⊥) → (getD t 0 0 ≡ code "." → ⊥) → NextTo t 0 4 r → Begins t r
 unfolding startsBy
 begins-absolute [] h e n = absurd (h refl)
-begins-absolute (x ∷ t) h e n = record { is = n .is ∙ rw (ne-eqb x 46 e); inside = n .inside }
+begins-absolute (x ∷ t) h e n = record { is = n .is ∙ rw (ne-eqb x (code ".") e); inside = n .inside }
 
 pub ruleset walking = (no-depth, nothing-inside, opened, inner-slot, next-slotted, begins, spent, filled, ends, again, begins-empty, begins-relative, begins-absolute)

@@ -32,6 +32,7 @@ use Rattle.reader.specs.declared.Answer.the-variants as answers
 use Rattle.reader.specs.Answers.{answerOf}
 use Rattle.reader.specs.Steps.{stringEnd}
 use Rattle.text.specs.Text.{Form, spelled, none-at, isFloat, floatIn, isSet, isRelative, form, texts, anAriDue}
+use Rattle.text.specs.Chars.{ascii}
 use Rattle.text.specs.Answer.{writeText}
 use Rattle.text.proofs.Leads.{no-string}
 use Rattle.buffer.specs.Put.{Put}
@@ -298,7 +299,7 @@ module _ (m : Limits) (b : List ℕ) {a : Answer} (e : a ≡ answerOf (read m Si
 pub scheme-none : (room : List ℕ) (x : Bool) → x ≡ true → Put room room 0 0 (schemeOf x)
 scheme-none room x e = rw e (put-nothing room 0)
 
-pub scheme-put : {a b : List ℕ} {r : ℕ} (x : Bool) → x ≡ false → Put a b 0 r (97 ∷ 114 ∷ 105 ∷ 58 ∷ []) → Put a b 0 r (schemeOf x)
+pub scheme-put : {a b : List ℕ} {r : ℕ} (x : Bool) → x ≡ false → Put a b 0 r (ascii "ari:") → Put a b 0 r (schemeOf x)
 scheme-put x e p = rw e p
 
 pub whole : (b : List ℕ) (d : ℕ) (x : Bool) {r : ℕ} {room room₁ room₂ : List ℕ} {w : Pos} → Put room room₁ 0 r (schemeOf x) → Writes b anAriDue d 0 r w room₁ room₂

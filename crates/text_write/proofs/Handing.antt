@@ -2,11 +2,11 @@
 use Prim.Native.Nat.{ℕ, _+_, _-_, _≤_, _<_}
 use mathlib.Core.Path.{_≡_, refl, sym, _∙_, ap}
 use mathlib.Core.Bool.{Bool, true, false}
-use mathlib.Core.List.{List, [], _∷_, _++_}
+use mathlib.Core.List.{List, [], _++_}
 use native.Mathlib.Omega.{arith}
-use lib.ListN.{length, take, drop, getD, length-append, length-take, length-drop, take-append-drop, drop-of-length-le}
-use lib.Seq.{sets, sets-eq, length-sets, take-all, take-append-seam, length-take-le}
-use lib.Dec.{leb, ltb}
+use lib.ListN.{length, take, drop, getD, length-append, length-take, take-append-drop, drop-of-length-le}
+use lib.Seq.{sets, sets-eq, length-sets, take-all, take-append-seam}
+use lib.Dec.{leb}
 use mir.Syntax.{w8}
 use mir.Val.{Fits}
 use borrow.Author.Tests.{lt-ltb, le-ltb, leb-true, leb-false}
@@ -24,7 +24,7 @@ use Rattle.reader.proofs.Whole.{all-bytes}
 use Rattle.text.specs.Text.{anAriDue, isRelative, isSet, textOf}
 use Rattle.text.specs.Answer.{Spelled, Output, refused, output, writeText, lent, cut, longest}
 use Rattle.text.proofs.Outer.{inward, texted}
-use Rattle.text.proofs.Round.{write-exactly, text-short, capped-longest}
+use Rattle.text.proofs.Round.{write-exactly, text-short}
 use Rattle.buffer.specs.Put.{Put}
 use Rattle.buffer.proofs.Putting.{sets-append, put-out, put-end}
 use Rattle.text_write.specs.declared.Spelling.{Spelling}
@@ -122,8 +122,6 @@ module _ (m : Limits) (b : List ℕ) {f : Spelling} (e : f ≡ spellingOf m b) w
 
       pub text-stands : room′ ≡ roomAfter room (cut (length room) (writeText m b))
       text-stands = rw (the-text .is-written) (front-room put-it)
-
-pub ruleset putting = (none-put, none-kept, text-put, text-stands)
 
 -- room for bytes
 module _ (b : List ℕ) (count : ℕ) (room : List ℕ) where
@@ -223,8 +221,6 @@ module _ (m : Limits) (b : List ℕ) (bytes : (j : ℕ) → Fits w8 (getD b j 0)
 
     pub fills-room : (i : ℕ) (z : List ℕ) {z′ : List ℕ} → z′ ≡ roomAfter z (lent i (output (take (l - 0) scratch′) n)) → z′ ≡ roomAfter z (lent i (writeText m b))
     fills-room i z e = e ∙ ap (λ (o : Output). roomAfter z (lent i o)) handed-is
-
-pub ruleset scratching = (answers-none, keeps-room, front-of, in-scratch, answers-text, fills-room)
 
 -- It is written at once, within the capped limits.
 module _ {m m′ : Limits} (c : m ≡ m′) (b : List ℕ) (bytes : (j : ℕ) → Fits w8 (getD b j 0)) {need k : ℕ} (e : need ≡ longest m (length b)) (h : need ≤ k) where

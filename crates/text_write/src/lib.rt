@@ -161,14 +161,21 @@ pub struct Outer {
     pub relative: bool,
 }
 
+// A typed literal's members, the type and the value; and the types of the sets.
+const TYPED: u64 = 2;
+
+const EXECSET: u64 = 20;
+
+const RPTSET: u64 = 21;
+
 fn is_set(length: u64, arg: u64) -> bool
     ensures { λ r. ⌜ r ≡ setBy length arg ⌝ }
 {
-    if length == 2 {
-        if arg == 20 {
+    if length == TYPED {
+        if arg == EXECSET {
             return true;
         }
-        return arg == 21;
+        return arg == RPTSET;
     }
     false
 }

@@ -1,3 +1,4 @@
+-- `text_read::hand_over_if` meets its contract: by whether the text was the one that was read.
 use Rattle.text_read.proofs.Settled.{text-given, text-filled}
 use borrow.Author.Needs.{needs}
 use Rattle.text_read.proofs.hand_over_if.Statement.{statement}

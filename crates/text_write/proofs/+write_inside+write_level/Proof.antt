@@ -1,3 +1,5 @@
+-- `text_write::write_inside` and `write_level` meet their contracts, together: by the depth, and in the loop whatever is written from here on ends what was
+-- begun.
 use Prim.Native.Nat.{ℕ, _+_, _-_, _*_, _<_, _≤_}
 use mathlib.Core.Path.{_≡_, _∙_}
 use lib.ListN.{length}

@@ -1,3 +1,4 @@
+-- `text_write::put_whole` meets its contract: the scheme, then the level of one ARI.
 use Rattle.text_write.proofs.Forming.{forming}
 use borrow.Author.Needs.{needs}
 use Rattle.text_write.proofs.put_whole.Statement.{statement}

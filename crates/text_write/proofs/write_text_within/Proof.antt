@@ -1,5 +1,4 @@
 -- `text_write::write_text_within` meets its contract: within the capped limits no text is longer than the scratch.
-use Rattle.text.proofs.Round.{capped-longest}
 use Rattle.text_write.proofs.Handing.{at-once, at-once-filled}
 use borrow.Author.Needs.{needs}
 use Rattle.text_write.proofs.write_text_within.Statement.{statement}
