@@ -5,12 +5,13 @@ use mathlib.Core.Bool.{cond}
 use mathlib.Core.List.{List}
 use lib.ListN.{length}
 use lib.Dec.{ltb}
+use Rattle.buffer.specs.Bytes.{same}
 use Rattle.ari.specs.Reader.{Limits, Answer, refuse, accept, single, read}
 use Rattle.ari.specs.Items.{Items, encode}
 use Rattle.ari.specs.Decode.{decode}
 use Rattle.ari.specs.Rules.{Is}
 use Rattle.text.specs.Text.{textOf, Form, spelled, none-at, form}
-use Rattle.text.specs.Parse.{same, candidate}
+use Rattle.text.specs.Parse.{candidate}
 
 -- The bytes b are an accepted ARI of n items that has a text form, and its text is t.
 pub record Spelled (m : Limits) (t b : List ℕ) (n : ℕ) : Type 0 where

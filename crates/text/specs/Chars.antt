@@ -1,10 +1,11 @@
 -- How one item is spelled: document 01, 'Text'.
-use Prim.Native.Nat.{ℕ, zero, suc, _+_, _-_, _/_, _%_}
+use Prim.Native.Nat.{ℕ, suc, _+_, _-_, _/_, _%_}
 use Prim.Native.Char.{code}
 use Prim.Native.String.{String}
 use mathlib.Core.Bool.{Bool, _||_, cond}
 use mathlib.Core.List.{List, [], _∷_, _++_}
 use lib.Dec.{ltb, eqb}
+use Rattle.buffer.specs.Decimal.{decimal}
 use Rattle.cbor.specs.Head.{negative, bytes, text, simple, Lead}
 use Rattle.ari.specs.Name.{continuesName}
 
@@ -13,16 +14,7 @@ abbrev pub ascii : String → List ℕ
 ascii String.[] = []
 ascii (String._∷_ c s) = code c ∷ ascii s
 
--- "Integers in plain decimal: no leading zero, plus sign or -0." At most f digits and one
-unfoldable pub digits : ℕ → ℕ → List ℕ
-digits zero n = (48 + n) ∷ []
-digits (suc f) n = let r = digits f (n / 10) in cond (ltb n 10) ((48 + n) ∷ []) (r ++ ((48 + n % 10) ∷ []))
-
--- 20 digits hold every number of 64 bits
-unfoldable pub decimal : ℕ → List ℕ
-decimal = digits 19
-
--- "In a negative head the argument n means -1 - n"
+-- "Integers in plain decimal: no leading zero, plus sign or -0." "In a negative head the argument n means -1 - n"
 unfoldable pub integer : ℕ → ℕ → List ℕ
 integer k a = cond (eqb k negative) (code "-" ∷ decimal (suc a)) (decimal a)
 
