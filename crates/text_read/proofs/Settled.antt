@@ -9,14 +9,15 @@ use lib.ListN.{length, take, drop, getD}
 use lib.Seq.{length-take-le}
 use lib.Dec.{ltb, leb, eqb}
 use borrow.Author.Tests.{lt-ltb, le-ltb, ltb-true, ltb-false, leb-true, leb-false, ne-eqb, eq-eqb, not-true, not-false}
-use Rattle.buffer.specs.Bytes.{all, isByte}
+use Rattle.buffer.specs.Bytes.{all, isByte, same}
+use Rattle.buffer.proofs.ByteLaws.{same-is, same-self, same-length}
 use Rattle.ari.specs.Reader.{Limits, read, single}
 use Rattle.ari.specs.Items.{encode}
 use Rattle.ari.specs.Limits.{firstLimits}
 use Rattle.text.specs.Text.{anAriDue}
-use Rattle.text.specs.Parse.{starts, same, parse, level, candidate}
+use Rattle.text.specs.Parse.{starts, parse, level, candidate}
 use Rattle.text.specs.Answer.{Output, refused, output, written, writeText, checked, readText, lent}
-use Rattle.text.proofs.Round.{same-is, same-self, write-exactly, read-exactly, read-no-text}
+use Rattle.text.proofs.Round.{write-exactly, read-exactly, read-no-text}
 use Rattle.ari.specs.Table.{max64}
 use Rattle.buffer.specs.Put.{Put}
 use Rattle.buffer.proofs.Putting.{put-size, put-end}
@@ -26,7 +27,7 @@ use Rattle.text_write.specs.declared.Written.{Written}
 use Rattle.text_write.specs.declared.Written.the-variants.{Bytes, Refused}
 use Rattle.text_write.specs.Written.{writtenOf, roomAfter, spellingOf, Whole}
 use Rattle.text_write.proofs.Handing.{writes-none, Own, own-text, put-taken}
-use Rattle.text_read_item.proofs.Leaves.{here, beyond}
+use Rattle.buffer.proofs.RunLaws.{here, beyond}
 use Rattle.text_read.specs.declared.Pos.{Pos}
 use Rattle.text_read.specs.Parsed.{Parsed, Tried, Begins}
 
@@ -38,31 +39,6 @@ candidate-is l t = refl
 pub whole-candidate : (t : List ℕ) {p : ℕ} {room room′ : List ℕ} {w : Pos} → Begins t p → Parsed t (level (parse 1024 12) 1024 anAriDue (drop p t)) 0 room room′ w
     → Put room room′ 0 (w .end) (encode (candidate firstLimits t))
 whole-candidate t b x = rw (candidate-is firstLimits t, ← b .is) (x .put)
-
--- two runs of bytes are the same
-same-length : (a b : List ℕ) → (length a ≡ length b → ⊥) → same a b ≡ false
-same-length [] [] n = absurd (n refl)
-same-length [] (y ∷ b) n = refl
-same-length (x ∷ a) [] n = refl
-same-length (x ∷ a) (y ∷ b) n = rw (same-length a b (λ e. n (ap Prim.Native.Nat.suc e))) (false-and (eqb x y))
-  where
-    false-and : (t : Bool) → (t && false) ≡ false
-    false-and true = refl
-    false-and false = refl
-
-module _ (a b : List ℕ) where
-  pub lengths-differ : (length a ≡ length b → ⊥) → false ≡ same a b
-  lengths-differ n = sym (same-length a b n)
-
-  module _ (i : ℕ) (l : length a ≡ length b) (e : same (drop i a) (drop i b) ≡ same a b) where
-    pub bytes-differ : i < length a → (getD a i 0 ≡ getD b i 0 → ⊥) → false ≡ same a b
-    bytes-differ h n = rw (here a i h, here b i (omega arith), ne-eqb (getD a i 0) (getD b i 0) n) at e
-
-    pub bytes-agree : i < length a → getD a i 0 ≡ getD b i 0 → same (drop (i + 1) a) (drop (i + 1) b) ≡ same a b
-    bytes-agree h q = rw (here a i h, here b i (omega arith), eq-eqb (getD a i 0) (getD b i 0) q) at e
-
-    pub all-agree : length a ≤ i → true ≡ same a b
-    all-agree h = rw (beyond a i h, beyond b i (omega arith)) at e
 
 -- bytes that were told, and bytes that were not
 module _ (b : List ℕ) (n : ℕ) (room : List ℕ) {y : Bool} where
@@ -176,4 +152,4 @@ module _ (t : List ℕ) where
     pub full-kept : (o : List ℕ) (m : ℕ) → length room′ < r → o ≡ roomAfter o (lent m (readText firstLimits t))
     full-kept o m g = rw (none-fits g)
 
-pub ruleset settling = (whole-candidate, lengths-differ, bytes-differ, bytes-agree, all-agree, long-refused, long-kept, tried-is, tried-short, full-refused, full-kept)
+pub ruleset settling = (whole-candidate, long-refused, long-kept, tried-is, tried-short, full-refused, full-kept)

@@ -10,7 +10,7 @@ ghost use Rattle.grammar.specs.Code.{slotOf};
 ghost use Rattle.grammar.proofs.Right.{IsSlot};
 ghost use Rattle.reader.specs.Walks.{insideLevel};
 ghost use Rattle.buffer.specs.Put.{Put};
-ghost use Rattle.text.specs.Parse.{same, level, parse, candidate};
+ghost use Rattle.text.specs.Parse.{level, parse, candidate};
 ghost use Rattle.text.specs.Answer.{refused, output, readText, lent};
 ghost use Rattle.text_write.specs.Written.{writtenOf, roomAfter};
 ghost use Rattle.text_read.specs.Parsed.{Parsed, Tried, Begins};
@@ -124,22 +124,6 @@ fn put_candidate(t: &[u8], out: &mut [u8]) -> usize
     w.end
 }
 
-fn same(a: &[u8], b: &[u8]) -> bool
-    ensures { λ r. ⌜ r ≡ same (now (a .entry)) (now (b .entry)) ⌝ }
-{
-    if a.len() != b.len() {
-        return false;
-    }
-    let mut i = 0;
-    while i < a.len() {
-        if a[i] != b[i] {
-            return false;
-        }
-        i += 1;
-    }
-    true
-}
-
 // Bytes are handed over, if they are what was told; or they are refused.
 fn give(told: bool, b: &[u8], count: usize, out: &mut [u8]) -> Written
     ensures { λ r. ⌜ r ≡ writtenOf (lent (length (now (out .entry))) (cond told (output (now (b .entry)) count) (refused 15 0))) ⌝ }
@@ -168,7 +152,7 @@ fn confirm(t: &[u8], b: &[u8], text: &mut [u8], out: &mut [u8]) -> Written
         };
     };
     let size = text_write::put_text(b, relative, text);
-    let told = same(&text[0..size], t);
+    let told = buffer::same(&text[0..size], t);
     give(told, b, count, out)
 }
 
