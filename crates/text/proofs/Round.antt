@@ -8,8 +8,8 @@ use native.Mathlib.Omega.{arith}
 use lib.ListN.{length}
 use lib.Dec.{ltb, eqb}
 use borrow.Author.Tests.{ltb-true, ltb-false, eqb-true, eq-eqb}
-use Rattle.buffer.specs.Bytes.{all, isByte}
-use Rattle.buffer.proofs.ByteLaws.{and-true}
+use Rattle.buffer.specs.Bytes.{all, isByte, same}
+use Rattle.buffer.proofs.ByteLaws.{same-is, same-self}
 use Rattle.ari.specs.Table.{max64, alone, ari, due}
 use Rattle.ari.specs.declared.Limits.{Limits}
 use Rattle.ari.specs.declared.Input.the-variants.{Single}
@@ -22,21 +22,11 @@ use Rattle.ari.proofs.Demand.{stands-fit, demand-two}
 use Rattle.ari.proofs.Weight.{well-fit}
 use Rattle.ari.proofs.Decoded.{heads-encode}
 use Rattle.text.specs.Text.{textOf, Form, spelled, none-at, form}
-use Rattle.text.specs.Parse.{same, candidate}
+use Rattle.text.specs.Parse.{candidate}
 use Rattle.text.specs.Answer.{Output, refused, output, written, writeText, checked, readText, Spelled, longest}
 use Rattle.text.proofs.Bound.{text-most}
 use Rattle.text.proofs.Outer.{candidate-back}
 use Rattle.text.proofs.Octets.{candidate-bytes}
-
-pub same-is : (u v : List ℕ) → same u v ≡ true → u ≡ v
-same-is [] [] e = refl
-same-is [] (y ∷ v) e = absurd (true≢false (sym e))
-same-is (x ∷ u) [] e = absurd (true≢false (sym e))
-same-is (x ∷ u) (y ∷ v) e = let (p, q) = and-true (eqb x y) (same u v) e in rw (eqb-true x y p, same-is u v q)
-
-pub same-self : (u : List ℕ) → same u u ≡ true
-same-self [] = refl
-same-self (x ∷ u) = rw (eq-eqb x x refl, same-self u)
 
 never : {r p n : ℕ} {t : List ℕ} → refused r p ≡ output t n → ⊥
 never e = let z : _≡_ {A = ℕ} 0 1 = cc in omega arith

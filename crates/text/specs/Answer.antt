@@ -6,6 +6,7 @@ use mathlib.Core.Bool.{cond}
 use mathlib.Core.List.{List}
 use lib.ListN.{length, take}
 use lib.Dec.{ltb}
+use Rattle.buffer.specs.Bytes.{same}
 use Rattle.ari.specs.declared.Limits.{Limits}
 use Rattle.ari.specs.declared.Input.the-variants.{Single}
 use Rattle.ari.specs.Reader.{Answer, refuse, accept, read}
@@ -13,7 +14,7 @@ use Rattle.ari.specs.Items.{Items, encode}
 use Rattle.ari.specs.Decode.{decode}
 use Rattle.ari.specs.Rules.{Is}
 use Rattle.text.specs.Text.{textOf, Form, spelled, none-at, form}
-use Rattle.text.specs.Parse.{same, candidate}
+use Rattle.text.specs.Parse.{candidate}
 
 -- The bytes b are an accepted ARI of n items that has a text form, and its text is t.
 pub record Spelled (m : Limits) (t b : List ℕ) (n : ℕ) : Type 0 where

@@ -1,11 +1,12 @@
--- How one item is spelled: R104 to R109. Interface: ascii, digits, decimal, integer, hex, hexes, bare, escape, each, textString, byteString, simpleText,
+-- How one item is spelled: R104 to R109. Interface: ascii, integer, hex, hexes, bare, escape, each, textString, byteString, simpleText,
 -- literalText, nameText.
-use Prim.Native.Nat.{ℕ, zero, suc, _+_, _-_, _/_, _%_}
+use Prim.Native.Nat.{ℕ, suc, _+_, _-_, _/_, _%_}
 use Prim.Native.Char.{code}
 use Prim.Native.String.{String}
 use mathlib.Core.Bool.{Bool, _||_, cond}
 use mathlib.Core.List.{List, [], _∷_, _++_}
 use lib.Dec.{ltb, eqb}
+use Rattle.buffer.specs.Decimal.{decimal}
 use Rattle.cbor.specs.Head.{negative, bytes, text, simple, Lead}
 use Rattle.ari.specs.Name.{continuesName}
 
@@ -13,15 +14,6 @@ use Rattle.ari.specs.Name.{continuesName}
 abbrev pub ascii : String → List ℕ
 ascii String.[] = []
 ascii (String._∷_ c s) = code c ∷ ascii s
-
--- R104: plain decimal, at most f digits and one
-unfoldable pub digits : ℕ → ℕ → List ℕ
-digits zero n = (code "0" + n) ∷ []
-digits (suc f) n = let r = digits f (n / 10) in cond (ltb n 10) ((code "0" + n) ∷ []) (r ++ ((code "0" + n % 10) ∷ []))
-
--- 20 digits hold every number of 64 bits
-unfoldable pub decimal : ℕ → List ℕ
-decimal = digits 19
 
 -- R104; R15: the argument n of a negative head means -1 - n
 unfoldable pub integer : ℕ → ℕ → List ℕ

@@ -14,15 +14,16 @@ use Rattle.ari.specs.declared.Limits.{Limits}
 use Rattle.ari.specs.Reader.{read}
 use Rattle.ari.specs.Items.{encode}
 use Rattle.text.specs.Text.{anAriDue}
-use Rattle.text.specs.Parse.{starts, same, parse, level, candidate}
+use Rattle.text.specs.Parse.{starts, parse, level, candidate}
 use Rattle.text.specs.Answer.{refused, output, writeText, checked, readText, lent, cut}
+use Rattle.buffer.specs.Bytes.{same}
+use Rattle.buffer.proofs.ByteLaws.{same-length}
 use Rattle.buffer.specs.Put.{Put}
 use Rattle.buffer.proofs.Putting.{put-size}
 use Rattle.text_write.specs.declared.Written.{Written}
 use Rattle.text_write.specs.declared.Written.the-variants.{Bytes, Refused}
 use Rattle.text_write.specs.Written.{writtenOf, roomAfter}
 use Rattle.text_write.proofs.Handing.{Front, front-of, not-put, front-taken}
-use Rattle.text_read_item.proofs.Leaves.{here, beyond}
 use Rattle.text_read.specs.declared.Pos.{Pos}
 use Rattle.text_read.specs.Parsed.{Parsed, Begins}
 
@@ -35,32 +36,7 @@ pub whole-candidate : (m : Limits) (t : List ℕ) {p : ℕ} {room room′ : List
     → Parsed t (level (parse (m .items) (m .containers)) (m .items) anAriDue (drop p t)) 0 room room′ w → Put room room′ 0 (w .end) (encode (candidate m t))
 whole-candidate m t b x = rw (candidate-is m t, ← b .is) (x .put)
 
--- two runs of bytes are the same
-same-length : (a b : List ℕ) → (length a ≡ length b → ⊥) → same a b ≡ false
-same-length [] [] n = absurd (n refl)
-same-length [] (y ∷ b) n = refl
-same-length (x ∷ a) [] n = refl
-same-length (x ∷ a) (y ∷ b) n = rw (same-length a b (λ e. n (ap Prim.Native.Nat.suc e))) (false-and (eqb x y))
-  where
-    false-and : (t : Bool) → (t && false) ≡ false
-    false-and true = refl
-    false-and false = refl
-
-module _ (a b : List ℕ) where
-  pub lengths-differ : (length a ≡ length b → ⊥) → false ≡ same a b
-  lengths-differ n = sym (same-length a b n)
-
-  module _ (i : ℕ) (l : length a ≡ length b) (e : same (drop i a) (drop i b) ≡ same a b) where
-    pub bytes-differ : i < length a → (getD a i 0 ≡ getD b i 0 → ⊥) → false ≡ same a b
-    bytes-differ h n = rw (here a i h, here b i (omega arith), ne-eqb (getD a i 0) (getD b i 0) n) at e
-
-    pub bytes-agree : i < length a → getD a i 0 ≡ getD b i 0 → same (drop (i + 1) a) (drop (i + 1) b) ≡ same a b
-    bytes-agree h q = rw (here a i h, here b i (omega arith), eq-eqb (getD a i 0) (getD b i 0) q) at e
-
-    pub all-agree : length a ≤ i → true ≡ same a b
-    all-agree h = rw (beyond a i h, beyond b i (omega arith)) at e
-
-pub ruleset settling = (whole-candidate, lengths-differ, bytes-differ, bytes-agree, all-agree)
+pub ruleset settling = (whole-candidate)
 
 -- the bytes of the text that was read, and those of another one
 module _ (b : List ℕ) (n : ℕ) (room : List ℕ) {y : Bool} where

@@ -27,7 +27,7 @@ use Rattle.text.specs.Text.{spell}
 use Rattle.text.specs.Parse.{starts, startsBy, Taken, takeAt, Run, nothing, level, parse}
 use Rattle.text_read_item.specs.declared.Item as read
 use Rattle.text_read_item.specs.Words.{NextTo, Read}
-use Rattle.text_read_item.proofs.Leaves.{here, beyond}
+use Rattle.buffer.proofs.RunLaws.{here, beyond}
 use Rattle.text_read_item.proofs.Ways.{type-arg}
 use Rattle.text_read.specs.declared.Pos.{Pos}
 use Rattle.text_read.specs.Parsed.{Parsed, Begins}

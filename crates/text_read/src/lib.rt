@@ -10,7 +10,7 @@ ghost use Rattle.grammar.specs.Code.{slotOf};
 ghost use Rattle.grammar.proofs.Right.{IsSlot};
 ghost use Rattle.reader.specs.Walks.{insideLevel};
 ghost use Rattle.buffer.specs.Put.{Put};
-ghost use Rattle.text.specs.Parse.{same, level, parse, candidate};
+ghost use Rattle.text.specs.Parse.{level, parse, candidate};
 ghost use Rattle.text.specs.Answer.{refused, output, writeText, checked, readText, lent};
 ghost use Rattle.text_write.specs.Written.{writtenOf, roomAfter};
 ghost use Rattle.text_read.specs.Parsed.{Parsed, Begins, short};
@@ -137,22 +137,6 @@ fn put_candidate(limits: Limits, t: &[u8], out: &mut [u8]) -> usize
     w.end
 }
 
-fn same(a: &[u8], b: &[u8]) -> bool
-    ensures { λ r. ⌜ r ≡ same (now (a .entry)) (now (b .entry)) ⌝ }
-{
-    if a.len() != b.len() {
-        return false;
-    }
-    let mut i = 0;
-    while i < a.len() {
-        if a[i] != b[i] {
-            return false;
-        }
-        i += 1;
-    }
-    true
-}
-
 // Bytes are handed over, if the text that was read is theirs; otherwise it is none: test 15.
 fn hand_over_if(spelled: bool, b: &[u8], count: usize, out: &mut [u8]) -> Written
     ensures { λ r. ⌜ r ≡ writtenOf (lent (length (now (out .entry))) (cond spelled (output (now (b .entry)) count) (refused 15 0))) ⌝ }
@@ -180,7 +164,7 @@ fn confirm(limits: Limits, t: &[u8], b: &[u8], scratch: &mut [u8], out: &mut [u8
             place: 0,
         };
     };
-    let spelled = same(&scratch[0..length], t);
+    let spelled = buffer::same(&scratch[0..length], t);
     hand_over_if(spelled, b, count, out)
 }
 
