@@ -7,7 +7,8 @@ ghost use lib.ListN.{length};
 ghost use Rattle.buffer.specs.Put.{Put};
 ghost use Rattle.buffer.specs.Decimal.{decimal};
 ghost use Rattle.print.specs.Texts.{repeated, hexOf, negativeOf, simpleOf, literalOf, containerOf, kindOf, numbersOf, lineOf, refusedOf, acceptedOf, fieldOf};
-ghost use Rattle.print.specs.Items.{freshOf, checkOf, foundOf, foundLine, answerLine, Listed};
+ghost use Rattle.item_records.specs.Records.{recordFrom};
+ghost use Rattle.print.specs.Items.{freshOf, answerLine, Listed};
 ghost use Rattle.print.specs.Integers.{integerOf};
 ghost use Rattle.print.specs.Entries.{nameOf, spaceOf, entryLine, entryOf};
 ghost use Rattle.cbor.specs.Answer.{headAt};
@@ -146,11 +147,11 @@ pub fn item(out: &mut [u8], at: usize, k: usize, x: item_records::Record, indent
 }
 
 // The line of a refusal.
-pub fn refused(out: &mut [u8], at: usize, number: u64, place: usize) -> usize
+pub fn refused(out: &mut [u8], at: usize, number: u8, place: usize) -> usize
     ensures { λ r. ⌜ Put (now (out .entry)) (now (out .exit)) at r (refusedOf number place) ⌝ }
 {
     let a = buffer::put_all(out, at, b"refused ");
-    let b = field(out, a, number);
+    let b = field(out, a, number as u64);
     let c = buffer::put_decimal(out, b, place as u64);
     buffer::put(out, c, b'\n')
 }
@@ -195,54 +196,23 @@ pub fn fresh_line(out: &[u8], at: usize) -> usize
     0
 }
 
-// A single ARI or a message is checked.
-pub fn check(s: &[u8], single: bool) -> reader::Answer
-    ensures { λ r. ⌜ r ≡ checkOf single (now (s .entry)) ⌝ }
-{
-    if single {
-        return reader::check_single(s);
-    }
-    reader::check_message(s)
-}
-
-fn find(s: &[u8], single: bool, k: usize) -> item_records::Found
-    ensures { λ r. ⌜ r ≡ foundOf single (now (s .entry)) k ⌝ }
-{
-    if single {
-        return item_records::item_single(s, k);
-    }
-    item_records::item_message(s, k)
-}
-
-fn item_line(out: &mut [u8], at: usize, s: &[u8], single: bool, k: usize, indent: &[u8]) -> usize
-    ensures { λ r. ⌜ Put (now (out .entry)) (now (out .exit)) (freshOf at (length (now (out .entry)))) r (foundLine k (now (indent .entry)) (foundOf single (now (s .entry)) k)) ⌝ }
+// The line of item k, by its word in the item table.
+fn item_line(out: &mut [u8], at: usize, s: &[u8], k: usize, entry: u64, indent: &[u8]) -> usize
+    ensures { λ r. ⌜ Put (now (out .entry)) (now (out .exit)) (freshOf at (length (now (out .entry)))) r (lineOf k (recordFrom (now (s .entry)) entry) (now (indent .entry))) ⌝ }
 {
     let p = fresh_line(out, at);
-    let f = find(s, single, k);
-    match f {
-        item_records::Found::Item { record, count: _ } => item(out, p, k, record, indent),
-        item_records::Found::Refused {
-            number: _,
-            place: _,
-        } => p,
-    }
+    let x = item_records::record_of(s, entry);
+    item(out, p, k, x, indent)
 }
 
-// The lines of the first items of an input, so many.
-pub fn items(
-    out: &mut [u8],
-    at: usize,
-    s: &[u8],
-    single: bool,
-    count: usize,
-    indent: &[u8],
-) -> usize
-    ensures { λ r. ⌜ Listed single (now (s .entry)) (now (indent .entry)) (now (out .entry)) at count (now (out .exit)) r ⌝ }
+// The lines of the items of an input, by the words of its table.
+pub fn items(out: &mut [u8], at: usize, s: &[u8], entries: &[u64], indent: &[u8]) -> usize
+    ensures { λ r. ⌜ Listed (now (s .entry)) (now (entries .entry)) (now (indent .entry)) (now (out .entry)) at (length (now (entries .entry))) (now (out .exit)) r ⌝ }
 {
     let mut p = at;
     let mut k = 0;
-    while k < count {
-        p = item_line(out, p, s, single, k, indent);
+    while k < entries.len() {
+        p = item_line(out, p, s, k, entries[k], indent);
         k += 1;
     }
     p
