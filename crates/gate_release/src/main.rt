@@ -72,15 +72,15 @@ fn judge_under(path: &[u8], subscriber: u64) {
 }
 
 // The second argument: a number as in a table.
-fn subscriber() -> grant_text::Number {
+fn subscriber() -> buffer::Number {
     let mut word = [0u8; 32];
     let n = os::arg(2, &mut word);
-    grant_text::unsigned(&word[..n])
+    buffer::unsigned(&word[..n])
 }
 
 fn run() {
     match subscriber() {
-        grant_text::Number::Value(s) => {
+        buffer::Number::Value(s) => {
             let mut path = io::buffer();
             let n = os::arg(1, &mut path);
             if os::errno() != 0 {
@@ -89,7 +89,7 @@ fn run() {
             }
             judge_under(&path[..n], s);
         }
-        grant_text::Number::Bad => {
+        buffer::Number::Bad => {
             io::write_all(
                 2,
                 b"SUBSCRIBER is no number from 0 to 18446744073709551615\n",
