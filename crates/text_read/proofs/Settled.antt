@@ -1,14 +1,14 @@
 -- What the candidate's bytes, or whatever stands in their place, come to: the text's own answer.
 use Prim.Native.Nat.{ℕ, _+_, _-_, _≤_, _<_, min}
 use mathlib.Core.Path.{_≡_, refl, sym, _∙_, ap}
-use mathlib.Core.Bool.{Bool, true, false, not, _&&_, cond}
-use mathlib.Core.List.{List, [], _∷_, _++_}
+use mathlib.Core.Bool.{Bool, true, false, not, cond}
+use mathlib.Core.List.{List, _++_}
 use native.Mathlib.Omega.{arith}
 use native.Mathlib.Numerals.{add-one}
-use lib.ListN.{length, take, drop, getD}
+use lib.ListN.{length, take, drop}
 use lib.Seq.{length-take-le}
-use lib.Dec.{ltb, leb, eqb}
-use borrow.Author.Tests.{lt-ltb, le-ltb, ltb-true, ltb-false, leb-true, leb-false, ne-eqb, eq-eqb, not-true, not-false}
+use lib.Dec.{ltb, leb}
+use borrow.Author.Tests.{lt-ltb, le-ltb, ltb-true, ltb-false, leb-true, leb-false, not-true, not-false}
 use Rattle.buffer.specs.Bytes.{all, isByte, same}
 use Rattle.buffer.proofs.ByteLaws.{same-is, same-self, same-length}
 use Rattle.ari.specs.Reader.{Limits, read, single}
@@ -27,7 +27,6 @@ use Rattle.text_write.specs.declared.Written.{Written}
 use Rattle.text_write.specs.declared.Written.the-variants.{Bytes, Refused}
 use Rattle.text_write.specs.Written.{writtenOf, roomAfter, spellingOf, Whole}
 use Rattle.text_write.proofs.Handing.{writes-none, Own, own-text, put-taken}
-use Rattle.buffer.proofs.RunLaws.{here, beyond}
 use Rattle.text_read.specs.declared.Pos.{Pos}
 use Rattle.text_read.specs.Parsed.{Parsed, Tried, Begins}
 
