@@ -6,7 +6,7 @@ use mathlib.Core.List.{List, [], _∷_}
 use native.Mathlib.Omega.{arith}
 use lib.ListN.{length}
 use lib.Dec.{ltb}
-use Rattle.buffer.specs.Bytes.{all, isByte}
+use Rattle.buffer.specs.Bytes.{all, isByte, same}
 use Rattle.ari.specs.Reader.{refuse, accept, Input, aMessage, read}
 use Rattle.ari.specs.Reader as reader
 use Rattle.ari.specs.Limits.{firstLimits}
@@ -35,7 +35,7 @@ use Rattle.ari.specs.Reader.{single}
 use Rattle.ari.specs.Items.{Items, encode}
 use Rattle.text.specs.Text.{Form, spelled, none-at, form, textOf}
 use Rattle.text.specs.Answer.{Output, output, spellOut, writeText, checked, readText, lent}
-use Rattle.text.specs.Parse.{same, candidate}
+use Rattle.text.specs.Parse.{candidate}
 use Rattle.text.specs.Answer as answers
 use Rattle.text.proofs.Round.{first-short, write-exactly, read-exactly, read-too-long}
 use Rattle.text_write.specs.Written.{writtenOf}
