@@ -1,8 +1,8 @@
 -- A candidate's bytes are bytes, whatever text it was read from.
 use Prim.Native.Nat.{ℕ, zero, suc, pred, _+_, _-_, _*_, _/_, _%_, _^_, _≤_, _<_}
-use mathlib.Core.Path.{_≡_, refl, ap}
+use mathlib.Core.Path.{_≡_, refl}
 use mathlib.Core.Bool.{Bool, true, false, _&&_, cond}
-use mathlib.Core.List.{List, [], _∷_, _++_}
+use mathlib.Core.List.{List, [], _∷_}
 use native.Mathlib.Omega.{arith}
 use native.Mathlib.Nat.{mod-lt, div-lt-iff-lt-mul, pow-suc, mul-comm}
 use lib.ListN.{length, take, drop, length-append, length-take, length-drop}
@@ -24,7 +24,7 @@ use Rattle.ari.specs.Items.{none, encode}
 use Rattle.ari.specs.Decode.{Headed}
 use Rattle.text.specs.Chars.{ascii}
 use Rattle.text.specs.Text.{Name, name, names, spell, anAriDue}
-use Rattle.text.specs.Parse.{ends, inWord, startsBy, starts, number, unhex, Await, any, first, second, unescape, unhexes, inner, headOf, stringOf, integerOf, literalOf, startsNumber, nameOf, valueOf, numberIn, typeNumber, typeOf, opened, commas, count, parts, orZero, Taken, takeWord, takeGroup, takeReference, takeAri, takeNothing, takeAt, Run, level, parse, candidate}
+use Rattle.text.specs.Parse.{inWord, startsBy, starts, number, unhex, Await, any, first, second, unescape, unhexes, inner, headOf, stringOf, integerOf, literalOf, startsNumber, nameOf, valueOf, numberIn, typeNumber, typeOf, opened, commas, count, parts, orZero, Taken, takeWord, takeGroup, takeReference, takeAri, takeNothing, takeAt, Run, level, parse, candidate}
 
 -- a number's bytes; a head's bytes
 be-bytes : (w a : ℕ) → a < 256 ^ w → all isByte (be w a) ≡ true

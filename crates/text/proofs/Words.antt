@@ -17,7 +17,7 @@ use Rattle.buffer.specs.Runs.{front, past}
 use Rattle.buffer.specs.Decimal.{digits, decimal}
 use Rattle.buffer.specs.Bytes.{within, all, isByte}
 use Rattle.cbor.specs.Head.{unsigned, negative, bytes, text, simple, Lead}
-use Rattle.buffer.proofs.ByteLaws.{and-true, or-true, not-true, within-true, all-append}
+use Rattle.buffer.proofs.ByteLaws.{and-true, or-true, within-true, all-append}
 use Rattle.ari.specs.Name.{startsName, continuesName, identifier, namespaceName}
 use Rattle.ari.specs.Table.{max64, max63}
 use Rattle.text.specs.Chars.{integer, hex, hexes, bare, escape, each, textString, byteString, simpleText, literalText, nameText}

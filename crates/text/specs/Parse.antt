@@ -1,18 +1,18 @@
 -- From a text to a candidate, along the slots. Lax, and never failing: the candidate counts only if its own text is the text that was read (R110).
--- Interface: candidate, same. All others are its parts, which the private contracts of text_read_item and text_read cite.
+-- Interface: candidate. All others are its parts, which the private contracts of text_read_item and text_read cite.
 use Prim.Native.Nat.{ℕ, zero, suc, pred, _+_, _-_, _*_}
 use Prim.Native.Char.{code}
-use mathlib.Core.Bool.{Bool, true, false, not, _&&_, _||_, cond}
+use mathlib.Core.Bool.{Bool, false, not, _&&_, _||_, cond}
 use mathlib.Core.List.{List, [], _∷_}
 use lib.ListN.{length, take, drop}
-use lib.Dec.{leb, eqb}
+use lib.Dec.{eqb}
 use Rattle.buffer.specs.Bytes.{within, same}
 use Rattle.buffer.specs.Runs.{front, past}
 use Rattle.buffer.specs.declared.Number.{Number}
 use Rattle.buffer.specs.declared.Number.the-variants.{Value, Bad}
 use Rattle.buffer.specs.Decimal.{unsignedOf}
 use Rattle.cbor.specs.Head.{unsigned, negative, bytes, text, array, map, simple, leadOf}
-use Rattle.ari.specs.Table.{max64, Slot, version, ari, type, value, namespace, objectNamespace, objectType, objectId, params, key, entry, nonce, setTime, target, report, reportTime, reportSource, Level, done, due, rule, members}
+use Rattle.ari.specs.Table.{Slot, version, ari, type, value, namespace, objectNamespace, objectType, objectId, params, key, entry, nonce, setTime, target, report, reportTime, reportSource, Level, done, due, rule, members}
 use Rattle.ari.specs.declared.Limits.{Limits}
 use Rattle.ari.specs.Items.{Items, none, item}
 use Rattle.ari.specs.Decode.{Headed}

@@ -1,18 +1,16 @@
 -- The ways through the functions of single bytes, numbers, escapes and heads; the premises are the facts that the code leaves.
-use Prim.Native.Nat.{ℕ, zero, suc, _+_, _-_, _*_, _/_, _%_, _^_, _≤_, _<_}
+use Prim.Native.Nat.{ℕ, zero, suc, _+_, _-_, _*_, _^_, _≤_, _<_}
 use mathlib.Core.Path.{_≡_, refl, sym, _∙_, ap}
 use mathlib.Core.Bool.{Bool, true, false, _&&_, _||_, cond}
 use mathlib.Core.List.{List, [], _∷_, _++_}
 use native.Mathlib.Omega.{arith}
 use native.Mathlib.Nat.{pow-le-pow-right, pow-suc}
 use native.Mathlib.Numerals.{add-one}
-use lib.ListN.{length, take, drop, getD, drop-of-length-le, length-drop}
-use lib.Seq.{drop-cons, drop-drop, drop-length, drop-nil}
+use lib.ListN.{length, take, drop, getD, length-drop}
+use lib.Seq.{drop-drop, drop-length, drop-nil}
 use lib.Dec.{ltb, leb, eqb}
 use borrow.Author.Tests.{lt-ltb, le-ltb, le-leb, lt-leb, eq-eqb, ne-eqb}
-use Rattle.cbor.specs.Head.{leadOf}
-use Rattle.buffer.specs.Bytes.{be, within, part}
-use Rattle.ari.specs.Table.{max64}
+use Rattle.buffer.specs.Bytes.{within, part}
 use Rattle.buffer.specs.Put.{Put}
 use Rattle.buffer.specs.Runs.{RunTo}
 use Rattle.buffer.specs.declared.Number.{Number}
