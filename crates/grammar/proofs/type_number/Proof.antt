@@ -7,5 +7,5 @@ pub type-number-spec : {M : Type 1} → statement M
 type-number-spec =
     tie.close
     (tie.spec
-    (λ c. (search (a-type, no-type, needs), search needs))
-    (λ c. (search (a-type, no-type, needs), search needs)))
+    (λ c. (search (a-type, needs), search needs))
+    (λ c. (search (no-type, needs), search needs)))
