@@ -124,7 +124,7 @@ fn rule_word(slot: u64) -> u64
         47 | 69 => 0x0200000000000000, // value 19: no type
         48 | 70 => 0x0200000000c00000, // value 20: EXECSET
         49 | 71 => 0x0200000000d00000, // value 21: RPTSET
-        _ => 0x1200000000000001, // no slot: as version
+        _ => 0x1204000000000001, // no slot: means what version's does, in other bits, so that the look-up starts at 0
     }
 }
 
