@@ -9,14 +9,19 @@ use lib.ListN.{length, take, drop, length-append, take-append-drop}
 use lib.Seq.{take-at, drop-at, length-take-le, drop-drop, drop-append-add}
 use lib.Dec.{ltb, eqb}
 use borrow.Author.Tests.{ltb-false, le-ltb, eqb-false, ne-eqb}
-use Rattle.cbor.specs.Byte.{all, isByte}
+use Rattle.buffer.specs.Bytes.{all, isByte}
 use Rattle.cbor.specs.Head.{text, Lead, size, leadBytes, Got, bad, got, getHead, stringSize, isContainer}
-use Rattle.cbor.proofs.ByteLaws.{not-false, past, all-drop}
+use Rattle.buffer.proofs.ByteLaws.{not-false, past, all-drop}
 use Rattle.cbor.proofs.HeadLaws.{length-lead, getHead-back, getHead-forth}
 use Rattle.ari.specs.Table.{message, Slot, ari, Level, done, due, rule, fits, members}
-use Rattle.ari.specs.Reader.{Limits, Dues, end, sets, frame, push, keyBytes, wrongVersion, notGreater, isEmpty, Step, no, yes, judge, judgeGot, behind, Answer, refuse, accept, Go, takeStep, visitFrame, visit, run, counted, Input, firstSlot, bottom, read}
-use Rattle.ari.specs.Items.{Items, none, item, encode, heads, join}
-use Rattle.ari.proofs.Due.{Good, Due, due-sets, prevAfter}
+use Rattle.ari.specs.declared.Limits.{Limits}
+use Rattle.ari.specs.declared.Input.{Input}
+use Rattle.cbor.specs.Head.{keyBytes}
+use Rattle.ari.specs.Reader.{Dues, end, sets, frame, push, wrongVersion, notGreater, isEmpty, Step, no, yes, judge, judgeContent, judgeGot, behind, Answer, refuse, accept, Go, takeStep, visitFrame, visit, run, counted, firstSlot, bottom, read}
+use Rattle.ari.proofs.Join.{join}
+use Rattle.ari.specs.Items.{Items, none, item, encode, heads}
+use Rattle.ari.specs.Due.{Good, Due}
+use Rattle.ari.proofs.Due.{due-sets, prevAfter}
 use Rattle.ari.proofs.Join.{encode-join, heads-join}
 
 -- Items that are due on a level and behind it are those of the level and those behind it.
@@ -65,7 +70,7 @@ pub record Judged (left d : ℕ) (s : Slot) (prev : List ℕ) (l : Lead) (r str 
 
 pub judged : (left d : ℕ) (s : Slot) (prev : List ℕ) (l : Lead) (r : List ℕ) {k : Lead} {str : List ℕ}
     → judge left d s prev l r ≡ yes k str → (l ≡ k) × Judged left d s prev l r str
-unfolding judge
+unfolding judge judgeContent
 judged left d s prev l r {k} {str} e =
     let cut : List ℕ = take (stringSize l) r in
     let (t5, e5) = past (eqb left 0) _ _ not-yes e in
@@ -198,7 +203,7 @@ forth (suc left) (frame s n prev d ds) p b m e r =
 -- And the bytes of items that are due are accepted.
 judge-back : (left d : ℕ) (s : Slot) (prev : List ℕ) (l : Lead) (str r : List ℕ) → Good s prev l str → (isContainer (l .kind) && eqb d 0) ≡ false
     → judge (suc left) d s prev l (str ++ r) ≡ yes l str
-unfolding judge
+unfolding judge judgeContent
 judge-back left d s prev l str r g q =
     rw (
       take-at str r (stringSize l) (g .sized),

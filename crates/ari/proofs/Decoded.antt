@@ -7,8 +7,10 @@ use lib.ListN.{length, length-append}
 use lib.Seq.{take-at, drop-at, drop-append-add}
 use Rattle.cbor.specs.Head.{size, leadBytes, getHead, stringSize, arity}
 use Rattle.cbor.proofs.HeadLaws.{length-lead, getHead-back}
-use Rattle.ari.specs.Items.{Items, none, item, encode, heads, join}
-use Rattle.ari.specs.Decode.{Headed, traceGot, trace, front, behindFirst, build, decode, trees, Well}
+use Rattle.ari.proofs.Join.{join}
+use Rattle.ari.specs.Items.{Items, none, item, encode, heads}
+use Rattle.ari.proofs.Well.{trees, Well}
+use Rattle.ari.specs.Decode.{Headed, traceGot, trace, front, behindFirst, build, decode}
 use Rattle.ari.proofs.Join.{encode-join, heads-join, join-none}
 
 -- the heads of items, in the order of their bytes

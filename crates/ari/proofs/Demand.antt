@@ -7,12 +7,15 @@ use mathlib.Core.List.{List, [], _∷_}
 use native.Mathlib.Omega.{arith}
 use lib.Dec.{eqb}
 use borrow.Author.Tests.{eqb-true}
-use Rattle.cbor.specs.Byte.{all, isByte, within}
+use Rattle.buffer.specs.Bytes.{all, isByte, within}
 use Rattle.cbor.specs.Head.{unsigned, Lead, isContainer}
 use Rattle.cbor.specs.Utf8.{utf8}
-use Rattle.cbor.proofs.ByteLaws.{and-true, or-nil, not-false, within-true}
+use Rattle.buffer.proofs.ByteLaws.{and-true, or-nil, not-false, within-true}
 use Rattle.ari.specs.Table.{version, row, due, done, rule, fits}
-use Rattle.ari.specs.Reader.{Limits, accept, Input, single, aMessage, firstSlot, bottom, read}
+use Rattle.ari.specs.declared.Limits.{Limits}
+use Rattle.ari.specs.declared.Input.{Input}
+use Rattle.ari.specs.declared.Input.the-variants.{Single, Message}
+use Rattle.ari.specs.Reader.{accept, firstSlot, bottom, read}
 use Rattle.ari.specs.Items.{Items, none, item, openEnded}
 use Rattle.ari.specs.Decode.{decode}
 use Rattle.ari.specs.Rules.{Plain, Sets, no-more, set, Stands, an-ari, a-message, Is}
@@ -66,15 +69,15 @@ stands-fit (a-message p l) = let h = here-version p in (h .good, h .holds, sets-
 
 pub fit-stands : (i : Input) (g : Items) → Grammar i g → Stands i g
 unfolding rule
-fit-stands single none f = absurd f
-fit-stands single (item l s ms none) f = an-ari (of-ari (here {prev = []} (f .0) (f .1)) (λ w l s x. of-array ms w l s x))
-fit-stands single (item l s ms (item l₁ s₁ m₁ r)) f = absurd (f .2)
-fit-stands aMessage none f = absurd f
-fit-stands aMessage (item l s ms rs) f = a-message (of-version (here (f .0) (f .1))) (fit-sets rs (f .2))
+fit-stands Single none f = absurd f
+fit-stands Single (item l s ms none) f = an-ari (of-ari (here {prev = []} (f .0) (f .1)) (λ w l s x. of-array ms w l s x))
+fit-stands Single (item l s ms (item l₁ s₁ m₁ r)) f = absurd (f .2)
+fit-stands Message none f = absurd f
+fit-stands Message (item l s ms rs) f = a-message (of-version (here (f .0) (f .1))) (fit-sets rs (f .2))
 
 bottom-is : (i : Input) (d : ℕ) → bottom i d ≡ bottomOf (openEnded i) d
-bottom-is single d = refl
-bottom-is aMessage d = refl
+bottom-is Single d = refl
+bottom-is Message d = refl
 
 module _ (m : Limits) (i : Input) (b : List ℕ) where
   -- whatever tree it is, it is the decoded one

@@ -1,4 +1,4 @@
--- Items that are due: with the containers that they may open (Due), and without limits (Fit). Due is Fit and depth.
+-- Items that are due, without limits (Fit): Due is Fit and depth.
 use Prim.Native.Nat.{ℕ, suc, pred, _≤_}
 use mathlib.Core.Path.{_≡_, refl}
 use mathlib.Core.Bool.{Bool, true, false, not, _&&_, cond, true≢false}
@@ -8,32 +8,12 @@ use lib.ListN.{length}
 use lib.Dec.{eqb}
 use borrow.Author.Tests.{eqb-false, ne-eqb, eq-eqb, le-leb, lt-leb}
 use Rattle.cbor.specs.Head.{text, array, map, Lead, Sound, stringSize, isContainer}
-use Rattle.cbor.proofs.ByteLaws.{within-true}
+use Rattle.buffer.proofs.ByteLaws.{within-true}
 use Rattle.ari.specs.Table.{message, Slot, ari, Level, done, due, rule, fits, members}
-use Rattle.ari.specs.Reader.{Dues, end, sets, frame, push, keyBytes, wrongVersion, notGreater, isEmpty, keyAfter, behind}
+use Rattle.cbor.specs.Head.{keyBytes}
+use Rattle.ari.specs.Reader.{Dues, end, sets, frame, push, wrongVersion, notGreater, isEmpty, keyAfter, behind}
 use Rattle.ari.specs.Items.{Items, none, item, depth}
-
--- a head with its string may stand at a slot after a key before
-pub record Good (s : Slot) (prev : List ℕ) (l : Lead) (str : List ℕ) : Type 0 where
-  pub head : Sound l
-  pub fitting : fits (l .kind) (l .arg) (rule s .rows) ≡ true
-  pub versioned : wrongVersion (rule s .own) (l .arg) ≡ false
-  pub sized : length str ≡ stringSize l
-  pub spelled : (eqb (l .kind) text && not (rule s .spelling str)) ≡ false
-  pub rising : notGreater (rule s .own) prev (keyBytes l str) ≡ false
-  pub filled : isEmpty (rule s .own) (l .arg) ≡ false
-
--- the items are what is due, and open no more containers than it may still open
-abbrev pub Due : Items → Dues → Type 0
-Due none end = Unit {0}
-Due none (sets d) = Unit {0}
-Due none (frame s n prev d ds) = ⊥
-Due (item l str ms rs) end = ⊥
-Due (item l str ms rs) (sets d) =
-    Good (ari message) [] l str × ((isContainer (l .kind) && eqb d 0) ≡ false)
-    × Due ms (push (members (ari message) l) [] (pred d) end) × Due rs (behind (ari message) l str 0 [] d (sets d))
-Due (item l str ms rs) (frame s n prev d ds) =
-    Good s prev l str × ((isContainer (l .kind) && eqb d 0) ≡ false) × Due ms (push (members s l) [] (pred d) end) × Due rs (behind s l str n prev d ds)
+use Rattle.ari.specs.Due.{Good, Due}
 
 -- more sets, if there is another one
 pub due-sets : (d : ℕ) (g : Items) → Due g (frame (ari message) 0 [] d (sets d)) → Due g (sets d)

@@ -7,15 +7,17 @@ use native.Mathlib.Omega.{arith}
 use lib.ListN.{length}
 use lib.Dec.{eqb}
 use borrow.Author.Tests.{eqb-true, eqb-false, ne-eqb}
-use Rattle.cbor.specs.Byte.{within, below}
+use Rattle.buffer.specs.Bytes.{within}
+use Rattle.cbor.specs.Byte.{below}
 use Rattle.cbor.specs.Head.{array, map, Lead, isContainer}
-use Rattle.cbor.proofs.ByteLaws.{not-false, within-true, within-is}
+use Rattle.buffer.proofs.ByteLaws.{not-false, within-true, within-is}
 use Rattle.ari.specs.Table.{Place, alone, message, inside, param, anywhere, Slot, ari, value, params, key, nonce, target, report, reportTime, Row, row, max64, arrays, literals, ariRows, types, done, due, many, ariLevel, rule, fits, members}
-use Rattle.ari.specs.Reader.{keyBytes}
+use Rattle.cbor.specs.Head.{keyBytes}
 use Rattle.ari.specs.Items.{Items, none, item}
-use Rattle.ari.specs.Decode.{trees}
+use Rattle.ari.proofs.Well.{trees}
 use Rattle.ari.specs.Rules.{Plain, Holds, Nonce, Vast, Ari, literal, namespace-ref, typed, object-ref, Object, plain, with-params, Params, list, table, Value, simple-value, ac, am, execset, rptset, Aris, no-aris, aris, Pairs, no-pairs, pairs, Targets, no-targets, targets, Reports, no-reports, reports}
-use Rattle.ari.proofs.Due.{Good, Fit, members-leaf, memberLevel, members-held, container-string}
+use Rattle.ari.specs.Due.{Good}
+use Rattle.ari.proofs.Due.{Fit, members-leaf, memberLevel, members-held, container-string}
 use Rattle.ari.proofs.Rows.{every, fits-by, leafRow, no-container, one-kind, ArrayType, collection, orders, answers, array-type, map-type, array-range, ari-arrays, type-leaf}
 use Rattle.ari.proofs.Weight.{weigh-ari, trees-fit}
 use Rattle.ari.proofs.RulesFit.{Here, here-as, alike-sym, entry-alike, source-alike}

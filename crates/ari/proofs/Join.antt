@@ -3,7 +3,12 @@ use Prim.Native.Nat.{_+_}
 use mathlib.Core.Path.{_≡_, refl, ap}
 use mathlib.Core.List.{_++_, append-assoc}
 use native.Mathlib.Omega.{arith}
-use Rattle.ari.specs.Items.{Items, none, item, encode, heads, join}
+use Rattle.ari.specs.Items.{Items, none, item, encode, heads}
+
+-- one run behind another
+abbrev pub join : Items → Items → Items
+join none ys = ys
+join (item l s ms rs) ys = item l s ms (join rs ys)
 
 pub encode-join : (f b : Items) → encode (join f b) ≡ encode f ++ encode b
 encode-join none b = refl

@@ -5,8 +5,10 @@ use mathlib.Core.Path.{_≡_}
 use mathlib.Core.Bool.{true}
 use mathlib.Core.List.{List}
 use native.Mathlib.Omega.{arith}
-use Rattle.cbor.specs.Byte.{all, isByte}
-use Rattle.ari.specs.Reader.{Limits, accept, Input, read}
+use Rattle.buffer.specs.Bytes.{all, isByte}
+use Rattle.ari.specs.declared.Limits.{Limits}
+use Rattle.ari.specs.declared.Input.{Input}
+use Rattle.ari.specs.Reader.{accept, read}
 use Rattle.ari.specs.Items.{Items}
 use Rattle.ari.specs.Rules.{Is}
 use Rattle.ari.proofs.Demand.{demand-two, is-read}

@@ -18,3 +18,4 @@ pub mod Larger
 pub mod ListingBound
 pub mod ListingExample
 pub mod Named
+pub mod Well

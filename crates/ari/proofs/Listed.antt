@@ -8,12 +8,13 @@ use native.Mathlib.Omega.{arith}
 use lib.ListN.{length, take, drop, length-append}
 use lib.Seq.{take-at}
 use borrow.Author.Tests.{lt-leb}
-use Rattle.cbor.specs.Byte.{within}
+use Rattle.buffer.specs.Bytes.{within}
 use Rattle.cbor.specs.Head.{bytes, text, array, Lead, isContainer}
-use Rattle.cbor.proofs.ByteLaws.{within-true}
+use Rattle.buffer.proofs.ByteLaws.{within-true}
 use Rattle.cbor.proofs.HeadLaws.{length-lead}
 use Rattle.ari.specs.Table.{message, Slot, version, ari, Level, done, due, rule, members, isReference}
-use Rattle.ari.specs.Reader.{Limits, aMessage}
+use Rattle.ari.specs.declared.Limits.{Limits}
+use Rattle.ari.specs.declared.Input.the-variants.{Message}
 use Rattle.ari.specs.Items.{Items, none, item, encode, Spot, insideAt, spotAt, spots, spotsOf}
 use Rattle.ari.specs.Rules.{Is}
 use Rattle.ari.specs.Listing.{Entry, entryOf, referring, listing}
@@ -112,14 +113,14 @@ apart e n (inl q) = absurd (n q)
 apart e n (inr (inl h)) = inr (h .2 e)
 apart e n (inr (inr h)) = inl (h .0)
 
-module _ {m : Limits} {b : List ℕ} {g : Items} {n : ℕ} (c : Is m aMessage b g n) where
-  spots-own : All Own (spotsOf aMessage g)
+module _ {m : Limits} {b : List ℕ} {g : Items} {n : ℕ} (c : Is m Message b g n) where
+  spots-own : All Own (spotsOf Message g)
   spots-own = own g true (due version 0) [] 0 0 (stands-fit (c .stands))
 
   -- In one equation: the listing is the list of the references that the rules make.
   pub listing-is : listing b ≡ map entryFor (references (c .stands))
   unfolding listing
-  listing-is = rw (← unique m aMessage b c) (same-entries (spotsOf aMessage g) spots-own ∙ ap (map entryFor) (found-references (c .stands)))
+  listing-is = rw (← unique m Message b c) (same-entries (spotsOf Message g) spots-own ∙ ap (map entryFor) (found-references (c .stands)))
 
   -- Every reference that stands in it is listed,
   pub each-is-listed : (r : Placed) → List·Memᴰ r (references (c .stands)) → List·Memᴰ (entryFor r) (listing b)
@@ -132,22 +133,22 @@ module _ {m : Limits} {b : List ℕ} {g : Items} {n : ℕ} (c : Is m aMessage b 
   -- once: the first bytes rise.
   pub first-bytes-rise : Rise (listing b)
   unfolding listing
-  first-bytes-rise = rw (← unique m aMessage b c) (rise (spotsOf aMessage g) (spot-rising c))
+  first-bytes-rise = rw (← unique m Message b c) (rise (spotsOf Message g) (spot-rising c))
 
   -- Each entry gives that reference's own first byte and end: the bytes from the one to the other are those of the reference.
   pub own-bytes : (r : Placed) → List·Memᴰ r (references (c .stands))
       → take (entryFor r .after - entryFor r .first) (drop (entryFor r .first) b) ≡ encode (item (r .lead) (r .str) (r .inside) none)
   own-bytes r k =
-      let f = Memᴰ·of-map placeOf (referring (spotsOf aMessage g)) (rw (← found-references (c .stands)) at k) in
-      rw (← f .2) (bytes-of b (f .0) (all-mem (spot-covers c) (referring-mem (spotsOf aMessage g) (f .1) .0)))
+      let f = Memᴰ·of-map placeOf (referring (spotsOf Message g)) (rw (← found-references (c .stands)) at k) in
+      rw (← f .2) (bytes-of b (f .0) (all-mem (spot-covers c) (referring-mem (spotsOf Message g) (f .1) .0)))
 
   -- Nothing is listed from inside a byte string (type 15's value is one) or a text string: no entry begins within one.
-  pub outside-strings : (x : Spot) → List·Memᴰ x (spotsOf aMessage g) → within bytes text (x .lead .kind) ≡ true → (e : Entry) → List·Memᴰ e (listing b)
+  pub outside-strings : (x : Spot) → List·Memᴰ x (spotsOf Message g) → within bytes text (x .lead .kind) ≡ true → (e : Entry) → List·Memᴰ e (listing b)
       → (e .first < x .first) ⊎ (x .after ≤ e .first)
   unfolding listing isContainer
   outside-strings x k i e l =
       let (lo, hi) = within-true bytes text (x .lead .kind) i in
       let leaf : isContainer (x .lead .kind) ≡ false = rw (lt-leb array (x .lead .kind) (omega arith)) in
-      let f = Memᴰ·of-map entryOf (referring (spotsOf aMessage g)) (rw (← unique m aMessage b c) at l) in
-      let (y-in, y-is) = referring-mem (spotsOf aMessage g) (f .1) in
-      rw (← f .2) (apart (all-mem spots-own k .1 leaf) (λ q. true≢false (sym y-is ∙ rw (← q) (not-array (x .slot) (x .lead) leaf))) (ordered (spotsOf aMessage g) (spot-rising c) k y-in))
+      let f = Memᴰ·of-map entryOf (referring (spotsOf Message g)) (rw (← unique m Message b c) at l) in
+      let (y-in, y-is) = referring-mem (spotsOf Message g) (f .1) in
+      rw (← f .2) (apart (all-mem spots-own k .1 leaf) (λ q. true≢false (sym y-is ∙ rw (← q) (not-array (x .slot) (x .lead) leaf))) (ordered (spotsOf Message g) (spot-rising c) k y-in))

@@ -6,7 +6,9 @@ use native.Mathlib.Omega.{arith}
 use lib.ListN.{length, length-append, length-map}
 use Rattle.cbor.specs.Head.{Lead}
 use Rattle.ari.specs.Table.{Place}
-use Rattle.ari.specs.Reader.{Limits, Input, aMessage}
+use Rattle.ari.specs.declared.Limits.{Limits}
+use Rattle.ari.specs.declared.Input.{Input}
+use Rattle.ari.specs.declared.Input.the-variants.{Message}
 use Rattle.ari.specs.Items.{Items, heads}
 use Rattle.ari.specs.Rules.{Ari, literal, namespace-ref, typed, object-ref, Object, plain, with-params, Params, list, table, Value, simple-value, ac, am, execset, rptset, Aris, no-aris, aris, Pairs, no-pairs, pairs, Targets, no-targets, targets, Reports, no-reports, reports, Sets, no-more, set, Stands, an-ari, a-message, Is}
 use Rattle.ari.specs.Limits.{firstLimits}
@@ -77,11 +79,11 @@ in-input : {i : Input} {g : Items} (r : Stands i g) → Fewer (references r) (he
 in-input (an-ari a) = among (in-ari a 0) (omega arith)
 in-input (a-message v r) = among (in-sets r _) (omega arith)
 
-module _ {m : Limits} {b : List ℕ} {g : Items} {n : ℕ} (c : Is m aMessage b g n) where
+module _ {m : Limits} {b : List ℕ} {g : Items} {n : ℕ} (c : Is m Message b g n) where
   -- At most half as many entries as items,
   pub at-most-half : 2 * length (listing b) ≤ n
   at-most-half = rw (listing-is c, length-map) (omega (arith, in-input (c .stands) .twice, c .count))
 
 -- so no listing has more than 512.
-pub at-most-512 : {b : List ℕ} {g : Items} {n : ℕ} → Is firstLimits aMessage b g n → length (listing b) ≤ 512
+pub at-most-512 : {b : List ℕ} {g : Items} {n : ℕ} → Is firstLimits Message b g n → length (listing b) ≤ 512
 at-most-512 c = omega (arith, at-most-half c, c .few)

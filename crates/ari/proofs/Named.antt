@@ -9,7 +9,9 @@ use lib.Dec.{leb, eqb}
 use borrow.Author.Tests.{eqb-true, leb-true, le-leb}
 use Rattle.cbor.specs.Head.{unsigned, negative, text, Lead}
 use Rattle.ari.specs.Table.{Place, Row, row, uintTo, nintTo, anyText, isNull, max63}
-use Rattle.ari.specs.Reader.{Limits, Input, aMessage}
+use Rattle.ari.specs.declared.Limits.{Limits}
+use Rattle.ari.specs.declared.Input.{Input}
+use Rattle.ari.specs.declared.Input.the-variants.{Message}
 use Rattle.ari.specs.Items.{Items, none, item, insideAt}
 use Rattle.ari.specs.Rules.{Namespace, NamespaceOrNull, Ari, literal, namespace-ref, typed, object-ref, Object, plain, with-params, Params, list, table, Value, simple-value, ac, am, execset, rptset, Aris, no-aris, aris, Pairs, no-pairs, pairs, Targets, no-targets, targets, Reports, no-reports, reports, Sets, no-more, set, Stands, an-ari, a-message, Is}
 use Rattle.ari.specs.Listing.{Space, number, name, relative, Entry, spaceAt, spaceIn, listing}
@@ -122,7 +124,7 @@ placed-fits : (p : ℕ) (g : Items) → Named g → InRange (spaceIn p g)
 placed-fits p none n = absurd n
 placed-fits p (item l s ms rs) n = space-fits p n
 
-module _ {m : Limits} {b : List ℕ} {g : Items} {n : ℕ} (c : Is m aMessage b g n) where
+module _ {m : Limits} {b : List ℕ} {g : Items} {n : ℕ} (c : Is m Message b g n) where
   -- Each entry's namespace is its reference's own: the first member, which `entryFor` reads, is a namespace by the rules.
   pub own-namespace : (r : Placed) → List·Memᴰ r (references (c .stands)) → Named (r .inside)
   own-namespace r k = mem-named (named-all (c .stands)) k

@@ -8,7 +8,10 @@ use lib.ListN.{length, take, drop}
 use lib.Dec.{ltb, eqb}
 use Rattle.cbor.specs.Head.{text, Lead, size, Got, bad, got, getHead, getFrom, width, unused, notShortest, kindOf, argument, stringSize, isContainer}
 use Rattle.ari.specs.Table.{Slot, ari, message, rule, fits}
-use Rattle.ari.specs.Reader.{Limits, Dues, end, sets, frame, keyBytes, wrongVersion, notGreater, isEmpty, Step, no, yes, judge, judgeGot, Answer, refuse, accept, Go, takeStep, visit, run, counted, Input, firstSlot, bottom, read}
+use Rattle.ari.specs.declared.Limits.{Limits}
+use Rattle.ari.specs.declared.Input.{Input}
+use Rattle.cbor.specs.Head.{keyBytes}
+use Rattle.ari.specs.Reader.{Dues, end, sets, frame, wrongVersion, notGreater, isEmpty, Step, no, yes, judge, judgeContent, judgeGot, Answer, refuse, accept, Go, takeStep, visit, run, counted, firstSlot, bottom, read}
 
 -- one of a test's two ways
 either : {A : Type 0} (P : A → Type 0) (t : Bool) {x y : A} → P x → P y → P (cond t x y)
@@ -50,7 +53,7 @@ small-head (x ∷ b) =
     (either Got13 (notShortest i (kindOf (x / 32) i) (argument i b)) (bad-13 4 (omega arith)) (record { small = tt })))
 
 small-judge : (left d : ℕ) (s : Slot) (prev : List ℕ) (l : Lead) (r : List ℕ) → Step13 (judge left d s prev l r)
-unfolding judge
+unfolding judge judgeContent
 small-judge left d s prev l r =
     let str : List ℕ = take (stringSize l) r in
     either Step13 (eqb left 0) (no-13 5 (omega arith))

@@ -11,7 +11,10 @@ use borrow.Author.Tests.{ltb-false, le-ltb}
 use Rattle.cbor.specs.Head.{text, Lead, size, width, argument, Got, bad, got, getFrom, getHead, stringSize, isContainer}
 use Rattle.cbor.proofs.HeadLaws.{head-fits}
 use Rattle.ari.specs.Table.{message, Slot, ari, rule, fits}
-use Rattle.ari.specs.Reader.{Limits, Dues, end, sets, frame, keyBytes, wrongVersion, notGreater, isEmpty, Step, no, yes, judge, judgeGot, Answer, refuse, accept, Go, takeStep, visitFrame, visit, run, counted, Input, read}
+use Rattle.ari.specs.declared.Limits.{Limits}
+use Rattle.ari.specs.declared.Input.{Input}
+use Rattle.cbor.specs.Head.{keyBytes}
+use Rattle.ari.specs.Reader.{Dues, end, sets, frame, wrongVersion, notGreater, isEmpty, Step, no, yes, judge, judgeContent, judgeGot, Answer, refuse, accept, Go, takeStep, visitFrame, visit, run, counted, read}
 use Rattle.ari.proofs.Central.{judged, start}
 
 -- the head is there, or it is refused with 2
@@ -41,7 +44,7 @@ guard false z x y n f = f n
 
 judge-more : (left d : ℕ) (s : Slot) (prev : List ℕ) (l : Lead) (r c : List ℕ) → (judge left d s prev l r ≡ no 9 → ⊥)
     → judge left d s prev l (r ++ c) ≡ judge left d s prev l r
-unfolding judge
+unfolding judge judgeContent
 judge-more left d s prev l r c n =
     guard (eqb left 0) _ _ _ n λ n5. guard (isContainer (l .kind) && eqb d 0) _ _ _ n5 λ n6. guard (not (fits (l .kind) (l .arg) (rule s .rows))) _ _ _ n6
     λ n7. guard (wrongVersion (rule s .own) (l .arg)) _ _ _ n7 λ n8. strings (ltb (length r) (stringSize l)) refl n8

@@ -8,9 +8,9 @@ use native.Mathlib.Omega.{arith}
 use native.Mathlib.Nat.{pow-suc, one-le-pow}
 use lib.Dec.{ltb, eqb}
 use borrow.Author.Tests.{eqb-true, eq-eqb, ltb-true, ltb-false, lt-ltb, le-ltb}
-use Rattle.cbor.specs.Byte.{within}
+use Rattle.buffer.specs.Bytes.{within}
 use Rattle.cbor.specs.Head.{unsigned, negative}
-use Rattle.cbor.proofs.ByteLaws.{and-true, or-true, or-right, or-nil, within-true, within-is}
+use Rattle.buffer.proofs.ByteLaws.{and-true, or-true, or-right, or-nil, within-true, within-is}
 use Rattle.ari.specs.Table.{namespace, objectNamespace, objectId, nonce, setTime, reportTime, Row, uintTo, nintTo, anyBytes, anyText, isNull, types, valueRows, rule, fits}
 
 -- the rows of w bits

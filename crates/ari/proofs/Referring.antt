@@ -7,7 +7,7 @@ use lib.Dec.{eqb}
 use borrow.Author.Tests.{ne-eqb}
 use Rattle.cbor.specs.Head.{array, Lead, isContainer}
 use Rattle.ari.specs.Table.{Place, inner, alone, message, Slot, version, ari, type, value, namespace, objectNamespace, objectType, objectId, params, key, entry, nonce, setTime, target, report, reportTime, reportSource, Row, Level, done, due, many, referenceLevel, ariLevel, types, rule, members, isReference, literals}
-use Rattle.ari.specs.Reader.{Input}
+use Rattle.ari.specs.declared.Input.{Input}
 use Rattle.ari.specs.Items.{Items, none, item, Spot, insideAt, spotAt, spots, spotsOf}
 use Rattle.ari.specs.Rules.{Plain, Holds, Ari, literal, namespace-ref, typed, object-ref, Object, plain, with-params, Params, list, table, Value, simple-value, ac, am, execset, rptset, Aris, no-aris, aris, Pairs, no-pairs, pairs, Targets, no-targets, targets, Reports, no-reports, reports, Sets, no-more, set, Stands, an-ari, a-message}
 use Rattle.ari.specs.Listing.{referring}

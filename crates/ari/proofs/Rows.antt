@@ -7,9 +7,9 @@ use mathlib.Core.Logic.{_⊎_, inl, inr}
 use native.Mathlib.Omega.{arith}
 use lib.Dec.{eqb, leb}
 use borrow.Author.Tests.{eqb-true, leb-true}
-use Rattle.cbor.specs.Byte.{within}
+use Rattle.buffer.specs.Bytes.{within}
 use Rattle.cbor.specs.Head.{array, map, isContainer}
-use Rattle.cbor.proofs.ByteLaws.{and-true, or-true, not-true, within-true}
+use Rattle.buffer.proofs.ByteLaws.{and-true, or-true, not-true, within-true}
 use Rattle.ari.specs.Table.{Place, alone, message, inside, param, Row, row, ariRows, Entry, entryOf, types, typeRows, valueRows, fits}
 
 abbrev pub every : (Row → Bool) → List Row → Bool

@@ -6,15 +6,18 @@ use mathlib.Core.List.{List, [], _∷_, _++_}
 use native.Mathlib.Omega.{arith}
 use lib.Dec.{eqb}
 use borrow.Author.Tests.{eq-eqb, ne-eqb}
-use Rattle.cbor.specs.Byte.{within, below}
+use Rattle.buffer.specs.Bytes.{within}
+use Rattle.cbor.specs.Byte.{below}
 use Rattle.cbor.specs.Head.{array, Lead, isContainer}
-use Rattle.cbor.proofs.ByteLaws.{or-right, within-true, within-is}
+use Rattle.buffer.proofs.ByteLaws.{or-right, within-true, within-is}
 use Rattle.cbor.proofs.HeadLaws.{sound-64}
 use Rattle.ari.specs.Table.{Place, alone, message, inside, param, anywhere, Slot, ari, type, value, namespace, objectNamespace, objectType, objectId, params, key, entry, nonce, setTime, target, report, reportTime, reportSource, Row, row, max64, arrays, literals, ariRows, types, Own, none, one, rising, filled, many, referenceLevel, rule, fits, members}
-use Rattle.ari.specs.Reader.{keyBytes, wrongVersion, notGreater, isEmpty}
+use Rattle.cbor.specs.Head.{keyBytes}
+use Rattle.ari.specs.Reader.{wrongVersion, notGreater, isEmpty}
 use Rattle.ari.specs.Items.{Items, item}
 use Rattle.ari.specs.Rules.{Plain, Holds, Ari, literal, namespace-ref, typed, object-ref, Object, plain, with-params, Params, list, table, Value, simple-value, ac, am, execset, rptset, Aris, no-aris, aris, Pairs, no-pairs, pairs, Targets, no-targets, targets, Reports, no-reports, reports}
-use Rattle.ari.proofs.Due.{Good, Fit, members-leaf, memberLevel, members-held, container-string}
+use Rattle.ari.specs.Due.{Good}
+use Rattle.ari.proofs.Due.{Fit, members-leaf, memberLevel, members-held, container-string}
 use Rattle.ari.proofs.Rows.{every, leafRow, no-container, type-leaf}
 
 -- what an item owes its slot: to be good there, and its members

@@ -11,7 +11,10 @@ use lib.Seq.{drop-at}
 use Rattle.cbor.specs.Head.{Lead, leadBytes}
 use Rattle.cbor.proofs.HeadLaws.{length-lead}
 use Rattle.ari.specs.Table.{alone, message, Slot, ari, Level, done, due, rule, members}
-use Rattle.ari.specs.Reader.{Limits, Input, single, firstSlot}
+use Rattle.ari.specs.declared.Limits.{Limits}
+use Rattle.ari.specs.declared.Input.{Input}
+use Rattle.ari.specs.declared.Input.the-variants.{Single}
+use Rattle.ari.specs.Reader.{firstSlot}
 use Rattle.ari.specs.Items.{Items, none, item, encode, heads, Spot, insideAt, spotAt, spots, openEnded, spotsOf}
 use Rattle.ari.specs.Rules.{Is, Stands, an-ari}
 use Rattle.ari.proofs.Due.{Fit, prevAfter}
@@ -209,7 +212,7 @@ pub record Whole (b : List ℕ) (xs : List Spot) : Type 0 where
   pub first-byte : outermost .first ≡ 0
   pub last-byte : outermost .after ≡ length b
 
-stands-whole : {g : Items} → Stands single g → Whole (encode g) (spotsOf single g)
+stands-whole : {g : Items} → Stands Single g → Whole (encode g) (spotsOf Single g)
 stands-whole (an-ari {l = l} {s = s} {ms = ms} a) = record {
   outermost = spotAt (ari alone) 0 0 l s ms;
   others = _;
@@ -218,5 +221,5 @@ stands-whole (an-ari {l = l} {s = s} {ms = ms} a) = record {
   last-byte = simp length-append (omega (arith, length-lead l));
 }
 
-pub spot-whole : {m : Limits} {b : List ℕ} {g : Items} {n : ℕ} → Is m single b g n → Whole b (spotsOf single g)
+pub spot-whole : {m : Limits} {b : List ℕ} {g : Items} {n : ℕ} → Is m Single b g n → Whole b (spotsOf Single g)
 spot-whole c = rw (← c .bytes) (stands-whole (c .stands))

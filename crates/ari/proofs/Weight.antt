@@ -10,8 +10,10 @@ use Rattle.cbor.specs.Head.{array, map, Lead, isContainer, arity}
 use Rattle.ari.specs.Table.{Place, message, inside, param, Slot, version, ari, type, value, namespace, objectNamespace, objectType, objectId, params, key, entry, nonce, setTime, target, report, reportTime, reportSource, Row, max64, ariRows, Level, done, due, many, referenceLevel, ariLevel, valueLevel, rule, fits, members}
 use Rattle.ari.specs.Reader.{Dues, end, sets, frame}
 use Rattle.ari.specs.Items.{Items, none, item, encode}
-use Rattle.ari.specs.Decode.{decode, trees, Well}
-use Rattle.ari.proofs.Due.{Due, prevAfter, Fit, split}
+use Rattle.ari.proofs.Well.{trees, Well}
+use Rattle.ari.specs.Decode.{decode}
+use Rattle.ari.specs.Due.{Due}
+use Rattle.ari.proofs.Due.{prevAfter, Fit, split}
 use Rattle.ari.proofs.Rows.{every, leafRow, no-container, ArrayType, collection, orders, answers, array-type, arraysOnly, array-range, no-map, ari-arrays, type-leaf}
 use Rattle.ari.proofs.Decoded.{decode-encode}
 

@@ -38,13 +38,3 @@ build (h ∷ hs) = let g = build hs in item (h .lead) (h .str) (front (arity (h 
 
 unfoldable pub decode : List ℕ → Items
 decode b = build (trace (length b) b)
-
--- the items of a run, not counting what they hold
-abbrev pub trees : Items → ℕ
-trees none = 0
-trees (item l s ms rs) = suc (trees rs)
-
--- Well-formed: each head may be written, each string has its length, each array and map as many members as its head says.
-abbrev pub Well : Items → Type 0
-Well none = Unit {0}
-Well (item l s ms rs) = Sound l × (length s ≡ stringSize l) × (trees ms ≡ arity l) × Well ms × Well rs

@@ -5,7 +5,9 @@ use mathlib.Core.List.{List, [], _∷_, _++_}
 use lib.ListN.{length}
 use Rattle.cbor.specs.Head.{Lead, size, leadBytes, isContainer}
 use Rattle.ari.specs.Table.{message, Slot, ari, Level, done, due, rule, members}
-use Rattle.ari.specs.Reader.{Input, single, aMessage, firstSlot}
+use Rattle.ari.specs.declared.Input.{Input}
+use Rattle.ari.specs.declared.Input.the-variants.{Single, Message}
+use Rattle.ari.specs.Reader.{firstSlot}
 
 -- A run of items: the head and the string of the first, its members, and the items after it.
 pub data Items : Type 0 where
@@ -25,10 +27,6 @@ heads (item l s ms rs) = suc (heads ms + heads rs)
 abbrev pub depth : Items → ℕ
 depth none = 0
 depth (item l s ms rs) = max (cond (isContainer (l .kind)) (suc (depth ms)) 0) (depth rs)
-
-abbrev pub join : Items → Items → Items
-join none ys = ys
-join (item l s ms rs) ys = item l s ms (join rs ys)
 
 -- An item with its place: what was due there, its first byte, the byte after its last, the open containers around it, its head, its string
 -- and its members.
@@ -65,8 +63,8 @@ spots (item l str ms rs) more (due s n) p d =
 
 -- sets may follow what is due first
 abbrev pub openEnded : Input → Bool
-openEnded single = false
-openEnded aMessage = true
+openEnded Single = false
+openEnded Message = true
 
 -- all items of an input
 abbrev pub spotsOf : Input → Items → List Spot

@@ -7,3 +7,5 @@ pub mod Rules
 pub mod Limits
 pub mod Listing
 pub mod References
+pub mod Due
+pub mod Signed

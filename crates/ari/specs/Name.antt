@@ -4,7 +4,7 @@ use mathlib.Core.Bool.{Bool, false, _&&_, _||_}
 use mathlib.Core.List.{List, [], _∷_}
 use lib.ListN.{length}
 use lib.Dec.{ltb, eqb}
-use Rattle.cbor.specs.Byte.{all, within}
+use Rattle.buffer.specs.Bytes.{all, within}
 
 -- "a letter or underscore"
 unfoldable pub startsName : ℕ → Bool

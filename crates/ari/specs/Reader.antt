@@ -5,15 +5,11 @@ use mathlib.Core.List.{List, [], _∷_, _++_}
 use lib.ListN.{length, take, drop}
 use lib.Dec.{ltb, eqb}
 use Rattle.cbor.specs.Byte.{below}
-use Rattle.cbor.specs.Head.{text, Lead, size, Got, bad, got, getHead, shortBytes, stringSize, isContainer}
+use Rattle.cbor.specs.Head.{text, Lead, size, Got, bad, got, getHead, keyBytes, stringSize, isContainer}
+use Rattle.ari.specs.declared.Limits.{Limits}
+use Rattle.ari.specs.declared.Input.{Input}
+use Rattle.ari.specs.declared.Input.the-variants.{Single, Message}
 use Rattle.ari.specs.Table.{alone, message, Slot, version, ari, Own, none, one, rising, filled, Level, done, due, rule, fits, members}
-
--- "a binary input has at most 4,096 bytes, at most 1,024 items, at most 12 containers open at once", "A text has at most 32,768 bytes"
-pub record Limits : Type 0 where
-  pub bytes : ℕ
-  pub items : ℕ
-  pub containers : ℕ
-  pub text : ℕ
 
 -- What is due from here: a slot, how often again, the key before on its level, the containers that it may still open, and what is due behind
 -- its level. At the bottom nothing more (a single ARI) or more sets (a message).
@@ -25,10 +21,6 @@ pub data Dues : Type 0 where
 abbrev pub push : Level → List ℕ → ℕ → Dues → Dues
 push done prev d ds = ds
 push (due s n) prev d ds = frame s n prev d ds
-
--- a key's bytes, in their shortest form
-abbrev pub keyBytes : Lead → List ℕ → List ℕ
-keyBytes l str = shortBytes (l .kind) (l .arg) ++ str
 
 -- test 8
 abbrev pub wrongVersion : Own → ℕ → Bool
@@ -62,19 +54,23 @@ pub data Step : Type 0 where
   no : ℕ → Step
   yes : Lead → List ℕ → Step  -- the head, the string's bytes
 
--- the tests 5 to 12, of a head before r: items that may still come, containers that may still be opened, the slot, the key before
-unfoldable pub judge : ℕ → ℕ → Slot → List ℕ → Lead → List ℕ → Step
-judge left d s prev l r =
+-- the tests 9 to 12, of a head before r: the slot, the key before
+unfoldable pub judgeContent : Slot → List ℕ → Lead → List ℕ → Step
+judgeContent s prev l r =
     let str = take (stringSize l) r in
-    cond (eqb left 0) (no 5)
-    (cond (isContainer (l .kind) && eqb d 0) (no 6)
-    (cond (not (fits (l .kind) (l .arg) (rule s .rows))) (no 7)
-    (cond (wrongVersion (rule s .own) (l .arg)) (no 8)
-    (cond (ltb (length r) (stringSize l)) (no 9)
+    cond (ltb (length r) (stringSize l)) (no 9)
     (cond (eqb (l .kind) text && not (rule s .spelling str)) (no 10)
     (cond (notGreater (rule s .own) prev (keyBytes l str)) (no 11)
     (cond (isEmpty (rule s .own) (l .arg)) (no 12)
-    (yes l str))))))))
+    (yes l str))))
+
+-- the tests 5 to 12: items that may still come, containers that may still be opened
+unfoldable pub judge : ℕ → ℕ → Slot → List ℕ → Lead → List ℕ → Step
+judge left d s prev l r =
+    cond (eqb left 0) (no 5)
+    (cond (isContainer (l .kind) && eqb d 0) (no 6)
+    (cond (not (fits (l .kind) (l .arg) (rule s .rows))) (no 7)
+    (cond (wrongVersion (rule s .own) (l .arg)) (no 8) (judgeContent s prev l r))))
 
 unfoldable pub judgeGot : ℕ → ℕ → Slot → List ℕ → Got → List ℕ → Step
 judgeGot left d s prev (bad r) b = no r
@@ -117,18 +113,14 @@ abbrev pub counted : ℕ → Answer → Answer
 counted n (refuse r p) = refuse r p
 counted n (accept left) = accept (n - left)
 
--- The two inputs.
-pub data Input : Type 0 where
-  single aMessage : Input
-
 -- what is due first, and behind it
 abbrev pub firstSlot : Input → Slot
-firstSlot single = ari alone
-firstSlot aMessage = version
+firstSlot Single = ari alone
+firstSlot Message = version
 
 abbrev pub bottom : Input → ℕ → Dues
-bottom single d = end
-bottom aMessage d = sets d
+bottom Single d = end
+bottom Message d = sets d
 
 -- "Test 1 comes first."
 unfoldable pub read : Limits → Input → List ℕ → Answer

@@ -6,7 +6,7 @@ use mathlib.Core.List.{List, [], _∷_, _++_}
 use lib.ListN.{length}
 use Rattle.cbor.specs.Head.{Lead}
 use Rattle.ari.specs.Table.{Place}
-use Rattle.ari.specs.Reader.{Input}
+use Rattle.ari.specs.declared.Input.{Input}
 use Rattle.ari.specs.Items.{Items, item, encode, insideAt}
 use Rattle.ari.specs.Rules.{Ari, literal, namespace-ref, typed, object-ref, Object, plain, with-params, Params, list, table, Value, simple-value, ac, am, execset, rptset, Aris, no-aris, aris, Pairs, no-pairs, pairs, Targets, no-targets, targets, Reports, no-reports, reports, Sets, no-more, set, Stands, an-ari, a-message}
 use Rattle.ari.specs.Listing.{Entry, spaceIn}

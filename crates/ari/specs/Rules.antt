@@ -10,7 +10,10 @@ use Rattle.cbor.specs.Head.{unsigned, text, array, map, Lead, Sound, stringSize
 use Rattle.cbor.specs.Utf8.{utf8}
 use Rattle.ari.specs.Name.{identifier, namespaceName}
 use Rattle.ari.specs.Table.{Place, alone, message, inside, param, inner, anywhere, Row, row, vast, literals, namespaces, objectNamespaces, objectTypes, objectIds, keys, nonces, types, typeRows, valueRows, valueSpelling, fits}
-use Rattle.ari.specs.Reader.{Limits, keyBytes, Input, single, aMessage}
+use Rattle.ari.specs.declared.Limits.{Limits}
+use Rattle.ari.specs.declared.Input.{Input}
+use Rattle.ari.specs.declared.Input.the-variants.{Single, Message}
+use Rattle.cbor.specs.Head.{keyBytes}
 use Rattle.ari.specs.Items.{Items, none, item, encode, heads, depth}
 
 -- an item with no members, of one of these kinds and ranges; a text string is spelled so
@@ -116,8 +119,8 @@ pub data Sets : Items → Type 0 where
   set : {l : Lead} {s : List ℕ} {ms rs : Items} → Ari message l s ms → Sets rs → Sets (item l s ms rs)
 
 pub data Stands : Input → Items → Type 0 where
-  an-ari : {l : Lead} {s : List ℕ} {ms : Items} → Ari alone l s ms → Stands single (item l s ms none)
-  a-message : {l : Lead} {s : List ℕ} {ms rs : Items} → Plain (row unsigned 1 1 ∷ []) utf8 l s ms → Sets rs → Stands aMessage (item l s ms rs)
+  an-ari : {l : Lead} {s : List ℕ} {ms : Items} → Ari alone l s ms → Stands Single (item l s ms none)
+  a-message : {l : Lead} {s : List ℕ} {ms rs : Items} → Plain (row unsigned 1 1 ∷ []) utf8 l s ms → Sets rs → Stands Message (item l s ms rs)
 
 -- Demand 2: accepted exactly if document 01 makes it one, in these bytes, with this count of heads, within the limits.
 pub record Is (m : Limits) (i : Input) (b : List ℕ) (g : Items) (n : ℕ) : Type 0 where

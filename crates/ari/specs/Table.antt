@@ -3,7 +3,7 @@ use Prim.Native.Nat.{ℕ, zero, suc, _-_}
 use mathlib.Core.Bool.{Bool, true, false, not, _&&_, _||_, cond}
 use mathlib.Core.List.{List, [], _∷_, _++_}
 use lib.Dec.{leb, eqb}
-use Rattle.cbor.specs.Byte.{within}
+use Rattle.buffer.specs.Bytes.{within}
 use Rattle.cbor.specs.Head.{unsigned, negative, bytes, text, array, map, simple, half, single, double, Lead}
 use Rattle.cbor.specs.Utf8.{utf8}
 use Rattle.ari.specs.Name.{identifier, namespaceName}

@@ -1,1 +1,56 @@
-// Definitions of ARIs and AMP messages, and the theorems about them.
+// The two inputs and their limits, as the definitions and the functions have them. What an ARI and a message are stands in specs/.
+ghost use mathlib.Core.Path.{_≡_};
+ghost use Prim.Native.Nat.{_≤_, min};
+ghost use Rattle.ari.specs.Limits.{firstLimits, capped};
+
+// What is read: a single ARI in binary form, or an AMP message.
+pub enum Input {
+    Single,
+    Message,
+}
+
+// The most bytes, items and open containers of a binary input, and the most bytes of a text.
+pub struct Limits {
+    pub bytes: usize,
+    pub items: usize,
+    pub containers: usize,
+    pub text: usize,
+}
+
+// The gate's own limits. No other place has these numbers.
+pub const BYTES: usize = 4096;
+
+pub const ITEMS: usize = 1024;
+
+pub const CONTAINERS: usize = 12;
+
+pub const TEXT: usize = 32768;
+
+pub const LIMITS: Limits = Limits {
+    bytes: BYTES,
+    items: ITEMS,
+    containers: CONTAINERS,
+    text: TEXT,
+};
+
+fn least(a: usize, b: usize) -> usize
+    ensures { λ r. ⌜ r ≡ min a b ⌝ }
+{
+    if a < b {
+        return a;
+    }
+    b
+}
+
+// Limits that a caller gives, none above the gate's own: what functions lend is sized by those.
+pub fn cap(limits: Limits) -> Limits
+    ensures { λ r. ⌜ r ≡ capped limits ⌝ }
+    ensures { λ r. ⌜ (r .bytes ≤ firstLimits .bytes) × (r .items ≤ firstLimits .items) × (r .containers ≤ firstLimits .containers) × (r .text ≤ firstLimits .text) ⌝ }
+{
+    Limits {
+        bytes: least(limits.bytes, BYTES),
+        items: least(limits.items, ITEMS),
+        containers: least(limits.containers, CONTAINERS),
+        text: least(limits.text, TEXT),
+    }
+}

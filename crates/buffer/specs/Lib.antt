@@ -1,1 +1,4 @@
 pub mod Put
+pub mod Bytes
+pub mod Runs
+pub mod Decimal

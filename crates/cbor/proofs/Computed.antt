@@ -5,7 +5,7 @@ use mathlib.Core.Bool.{Bool, true, false, not, _&&_}
 use native.Mathlib.Omega.{arith}
 use lib.Dec.{eqb}
 use borrow.Author.Tests.{eqb-true, eqb-false}
-use Rattle.cbor.proofs.ByteLaws.{and-true}
+use Rattle.buffer.proofs.ByteLaws.{and-true}
 
 abbrev pub same : Bool → Bool → Bool
 same true b = b

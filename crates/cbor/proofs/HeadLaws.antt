@@ -10,9 +10,9 @@ use lib.Seq.{take-at}
 use lib.Dec.{ltb, leb, eqb}
 use lib.Arith.{digits-div, digits-mod}
 use borrow.Author.Tests.{ltb-true, ltb-false, leb-true, leb-false, eqb-true, eqb-false, lt-ltb, le-ltb, le-leb, lt-leb, eq-eqb, ne-eqb}
-use Rattle.cbor.specs.Byte.{be, value, all, isByte}
-use Rattle.cbor.specs.Head.{Lead, width, shortest, majorOf, kindOf, argument, leadBytes, size, shortBytes, badFloat, unused, notShortest, bad, got, getFrom, getHead, Sound, counted, a-simple, a-float}
-use Rattle.cbor.proofs.ByteLaws.{and-true, or-false, not-false, past, length-be, value-be, value-part-lt, value-part-be}
+use Rattle.buffer.specs.Bytes.{be, value, all, isByte}
+use Rattle.cbor.specs.Head.{simple, Lead, width, shortest, majorOf, kindOf, argument, leadBytes, size, shortBytes, leadOf, headBytes, keyBytes, badFloat, unused, notShortest, Got, bad, got, getFrom, getHead, keyBy, keyOf, Sound, counted, a-simple, a-float}
+use Rattle.buffer.proofs.ByteLaws.{and-true, or-false, not-false, past, length-be, value-be, value-part-lt, value-part-be}
 
 -- an info that carries an argument
 pub data Carries (i a : ℕ) : Type 0 where
@@ -206,14 +206,14 @@ major-kind {m} {i} (simples e l h) = rw (lt-leb m 5 (omega arith), lt-ltb i 24 (
 major-kind {m} {i} (floats e l h) = rw (lt-leb m 5 (omega arith), le-ltb i 24 (omega arith)) (rw (lt-leb (i - 18) 5 (omega arith)) (sym e))
 
 -- the head that an info and a major make
-abbrev leadOf : ℕ → ℕ → List ℕ → Lead
-leadOf m i bs = record { info = i; kind = kindOf m i; arg = argument i bs }
+abbrev leadBy : ℕ → ℕ → List ℕ → Lead
+leadBy m i bs = record { info = i; kind = kindOf m i; arg = argument i bs }
 
 short-parts : (i k a : ℕ) → notShortest i k a ≡ false → ((leb k 5 && not (eqb (shortest a) i)) ≡ false) × (badFloat k a ≡ false)
 unfolding notShortest
 short-parts i k a n = or-false (leb k 5 && not (eqb (shortest a) i)) (badFloat k a) n
 
-found-sound : {m i : ℕ} (bs : List ℕ) → Carries i (argument i bs) → Used m i → notShortest i (kindOf m i) (argument i bs) ≡ false → Sound (leadOf m i bs)
+found-sound : {m i : ℕ} (bs : List ℕ) → Carries i (argument i bs) → Used m i → notShortest i (kindOf m i) (argument i bs) ≡ false → Sound (leadBy m i bs)
 unfolding kindOf argument
 found-sound {m} {i} bs c (counts p q) n =
     let k : kindOf m i ≡ m = rw (le-leb m 5 p) in
@@ -237,7 +237,7 @@ getHead-forth (x ∷ bs) {l} e g =
     let f : Found m i bs l = found m i bs g in
     let u : Used m i = used-cases m i (f .used) in
     let (c, p) = argument-carries i bs (used-lt u) (and-true (isByte x) (all isByte bs) e .1) (f .there) in
-    let q : l ≡ leadOf m i bs = λ j. record { info = f .info-is j; kind = f .kind-is j; arg = f .arg-is j } in
+    let q : l ≡ leadBy m i bs = λ j. record { info = f .info-is j; kind = f .kind-is j; arg = f .arg-is j } in
     rw q (found-sound bs c u (f .short), rw (major-kind u, p, div-add-mod' x 32, take-append-drop (width i) bs))
 
 -- Numbers, lengths and so keys stand in their shortest bytes.
@@ -246,3 +246,31 @@ unfolding leadBytes shortBytes
 lead-short {l} (counted h g e) k = rw e
 lead-short {l} (a-simple e g h i) k = absurd (omega arith)
 lead-short {l} (a-float h g i a b) k = absurd (omega arith)
+
+-- The bytes of a key are those by which it is ordered.
+pub key-own : (b : List ℕ) → all isByte b ≡ true → keyOf b ≡ b
+unfolding keyOf
+key-own b e = go (getHead b) refl
+  where
+    counts : {l : Lead} → getHead b ≡ got l → (t : Bool) → leb (l .kind) 5 ≡ t → cond t (keyBytes l (drop (size l) b)) b ≡ b
+    counts {l} q true k = let (s, f) = getHead-forth b e q in rw (← lead-short s (leb-true (l .kind) 5 k)) (sym f)
+    counts {l} q false k = refl
+
+    go : (g : Got) → getHead b ≡ g → keyBy g b ≡ b
+    go (bad r) q = refl
+    go (got l) q = counts q (leb (l .kind) 5) refl
+
+-- Heads in their shortest form.
+pub record Small (k a : ℕ) : Type 0 where
+  pub kinds : k ≤ simple
+  pub values : k ≡ simple → a < 24
+
+pub head-bytes : {k a : ℕ} → Small k a → headBytes k a ≡ leadBytes (leadOf k a)
+unfolding headBytes
+head-bytes {k} {a} s = go (leb k 5) refl
+  where
+    go : (t : Bool) → leb k 5 ≡ t → cond (t || (eqb k 6 && ltb a 24)) (leadBytes (leadOf k a)) [] ≡ leadBytes (leadOf k a)
+    go true e = refl
+    go false e =
+        let q : k ≡ 6 = omega (arith, leb-false k 5 e, s .kinds) in
+        rw (eq-eqb k 6 q, lt-ltb a 24 (s .values q))

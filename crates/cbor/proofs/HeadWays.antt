@@ -11,10 +11,10 @@ use lib.Dec.{ltb, leb, eqb}
 use borrow.Author.Tests.{lt-ltb, le-ltb, le-leb, lt-leb, eq-eqb, ne-eqb, ltb-true, ltb-false, leb-true, leb-false, eqb-false}
 use Rattle.cbor.specs.declared.Head.{Head}
 use Rattle.cbor.specs.declared.Head.the-variants.{Bad, Good}
-use Rattle.cbor.specs.Byte.{value}
+use Rattle.buffer.specs.Bytes.{value, loadAt}
 use Rattle.cbor.specs.Head.{map, simple, double, Lead, width, shortest, kindOf, argument, size, badFloat, unused, notShortest, Got, bad, got, getFrom, getHead}
 use Rattle.cbor.specs.Answer.{answer, headAt, judged, counted, Passed}
-use Rattle.cbor.proofs.NumberWays.{one-byte}
+use Rattle.buffer.proofs.Numbers.{one-byte, load-there}
 
 -- An info with an argument of w bytes, of which l is the least that needs so many.
 pub record Sized (i w l : ℕ) : Type 0 where
@@ -164,22 +164,33 @@ module _ (s : List ℕ) (at m j : ℕ) (b : at < length s) where
     cut h = rw (e, z .width-is, lt-ltb (length (drop (at + 1) s)) w (rw behind (omega arith)))
 
     module _ (h : suc w ≤ length s - at) where
-      pub long-judged : {a : ℕ} {r : Head} → a ≡ value (take w (drop (at + 1) s)) → r ≡ judged m i a (at + suc w) → r ≡ answer at (getFrom m j (drop (at + 1) s))
+      long-judged : {a : ℕ} {r : Head} → a ≡ value (take w (drop (at + 1) s)) → r ≡ judged m i a (at + suc w) → r ≡ answer at (getFrom m j (drop (at + 1) s))
       unfolding getFrom argument judged
       long-judged {a} {r} v q =
           q ∙ rw (e, z .width-is, le-ltb (length (drop (at + 1) s)) w (rw behind (omega arith)), le-ltb i 24 (z .long), ← v, answer-judged, z .width-is)
 
-      pub long-counted : {a : ℕ} {r : Head} → m < 6 → a ≡ value (take w (drop (at + 1) s)) → a < 256 ^ w → r ≡ counted m a l (at + suc w)
+      long-counted : {a : ℕ} {r : Head} → m < 6 → a ≡ value (take w (drop (at + 1) s)) → a < 256 ^ w → r ≡ counted m a l (at + suc w)
           → r ≡ answer at (getFrom m j (drop (at + 1) s))
       long-counted {a} {r} c v g q = long-judged v (q ∙ counted-judged c a (at + suc w) z g)
 
-  pub byte-counted : {a : ℕ} {r : Head} → j ≡ 24 → 2 ≤ length s - at → m < 6 → a ≡ getD s (at + 1) 0 → a < 256 → r ≡ counted m a 24 (at + 2)
-      → r ≡ answer at (getFrom m j (drop (at + 1) s))
-  byte-counted e h c v g q = long-counted e sized-1 h c (v ∙ one-byte s (at + 1) (omega arith)) g q
+      -- of an argument that was loaded
+      loaded : {a : ℕ} → a ≡ loadAt w s (at + 1) → a ≡ value (take w (drop (at + 1) s))
+      loaded e = e ∙ load-there w s (at + 1) (omega arith)
 
-  pub one-byte-more : j ≡ 24 → 2 ≤ length s - at → 6 ≤ m → m < 8 → Bad 3 ≡ answer at (getFrom m j (drop (at + 1) s))
+      pub loaded-judged : {a : ℕ} {r : Head} → a ≡ loadAt w s (at + 1) → r ≡ judged m i a (at + suc w) → r ≡ answer at (getFrom m j (drop (at + 1) s))
+      loaded-judged v q = long-judged (loaded v) q
+
+      pub loaded-counted : {a : ℕ} {r : Head} → m ≤ map → a ≡ loadAt w s (at + 1) → a < 256 ^ w → r ≡ counted m a l (at + suc w)
+          → r ≡ answer at (getFrom m j (drop (at + 1) s))
+      loaded-counted c v g q = long-counted (omega arith) (loaded v) g q
+
+  pub byte-counted : {a : ℕ} {r : Head} → j ≡ 24 → 2 ≤ length s - at → m ≤ map → a ≡ getD s (at + 1) 0 → a < 256 → r ≡ counted m a 24 (at + 2)
+      → r ≡ answer at (getFrom m j (drop (at + 1) s))
+  byte-counted e h c v g q = long-counted e sized-1 h (omega arith) (v ∙ one-byte s (at + 1) (omega arith)) g q
+
+  pub one-byte-more : j ≡ 24 → 2 ≤ length s - at → map < m → m < 8 → Bad 3 ≡ answer at (getFrom m j (drop (at + 1) s))
   unfolding judged
-  one-byte-more e h g k = long-judged e sized-1 h refl (rw (simple-unused g k))
+  one-byte-more e h g k = long-judged e sized-1 h refl (rw (simple-unused {m = m} (omega arith) k))
 
   pub not-in-use : (j ≡ 24 → ⊥) → (j ≡ 25 → ⊥) → (j ≡ 26 → ⊥) → (j ≡ 27 → ⊥) → 24 ≤ j → Bad 3 ≡ answer at (getFrom m j (drop (at + 1) s))
   unfolding getFrom width unused
@@ -321,4 +332,4 @@ module _ (b : List ℕ) (at : ℕ) {r : Head} {k a n : ℕ} (p : Passed b at r) 
 
 pub ruleset bounds = (advances, reaches, stays-inside, kind-known)
 
-pub ruleset heads = (sized-1, sized-2, sized-4, sized-8, too-long, well, tag, bad-float, good-float, cut, long-judged, long-counted, byte-counted, one-byte-more, not-in-use, at-end, by-long, by-small, small-count, small-unused, small-simple, passed)
+pub ruleset heads = (sized-1, sized-2, sized-4, sized-8, too-long, well, tag, bad-float, good-float, cut, loaded-judged, loaded-counted, byte-counted, one-byte-more, not-in-use, at-end, by-long, by-small, small-count, small-unused, small-simple, passed)

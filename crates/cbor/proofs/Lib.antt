@@ -1,8 +1,7 @@
-pub mod ByteLaws
 pub mod HeadLaws
-pub mod NumberWays
 pub mod FloatWays
 pub mod HeadWays
+pub mod PutWays
 pub mod TextWays
 pub mod OrderWays
 pub mod Computed

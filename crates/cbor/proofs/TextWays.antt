@@ -10,8 +10,10 @@ use lib.ListN.{length, drop, getD, drop-of-length-le}
 use lib.Seq.{drop-cons}
 use lib.Dec.{ltb, leb, eqb}
 use borrow.Author.Tests.{lt-ltb, le-ltb, le-leb, lt-leb, eq-eqb, ne-eqb, ltb-true, ltb-false, leb-true, leb-false}
-use Rattle.cbor.specs.Byte.{within}
-use Rattle.cbor.specs.Utf8.{utf8From, utf8}
+use Rattle.buffer.specs.Bytes.{within}
+use Rattle.buffer.specs.Runs.{past, RunTo}
+use Rattle.buffer.proofs.RunLaws.{past-ends, past-on, Ahead, run-begins, run-ends, run-on, run-out, run-stops}
+use Rattle.cbor.specs.Utf8.{utf8From, utf8, isAscii}
 use Rattle.cbor.specs.Answer.{follows, Tail, Sequence}
 
 -- One byte.
@@ -247,20 +249,56 @@ module _ (s : List ℕ) (i : ℕ) (h : i < length s) where
     unfolding utf8From
     lead-f4 e = some (rw e)
 
--- The loop: what is left decides.
-module _ (s : List ℕ) (i : ℕ) (e : utf8 s ≡ utf8 (drop i s)) where
+-- ASCII bytes are passed.
+utf8-past : (t : List ℕ) → utf8 t ≡ utf8 (past isAscii t)
+unfolding past
+utf8-past [] = refl
+utf8-past (x ∷ t) = go (utf8-past t) (isAscii x) refl
+  where
+    go : utf8 t ≡ utf8 (past isAscii t) → (b : Bool) → isAscii x ≡ b → utf8 (x ∷ t) ≡ utf8 (past isAscii (x ∷ t))
+    go ih true e = ascii x t (ltb-true x 128 e) ∙ ih ∙ ap utf8 (sym (past-on isAscii x t e))
+    go ih false e = ap utf8 (sym (past-ends isAscii x t e))
+
+-- The loop stands behind ASCII bytes, and what is left decides.
+pub record Behind (s : List ℕ) (i : ℕ) : Type 0 where
+  pub inside : i ≤ length s
+  pub rest : utf8 s ≡ utf8 (drop i s)
+  pub lead : i < length s → 128 ≤ getD s i 0
+
+behind-run : (s : List ℕ) {a i : ℕ} → RunTo isAscii s a i → utf8 s ≡ utf8 (drop a s) → Behind s i
+behind-run s {a} {i} w e = record {
+  inside = w .inside;
+  rest = e ∙ utf8-past (drop a s) ∙ ap utf8 (w .past-is);
+  lead = λ h. ltb-false (getD s i 0) 128 (run-stops isAscii s w h);
+}
+
+pub behind-first : (s : List ℕ) {i : ℕ} → RunTo isAscii s 0 i → Behind s i
+behind-first s w = behind-run s w refl
+
+module _ (s : List ℕ) (i : ℕ) (b : Behind s i) where
+  pub leads : i < length s → 128 ≤ getD s i 0
+  leads = b .lead
+
   pub text-ends : length s ≤ i → true ≡ utf8 s
   unfolding utf8From
-  text-ends h = rw (e, drop-of-length-le s h)
-
-  pub past-ascii : i < length s → getD s i 0 < 128 → utf8 s ≡ utf8 (drop (i + 1) s)
-  past-ascii h k = e ∙ first s i h ∙ ascii _ _ k
+  text-ends h = rw (b .rest, drop-of-length-le s h)
 
   module _ {n : ℕ} (q : Sequence s i n) where
     pub malformed : n ≡ 0 → false ≡ utf8 s
-    malformed z = sym (e ∙ q .rest ∙ rw z)
+    malformed z = sym (b .rest ∙ q .rest ∙ rw z)
 
-    pub past-sequence : (n ≡ 0 → ⊥) → utf8 s ≡ utf8 (drop (i + n) s)
-    past-sequence z = e ∙ q .rest ∙ rw (lt-ltb 0 n (omega arith))
+    pub behind-next : {j : ℕ} → (n ≡ 0 → ⊥) → RunTo isAscii s (i + n) j → Behind s j
+    behind-next z w = behind-run s w (b .rest ∙ q .rest ∙ rw (lt-ltb 0 n (omega arith)))
 
-pub ruleset texts = (none-there, too-low, high-enough, broken-1, broken-2, broken-3, whole-1, whole-2, whole-3, no-lead, past-leads, lead-2, lead-e0, lead-ed, lead-3, lead-f0, lead-4, lead-f4, text-ends, past-ascii, malformed, past-sequence)
+    pub onward : {j : ℕ} → (n ≡ 0 → ⊥) → RunTo isAscii s (i + n) j → i < j
+    onward z w = omega (arith, w .on)
+
+-- A run of ASCII bytes goes on, or ends.
+module _ (s : List ℕ) (a i : ℕ) (r : Ahead isAscii s a i) (h : i < length s) where
+  pub ascii-on : getD s i 0 < 128 → Ahead isAscii s a (i + 1)
+  ascii-on k = run-on isAscii s a i r h (sym (lt-ltb (getD s i 0) 128 k)) refl
+
+  pub ascii-ends : 128 ≤ getD s i 0 → RunTo isAscii s a i
+  ascii-ends k = run-ends isAscii s a i r h (sym (le-ltb (getD s i 0) 128 k)) refl
+
+pub ruleset texts = (none-there, too-low, high-enough, broken-1, broken-2, broken-3, whole-1, whole-2, whole-3, no-lead, past-leads, lead-2, lead-e0, lead-ed, lead-3, lead-f0, lead-4, lead-f4, run-begins, run-out, ascii-on, ascii-ends, behind-first, leads, text-ends, malformed, behind-next, onward)

@@ -7,7 +7,7 @@ use lib.ListN.{length, drop, getD}
 use lib.Dec.{ltb, eqb}
 use Rattle.cbor.specs.declared.Head.{Head}
 use Rattle.cbor.specs.declared.Head.the-variants.{Bad, Good}
-use Rattle.cbor.specs.Byte.{within}
+use Rattle.buffer.specs.Bytes.{within}
 use Rattle.cbor.specs.Utf8.{utf8From, utf8}
 use Rattle.cbor.specs.Head.{divides, double, kindOf, Lead, size, unused, notShortest, Got, bad, got, getHead}
 

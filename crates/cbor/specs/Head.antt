@@ -1,11 +1,12 @@
--- Item heads: document 01, 'Heads', and the tests 2, 3 and 4.
+-- Item heads: document 01, 'Heads', and the tests 2, 3 and 4. Interface: the kinds, Lead, size, leadBytes, shortBytes, headBytes, keyBytes, keyOf, getHead, Sound,
+-- stringSize, isContainer, arity; the others are the parts of these.
 use Prim.Native.Nat.{ℕ, suc, _+_, _-_, _*_, _/_, _%_, _^_, _<_, _≤_}
 use mathlib.Core.Path.{_≡_}
 use mathlib.Core.Bool.{Bool, true, false, not, _&&_, _||_, cond}
-use mathlib.Core.List.{List, [], _∷_}
-use lib.ListN.{length, take}
+use mathlib.Core.List.{List, [], _∷_, _++_}
+use lib.ListN.{length, take, drop}
 use lib.Dec.{ltb, leb, eqb}
-use Rattle.cbor.specs.Byte.{be, value, within}
+use Rattle.buffer.specs.Bytes.{be, value, within}
 
 -- The kinds of items: the major types 0 to 5, the simple values, and the floats f9, fa and fb.
 abbrev pub unsigned : ℕ
@@ -73,6 +74,18 @@ size l = suc (width (l .info))
 unfoldable pub shortBytes : ℕ → ℕ → List ℕ
 shortBytes k a = (majorOf k * 32 + shortest a) ∷ be (width (shortest a)) a
 
+-- the head of a number, a length or a simple value in its shortest form
+unfoldable pub leadOf : ℕ → ℕ → Lead
+leadOf k a = record { info = cond (leb k map) (shortest a) a; kind = k; arg = a }
+
+-- its bytes; none for a float, or a simple value past 23
+unfoldable pub headBytes : ℕ → ℕ → List ℕ
+headBytes k a = cond (leb k map || (eqb k simple && ltb a 24)) (leadBytes (leadOf k a)) []
+
+-- the bytes by which map keys are ordered, of a key's head and its string
+abbrev pub keyBytes : Lead → List ℕ → List ℕ
+keyBytes l str = shortBytes (l .kind) (l .arg) ++ str
+
 -- 2^p divides m
 abbrev pub divides : ℕ → ℕ → Bool
 divides p m = eqb (m % 2 ^ p) 0
@@ -121,6 +134,14 @@ getFrom m i bs =
 unfoldable pub getHead : List ℕ → Got
 getHead [] = bad 2
 getHead (b ∷ bs) = getFrom (b / 32) (b % 32) bs
+
+-- the bytes by which a key is ordered, of its own bytes; what starts with no head of a number, a string or a container is ordered as it is
+abbrev pub keyBy : Got → List ℕ → List ℕ
+keyBy (got l) b = cond (leb (l .kind) map) (keyBytes l (drop (size l) b)) b
+keyBy (bad r) b = b
+
+unfoldable pub keyOf : List ℕ → List ℕ
+keyOf b = keyBy (getHead b) b
 
 -- the heads that may be written: document 01, 'Heads', with no reading in it
 pub data Sound (l : Lead) : Type 0 where

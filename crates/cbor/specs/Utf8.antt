@@ -1,9 +1,9 @@
--- UTF-8 as RFC 3629, section 4, has it: the table of well-formed byte sequences.
+-- UTF-8 as RFC 3629, section 4, has it: the table of well-formed byte sequences. Interface: utf8. Private to src/: isAscii.
 use Prim.Native.Nat.{ℕ, zero, suc}
 use mathlib.Core.Bool.{Bool, true, false, _&&_, _||_}
 use mathlib.Core.List.{List, [], _∷_}
 use lib.Dec.{ltb, eqb}
-use Rattle.cbor.specs.Byte.{within}
+use Rattle.buffer.specs.Bytes.{within}
 
 -- n continuation bytes are due, the next of them from lo to hi
 unfoldable pub utf8From : ℕ → ℕ → ℕ → List ℕ → Bool
@@ -22,3 +22,7 @@ utf8From (suc n) lo hi (b ∷ bs) = within lo hi b && utf8From n 128 191 bs
 
 abbrev pub utf8 : List ℕ → Bool
 utf8 = utf8From 0 128 191
+
+-- a byte that is a sequence by itself
+abbrev pub isAscii : ℕ → Bool
+isAscii x = ltb x 128

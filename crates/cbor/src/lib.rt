@@ -1,11 +1,13 @@
 // CBOR item heads and UTF-8, as document 01 narrows RFC 8949 and RFC 3629.
 ghost use mathlib.Core.Path.{_≡_};
 ghost use Prim.Native.Nat.{_+_, _^_, _<_, _≤_, _%_, _/_};
-ghost use lib.ListN.{length, take, drop, getD};
-ghost use Rattle.cbor.specs.Byte.{below, value};
-ghost use Rattle.cbor.specs.Head.{divides, badHalf, badFloat, getFrom};
+ghost use lib.ListN.{length, drop, getD};
+ghost use Rattle.buffer.specs.Put.{Put};
+ghost use Rattle.buffer.specs.Runs.{RunTo};
+ghost use Rattle.cbor.specs.Byte.{below};
+ghost use Rattle.cbor.specs.Head.{divides, badHalf, badFloat, getFrom, headBytes, keyOf};
 ghost use Rattle.cbor.specs.Answer.{answer, counted, headAt, judged, Passed, tooLong, follows, Tail, Sequence};
-ghost use Rattle.cbor.specs.Utf8.{utf8};
+ghost use Rattle.cbor.specs.Utf8.{utf8, isAscii};
 
 // The kinds of heads (specs/Head.antt).
 pub const UNSIGNED: u8 = 0;
@@ -39,28 +41,6 @@ fn wide(x: u8) -> u64
     ensures { λ r. ⌜ (r ≡ x) × (r < 256) ⌝ }
 {
     x as u64
-}
-
-// Big-endian numbers. Each is one load and a byte swap, but beside the test for the shortest size LLVM loads the halves apart.
-fn be2(s: &[u8], at: usize) -> u64
-    requires { ⌜ at + 2 ≤ length (now s) ⌝ }
-    ensures { λ r. ⌜ (r ≡ value (take 2 (drop at (now (s .entry))))) × (r < 2 ^ 16) ⌝ }
-{
-    wide(s[at]) * 256 + wide(s[at + 1])
-}
-
-fn be4(s: &[u8], at: usize) -> u64
-    requires { ⌜ at + 4 ≤ length (now s) ⌝ }
-    ensures { λ r. ⌜ (r ≡ value (take 4 (drop at (now (s .entry))))) × (r < 2 ^ 32) ⌝ }
-{
-    be2(s, at) * 65536 + be2(s, at + 2)
-}
-
-fn be8(s: &[u8], at: usize) -> u64
-    requires { ⌜ at + 8 ≤ length (now s) ⌝ }
-    ensures { λ r. ⌜ r ≡ value (take 8 (drop at (now (s .entry)))) ⌝ }
-{
-    be4(s, at) * 4294967296 + be4(s, at + 4)
 }
 
 // Another NaN than f97e00.
@@ -112,10 +92,10 @@ fn is_bad_float(kind: u8, a: u64) -> bool
     requires { ⌜ (7 ≤ kind) × (kind ≤ 9) ⌝ }
     ensures { λ r. ⌜ r ≡ badFloat kind a ⌝ }
 {
-    if kind == 7 {
+    if kind == HALF {
         return is_bad_half(a);
     }
-    if kind == 8 {
+    if kind == SINGLE {
         return is_long(a / 8388608 % 256, a % 8388608, 255, 103, 113, 142, 13);
     }
     is_long(
@@ -168,7 +148,7 @@ fn long(s: &[u8], at: usize, major: u8, info: u64) -> Head
         if left < 2 {
             return Head::Bad(2);
         }
-        if major < 6 {
+        if major <= MAP {
             return number(major, wide(s[at + 1]), 24, at + 2);
         }
         return Head::Bad(3);
@@ -177,28 +157,28 @@ fn long(s: &[u8], at: usize, major: u8, info: u64) -> Head
         if left < 3 {
             return Head::Bad(2);
         }
-        if major < 6 {
-            return number(major, be2(s, at + 1), 256, at + 3);
+        if major <= MAP {
+            return number(major, buffer::load2(s, at + 1) as u64, 256, at + 3);
         }
-        return float(major, 25, be2(s, at + 1), at + 3);
+        return float(major, 25, buffer::load2(s, at + 1) as u64, at + 3);
     }
     if info == 26 {
         if left < 5 {
             return Head::Bad(2);
         }
-        if major < 6 {
-            return number(major, be4(s, at + 1), 65536, at + 5);
+        if major <= MAP {
+            return number(major, buffer::load4(s, at + 1) as u64, 65536, at + 5);
         }
-        return float(major, 26, be4(s, at + 1), at + 5);
+        return float(major, 26, buffer::load4(s, at + 1) as u64, at + 5);
     }
     if info == 27 {
         if left < 9 {
             return Head::Bad(2);
         }
-        if major < 6 {
-            return number(major, be8(s, at + 1), 4294967296, at + 9);
+        if major <= MAP {
+            return number(major, buffer::load8(s, at + 1), 4294967296, at + 9);
         }
-        return float(major, 27, be8(s, at + 1), at + 9);
+        return float(major, 27, buffer::load8(s, at + 1), at + 9);
     }
     Head::Bad(3)
 }
@@ -219,7 +199,7 @@ fn short(b: u64, at: usize) -> Head
         return Head::Bad(3);
     }
     Head::Good {
-        kind: 6,
+        kind: SIMPLE,
         arg: b % 32,
         next: at + 1,
     }
@@ -342,20 +322,32 @@ fn sequence(s: &[u8], i: usize) -> usize
     0
 }
 
-pub fn is_utf8(s: &[u8]) -> bool
-    ensures { λ r. ⌜ r ≡ utf8 (now (s .entry)) ⌝ }
+// The place behind the ASCII bytes from a place on.
+fn ascii_run(s: &[u8], at: usize) -> usize
+    requires { ⌜ at ≤ length (now s) ⌝ }
+    ensures { λ r. ⌜ RunTo isAscii (now (s .entry)) at r ⌝ }
 {
-    let mut i = 0;
+    let mut i = at;
     while i < s.len() {
         if s[i] < 128 {
             i += 1;
-            continue;
+        } else {
+            return i;
         }
+    }
+    i
+}
+
+pub fn is_utf8(s: &[u8]) -> bool
+    ensures { λ r. ⌜ r ≡ utf8 (now (s .entry)) ⌝ }
+{
+    let mut i = ascii_run(s, 0);
+    while i < s.len() {
         let n = sequence(s, i);
         if n == 0 {
             return false;
         }
-        i += n;
+        i = ascii_run(s, i + n);
     }
     true
 }
@@ -377,4 +369,43 @@ pub fn is_below(a: &[u8], b: &[u8]) -> bool
         i += 1;
     }
     i < b.len()
+}
+
+// Whether a map's key comes before another's, each by its head and its string. The heads that are read are shortest ones, so the bytes decide as they are.
+pub fn is_key_below(a: &[u8], b: &[u8]) -> bool
+    ensures { λ r. ⌜ r ≡ below (keyOf (now (a .entry))) (keyOf (now (b .entry))) ⌝ }
+{
+    is_below(a, b)
+}
+
+// The head of a number, a length or a simple value in its shortest form. A float, or a simple value past 23, puts nothing.
+pub fn put_head(out: &mut [u8], at: usize, kind: u8, arg: u64) -> usize
+    ensures { λ r. ⌜ Put (now (out .entry)) (now (out .exit)) at r (headBytes kind arg) ⌝ }
+{
+    if kind == SIMPLE {
+        if arg < 24 {
+            return buffer::put(out, at, 224 + arg as u8);
+        }
+        return at;
+    }
+    if MAP < kind {
+        return at;
+    }
+    if arg < 24 {
+        return buffer::put(out, at, kind * 32 + arg as u8);
+    }
+    if arg < 256 {
+        let q = buffer::put(out, at, kind * 32 + 24);
+        return buffer::put(out, q, arg as u8);
+    }
+    if arg < 65536 {
+        let q = buffer::put(out, at, kind * 32 + 25);
+        return buffer::put2(out, q, arg as u16);
+    }
+    if arg < 4294967296 {
+        let q = buffer::put(out, at, kind * 32 + 26);
+        return buffer::put4(out, q, arg as u32);
+    }
+    let q = buffer::put(out, at, kind * 32 + 27);
+    buffer::put8(out, q, arg)
 }

@@ -19,12 +19,12 @@ fn counted(out: &mut [u8], at: usize, word: &[u8], n: usize) -> usize {
 }
 
 fn show_listing(s: &[u8], out: &mut [u8], room: &mut [u8]) {
-    match list::list_message(s, room) {
-        list::Listed::Refused { number, place } => {
+    match listing::list_message(s, room) {
+        listing::Listed::Refused { number, place } => {
             let p = print::refused(out, 0, number, place);
             print::flush(out, p);
         }
-        list::Listed::Entries { listed, count } => {
+        listing::Listed::Entries { listed, count } => {
             let a = counted(out, 0, b"refs ", listed);
             let b = lines(out, a, s, room, listed);
             let c = counted(out, b, b"items ", count);

@@ -5,8 +5,8 @@
 fn show_no(s: &[u8], k: usize, listing: &mut [u8], out: &mut [u8]) {
     let a = buffer::put_all(out, 0, b"no ");
     let b = print::field(out, a, k as u64);
-    match list::list_message(s, listing) {
-        list::Listed::Entries {
+    match listing::list_message(s, listing) {
+        listing::Listed::Entries {
             listed: _,
             count: _,
         } => {
@@ -15,7 +15,7 @@ fn show_no(s: &[u8], k: usize, listing: &mut [u8], out: &mut [u8]) {
                 print::flush(out, c);
             }
         }
-        list::Listed::Refused { number, place } => {
+        listing::Listed::Refused { number, place } => {
             let c = print::refused(out, 0, number, place);
             print::flush(out, c);
         }
@@ -23,13 +23,13 @@ fn show_no(s: &[u8], k: usize, listing: &mut [u8], out: &mut [u8]) {
 }
 
 fn judge(s: &[u8], table: &[u8], subscriber: u64, listing: &mut [u8], out: &mut [u8]) {
-    match list::release(s, table, subscriber) {
-        list::Released::Yes => {
+    match listing::release(s, table, subscriber) {
+        listing::Released::Yes => {
             let a = buffer::put_all(out, 0, b"yes\n");
             print::flush(out, a);
         }
-        list::Released::No(k) => show_no(s, k, listing, out),
-        list::Released::Refused { number, place } => {
+        listing::Released::No(k) => show_no(s, k, listing, out),
+        listing::Released::Refused { number, place } => {
             let a = print::refused(out, 0, number, place);
             print::flush(out, a);
         }

@@ -29,14 +29,14 @@ fn subscriber_of(t: &[u8], row: u64) -> u64 {
     if 4294967296 < row {
         return 0;
     }
-    grants::word_at(t, row as usize * 16)
+    buffer::load8(t, row as usize * 16)
 }
 
 fn namespace_of(t: &[u8], row: u64) -> u64 {
     if 4294967296 < row {
         return 0;
     }
-    grants::word_at(t, row as usize * 16 + 8)
+    buffer::load8(t, row as usize * 16 + 8)
 }
 
 // Whether two rows are of one namespace and of two subscribers.

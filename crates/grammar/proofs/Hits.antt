@@ -9,7 +9,7 @@ use lib.ListN.{length, getD, List·getD-eq-default}
 use lib.Dec.{eqb, leb}
 use borrow.Author.Tests.{eqb-true, leb-true, leb-false}
 use types.Run.{OneOf}
-use Rattle.cbor.proofs.ByteLaws.{or-true, or-nil}
+use Rattle.buffer.proofs.ByteLaws.{or-true, or-nil}
 use Rattle.cbor.proofs.Computed.{allFrom, all-at}
 
 -- A `match` with an arm for each number from 0 on is a look-up in a list.

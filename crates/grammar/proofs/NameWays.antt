@@ -9,7 +9,7 @@ use lib.ListN.{length, drop, getD, length-drop, drop-of-length-le}
 use lib.Seq.{drop-cons}
 use lib.Dec.{ltb, eqb}
 use borrow.Author.Tests.{lt-ltb, le-ltb, le-leb, lt-leb, ne-eqb}
-use Rattle.cbor.specs.Byte.{all}
+use Rattle.buffer.specs.Bytes.{all}
 use Rattle.cbor.proofs.Computed.{same, same-true, allFrom, all-at}
 use Rattle.ari.specs.Name.{startsName, continuesName, identifier, namespaceName}
 

@@ -7,8 +7,8 @@ use native.Mathlib.Omega.{arith}
 use lib.ListN.{getD}
 use lib.Dec.{leb, eqb}
 use borrow.Author.Tests.{leb-true, eqb-true, eqb-false, le-leb, lt-leb}
-use Rattle.cbor.specs.Byte.{within}
-use Rattle.cbor.proofs.ByteLaws.{and-true}
+use Rattle.buffer.specs.Bytes.{within}
+use Rattle.buffer.proofs.ByteLaws.{and-true}
 use Rattle.ari.specs.Table.{Row, row, types, fits}
 use Rattle.grammar.specs.Words.{each, Span, span, inSpans, spans, ranges, rangeOf, bitsOf, smallOf, topIn, topOf}
 

@@ -6,7 +6,7 @@ use mathlib.Core.Logic.{_⊎_, inl, inr}
 use native.Mathlib.Omega.{arith}
 use lib.Dec.{ltb, leb, eqb}
 use borrow.Author.Tests.{ltb-true, eqb-true, eqb-false, lt-ltb, le-ltb, eq-eqb, ne-eqb}
-use Rattle.cbor.proofs.ByteLaws.{and-true, or-true}
+use Rattle.buffer.proofs.ByteLaws.{and-true, or-true}
 use Rattle.ari.specs.Table.{inside, param, value, done, due, many, referenceLevel, rule, members}
 use Rattle.grammar.specs.declared.Next.{Next}
 use Rattle.grammar.specs.declared.Next.the-variants.{Done, Due}

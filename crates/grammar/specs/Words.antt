@@ -5,7 +5,7 @@ use mathlib.Core.Bool.{Bool, true, false, _&&_, _||_, cond}
 use mathlib.Core.List.{List, [], _∷_}
 use lib.ListN.{getD}
 use lib.Dec.{ltb, leb, eqb}
-use Rattle.cbor.specs.Byte.{within}
+use Rattle.buffer.specs.Bytes.{within}
 use Rattle.cbor.specs.Head.{unsigned}
 use Rattle.ari.specs.Table.{Place, alone, message, inside, param, value, Row, row, max64, max63, max32, max31, types, typeRows, Level, done, due, many, referenceLevel, Rule}
 use Rattle.grammar.specs.declared.Next.{Next}

@@ -14,7 +14,7 @@ use borrow.Author.Tests.{lt-ltb, le-ltb, le-leb, lt-leb, eq-eqb, ne-eqb}
 use Rattle.ari.specs.Table.{max63, max64}
 use Rattle.ari.specs.Listing.{Space, number, name, relative}
 use Rattle.grants.specs.Grants.{Grant, some, holds, granted, yes, no, judgeFrom}
-use Rattle.grants.specs.Bytes.{signed}
+use Rattle.ari.specs.Signed.{signed}
 use Rattle.grant_structs.specs.Structs.{kindAt, wordAt, entryAt, entriesFrom, wantedAt, heldBack, heldAt}
 
 -- a word as a number: the code's casts and its difference

@@ -8,20 +8,23 @@ use lib.ListN.{length, take, drop, length-append}
 use lib.Seq.{take-at, drop-at, drop-drop}
 use lib.IntN.{ℤ, pos, negsuc}
 use borrow.Author.Tests.{eq-eqb}
-use Rattle.cbor.specs.Byte.{be, value}
-use Rattle.cbor.proofs.ByteLaws.{length-be, value-be}
+use Rattle.buffer.specs.Bytes.{be, value}
+use Rattle.buffer.proofs.ByteLaws.{length-be, value-be}
 use Rattle.ari.specs.Limits.{firstLimits}
-use Rattle.ari.specs.Reader.{Limits, Answer, accept, refuse, aMessage, read}
+use Rattle.ari.specs.declared.Limits.{Limits}
+use Rattle.ari.specs.declared.Input.the-variants.{Message}
+use Rattle.ari.specs.Reader.{Answer, accept, refuse, read}
 use Rattle.ari.specs.Listing.{Space, number, listing}
 use Rattle.ari.proofs.Named.{InRange}
 use Rattle.grants.specs.Grants.{Grant, granted, check, judge, release}
-use Rattle.grants.specs.Bytes.{word, rowBy, rowOf, rowsOf, rows, ragged, checkBytes, whole, releaseBytes}
+use Rattle.ari.specs.Signed.{word}
+use Rattle.grants.specs.Bytes.{rowBy, rowOf, rowsOf, rows, ragged, checkBytes, whole, releaseBytes}
 use Rattle.grants.specs.Verdict.{said}
 use Rattle.grants.specs.declared.Verdict.{Verdict}
 use Rattle.grants.specs.declared.Verdict.the-variants.{Passes, Refused}
 use Rattle.grants.proofs.Signed.{signed-word}
-use Rattle.list.specs.declared.Released.{Released}
-use Rattle.list.specs.Answers.{said as saidOf}
+use Rattle.listing.specs.declared.Released.{Released}
+use Rattle.listing.specs.Answers.{said as saidOf}
 use Rattle.grant_structs.specs.declared.Grant.{Grant as Row}
 use Rattle.grant_structs.specs.declared.Release.{Release}
 use Rattle.grant_structs.specs.Told.{told}
@@ -94,13 +97,13 @@ module _ (t : List Row) (f : Fit t) where
 
   pub same-release : (m : Limits) (b : List ℕ) (s : ℕ) → releaseBytes m b (tableBytes t) s ≡ release m b (grants t) s
   unfolding releaseBytes release
-  same-release m b s = rw (same-rows t f) (go (read m aMessage b))
+  same-release m b s = rw (same-rows t f) (go (read m Message b))
     where
       go : (a : Answer) → whole a (tableBytes t) (judge a (granted (grants t) s) (listing b)) ≡ judge a (granted (grants t) s) (listing b)
       go (refuse r p) = refl
       go (accept n) = rw (not-ragged t)
 
-  -- so what `list::release` answers of the bytes, in document 01's terms, is what `release_grants` answers of the structs
+  -- so what `listing::release` answers of the bytes, in document 01's terms, is what `release_grants` answers of the structs
   pub same-answer : (b : List ℕ) (s : ℕ) (r : Released) (r′ : Release) → saidOf r ≡ releaseBytes firstLimits b (tableBytes t) s → told r′ ≡ release firstLimits b (grants t) s → saidOf r ≡ told r′
   same-answer b s r r′ e e′ = e ∙ same-release firstLimits b s ∙ sym e′
 

@@ -7,8 +7,9 @@ use native.Mathlib.Omega.{arith}
 use lib.ListN.{length, getD, drop, length-append}
 use lib.IntN.{ℤ}
 use borrow.Author.Tests.{le-ltb}
-use Rattle.cbor.specs.Byte.{all, isByte}
-use Rattle.ari.specs.Reader.{Answer, accept, refuse, aMessage, read}
+use Rattle.buffer.specs.Bytes.{all, isByte}
+use Rattle.ari.specs.declared.Input.the-variants.{Message}
+use Rattle.ari.specs.Reader.{Answer, accept, refuse, read}
 use Rattle.ari.specs.Limits.{firstLimits}
 use Rattle.ari.specs.Decode.{decode}
 use Rattle.ari.specs.Rules.{Is}
@@ -18,10 +19,10 @@ use Rattle.ari.proofs.Named.{InRange, numbers-in-range}
 use Rattle.grants.specs.Grants.{Grant, granted, Release, no, judgeFrom, judge, release}
 use Rattle.grants.specs.Bytes.{kindOf, wordOf}
 use Rattle.grants.proofs.Signed.{signed-word}
-use Rattle.list.specs.declared.Listed.{Listed}
-use Rattle.list.specs.declared.Listed.the-variants.{Entries, Refused}
-use Rattle.list.specs.Answers.{entryWords, wordsOf, listedOf, listIn, writtenBy, writtenIn}
-use Rattle.list.proofs.Table.{few-listed}
+use Rattle.listing.specs.declared.Listed.{Listed}
+use Rattle.listing.specs.declared.Listed.the-variants.{Entries, Refused}
+use Rattle.listing.specs.Answers.{entryWords, wordsOf, listedOf, listIn, writtenBy, writtenIn}
+use Rattle.listing.proofs.Table.{few-listed}
 use Rattle.grant_structs.specs.Structs.{spaceBy, kindAt, wordAt, entryBy, entryAt, entriesFrom, answerBy, Decides}
 
 module _ (a b : ℕ) (l : List ℕ) where
@@ -54,15 +55,15 @@ two-each : (es : List Entry) → length (wordsOf es) ≡ 2 * length es
 two-each [] = refl
 two-each (e ∷ es) = omega (arith, two-each es)
 
--- what `list::list_words` answers and writes, in room for 1,024 entries
+-- what `listing::list_words` answers and writes, in room for 1,024 entries
 pub words-decide : (b : List ℕ) → all isByte b ≡ true → (ws : List ℕ) → 2048 ≤ length ws → {l : Listed} → l ≡ listIn 2 firstLimits b ws → {ws′ : List ℕ} → ws′ ≡ writtenIn 2 entryWords firstLimits b ws → Decides b l ws′
 unfolding listIn writtenIn release
-words-decide b bytes ws room {l} e {ws′} f = rw (f, e) (go (read firstLimits aMessage b) refl)
+words-decide b bytes ws room {l} e {ws′} f = rw (f, e) (go (read firstLimits Message b) refl)
   where
-    go : (a : Answer) → read firstLimits aMessage b ≡ a → Decides b (listedOf a (listing b) (length ws / 2)) (writtenBy 2 entryWords (listedOf a (listing b) (length ws / 2)) (listing b) ws)
+    go : (a : Answer) → read firstLimits Message b ≡ a → Decides b (listedOf a (listing b) (length ws / 2)) (writtenBy 2 entryWords (listedOf a (listing b) (length ws / 2)) (listing b) ws)
     go (refuse r p) h = record { most = omega arith; decides = λ t s. sym (ap (λ (x : Answer). judge x (granted t s) (listing b)) h) }
     go (accept n) h =
-        let c : Is firstLimits aMessage b (decode b) n = demand-two firstLimits aMessage b n bytes .0 h in
+        let c : Is firstLimits Message b (decode b) n = demand-two firstLimits Message b n bytes .0 h in
         let few : length (listing b) ≤ length ws / 2 = omega (arith, few-listed c, c .few) in
         rw (le-ltb (length ws / 2) (length (listing b)) few) (record {
           most = omega (arith, length-append (wordsOf (listing b)) (drop (2 * length (listing b)) ws), two-each (listing b));

@@ -1,8 +1,8 @@
 -- Grant structs in bytes, 16 a row: document 01, 'Grants'.
 use Prim.Native.Nat.{ℕ}
 use mathlib.Core.List.{List, [], _∷_, _++_}
-use Rattle.cbor.specs.Byte.{be}
-use Rattle.grants.specs.Bytes.{word}
+use Rattle.buffer.specs.Bytes.{be}
+use Rattle.ari.specs.Signed.{word}
 use Rattle.grant_structs.specs.declared.Grant.{Grant as Row}
 
 -- "subscriber (unsigned, 8), namespace (two's complement, 8)"

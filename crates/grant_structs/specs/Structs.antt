@@ -9,9 +9,9 @@ use lib.Dec.{eqb, ltb}
 use Rattle.ari.specs.Listing.{Space, number, name, relative, Entry}
 use Rattle.ari.specs.Limits.{firstLimits}
 use Rattle.grants.specs.Grants.{Grant, clash, holds, granted, Check, passes, refused, Release, yes, no, judgeFrom, release}
-use Rattle.grants.specs.Bytes.{signed}
-use Rattle.list.specs.declared.Listed.{Listed}
-use Rattle.list.specs.declared.Listed.the-variants.{Entries, Refused}
+use Rattle.ari.specs.Signed.{signed}
+use Rattle.listing.specs.declared.Listed.{Listed}
+use Rattle.listing.specs.declared.Listed.the-variants.{Entries, Refused}
 use Rattle.grant_structs.specs.declared.Grant.{Grant as Row}
 
 abbrev pub rowBy : ℕ → ℤ → Grant

@@ -6,12 +6,12 @@ ghost use lib.ListN.{length, take};
 ghost use Rattle.ari.specs.Limits.{firstLimits};
 ghost use Rattle.ari.specs.Listing.{number};
 ghost use Rattle.grants.specs.Grants.{some, clash, holds, granted, check, judgeFrom, release};
-ghost use Rattle.grants.specs.Bytes.{signed};
+ghost use Rattle.ari.specs.Signed.{signed};
 ghost use Rattle.grants.specs.Verdict.{said};
 ghost use Rattle.grant_structs.specs.Structs.{rowBy, grantOf, grants, meetsBy, foundAt, heldAt, entriesFrom, wantedAt, heldBack, entriesOf, answerBy, Decides};
 ghost use Rattle.grant_structs.specs.Told.{told};
 use grants::Verdict;
-use list::Listed;
+use listing::Listed;
 
 // A grant: a subscriber and a namespace number.
 pub struct Grant {
@@ -126,7 +126,7 @@ fn number_of(w: u64) -> i64
     -1 - (18446744073709551615 - w) as i64
 }
 
-// A list of entries is as `list::list_words` writes it: kind (0 number, 1 name, 2 relative) and word, the number in two's complement.
+// A list of entries is as `listing::list_words` writes it: kind (0 number, 1 name, 2 relative) and word, the number in two's complement.
 // Here is the row that grants entry i, if its namespace is a number.
 fn wanted(list: &[u64], i: usize, subscriber: u64) -> Grant
     requires { ⌜ i < length (now list) / 2 ⌝ }
@@ -183,7 +183,7 @@ fn listed_in(message: &[u8], words: &mut [u64]) -> Listed
     requires { ⌜ 2048 ≤ length (now words) ⌝ }
     ensures { λ r. ⌜ Decides (now (message .entry)) r (now (words .exit)) ⌝ }
 {
-    list::list_words(message, words)
+    listing::list_words(message, words)
 }
 
 // How many entries a listing has: of a refused message none.

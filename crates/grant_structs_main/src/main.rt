@@ -3,7 +3,7 @@
 use grant_structs::Grant;
 use grant_structs::Release;
 use grants::Verdict;
-use list::Released;
+use listing::Released;
 
 fn text(b: &[u8]) {
     io::write_all(1, b);
@@ -70,7 +70,7 @@ fn of_structs(r: Release) {
 }
 
 fn releases(message: &[u8], bytes: &[u8], t: [Grant; 4], subscriber: u64) {
-    of_bytes(list::release(message, bytes, subscriber));
+    of_bytes(listing::release(message, bytes, subscriber));
     of_structs(grant_structs::release_grants_four(message, t, subscriber));
 }
 

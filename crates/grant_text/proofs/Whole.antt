@@ -9,11 +9,11 @@ use lib.ListN.{length, take, drop, getD, drop-of-length-le, length-drop}
 use lib.Seq.{drop-cons, sets, length-sets}
 use lib.Dec.{leb, eqb}
 use borrow.Author.Tests.{le-leb, lt-leb}
-use Rattle.cbor.specs.Byte.{be}
-use Rattle.cbor.proofs.ByteLaws.{length-be}
+use Rattle.buffer.specs.Bytes.{be}
+use Rattle.buffer.proofs.ByteLaws.{length-be}
 use Rattle.buffer.proofs.Putting.{sets-append}
-use Rattle.list.specs.Answers.{wordPut}
-use Rattle.list.proofs.Stored.{joined, word-roomy}
+use Rattle.listing.specs.Answers.{wordPut}
+use Rattle.listing.proofs.Stored.{joined, word-roomy}
 use Rattle.grant_text.specs.declared.Line.{Line}
 use Rattle.grant_text.specs.declared.Line.the-variants.{Blank, Grant, Bad}
 use Rattle.grant_text.specs.declared.Taken.{Taken}

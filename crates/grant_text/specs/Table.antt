@@ -6,7 +6,7 @@ use mathlib.Core.List.{List, [], _∷_, _++_, map}
 use lib.ListN.{length, drop}
 use lib.Seq.{sets}
 use lib.Dec.{leb, eqb}
-use Rattle.cbor.specs.Byte.{be}
+use Rattle.buffer.specs.Bytes.{be}
 use Rattle.grant_text.specs.declared.Line.{Line}
 use Rattle.grant_text.specs.declared.Line.the-variants.{Blank, Grant, Bad}
 use Rattle.grant_text.specs.declared.Taken.{Taken}

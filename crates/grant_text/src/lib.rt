@@ -6,7 +6,7 @@ ghost use mathlib.Core.List.{_++_};
 ghost use Prim.Native.Nat.{_+_, _/_, _≤_, _<_};
 ghost use lib.ListN.{length};
 ghost use lib.Seq.{sets};
-ghost use Rattle.cbor.specs.Byte.{be};
+ghost use Rattle.buffer.specs.Bytes.{be};
 ghost use Rattle.grant_text.specs.Numbers.{pushOf, digitsOf, unsignedOf, positiveOf, negativeOf, signedOf};
 ghost use Rattle.grant_text.specs.Rows.{blank, isOf, RunTo, grantOf, fieldsOf, rowOf};
 ghost use Rattle.grant_text.specs.Table.{TakenAt, tableOf, roomAfter, Turned};
@@ -226,8 +226,8 @@ fn put_row(out: &mut [u8], at: usize, subscriber: u64, namespace: u64)
     requires { ⌜ at + 16 ≤ length (now out) ⌝ }
     ensures { λ _. ⌜ now (out .exit) ≡ sets (now (out .entry)) at (be 8 subscriber ++ be 8 namespace) ⌝ }
 {
-    list::put_word(out, at, subscriber);
-    list::put_word(out, at + 8, namespace);
+    listing::put_word(out, at, subscriber);
+    listing::put_word(out, at + 8, namespace);
 }
 
 fn put_if(write: bool, out: &mut [u8], at: usize, subscriber: u64, namespace: u64)

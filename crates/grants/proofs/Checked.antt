@@ -10,10 +10,10 @@ use lib.ListN.{length}
 use lib.IntN.{ℤ, pos, negsuc}
 use lib.Dec.{eqb}
 use borrow.Author.Tests.{eqb-false, eq-eqb, ne-eqb}
-use Rattle.cbor.proofs.ByteLaws.{and-true, not-true}
+use Rattle.buffer.proofs.ByteLaws.{and-true, not-true}
 use Rattle.ari.specs.Listing.{number}
 use Rattle.grants.specs.Grants.{Grant, some, same, below0, clash, Check, passes, checkFrom, check}
-use Rattle.grants.proofs.Judged.{some-row, row-some, same-is}
+use Rattle.grants.proofs.Grants.{some-row, row-some, same-is}
 
 -- "two rows with different subscribers carry the same negative namespace": -1 - number
 pub record Clash (g h : Grant) : Type 0 where

@@ -1,6 +1,4 @@
-pub mod Judged
+pub mod Grants
 pub mod Checked
-pub mod Clause
-pub mod ReleaseDemand
 pub mod Signed
 pub mod Ways

@@ -10,7 +10,7 @@ use Rattle.ari.specs.Table.{max63, max64}
 use Rattle.ari.specs.Listing.{number}
 use Rattle.ari.proofs.Named.{InRange}
 use Rattle.grants.specs.Grants.{same, below0}
-use Rattle.grants.specs.Bytes.{word, signed}
+use Rattle.ari.specs.Signed.{word, signed}
 
 pub signed-word : (z : ℤ) → InRange (number z) → signed (word z) ≡ z
 unfolding signed

@@ -8,40 +8,15 @@ use lib.ListN.{length, take, drop, getD, length-append, length-drop, take-append
 use lib.Seq.{drop-drop, length-take-le, take-append-le, drop-append-le, take-add}
 use lib.Dec.{eqb}
 use borrow.Author.Tests.{eq-eqb, ne-eqb, le-leb, lt-leb}
-use Rattle.cbor.specs.Byte.{value}
-use Rattle.cbor.proofs.NumberWays.{value-join, two-bytes}
+use Rattle.buffer.specs.Bytes.{value, loadAt}
+use Rattle.buffer.proofs.Numbers.{load-there}
 use Rattle.grants.specs.Grants.{Grant, some, same, below0, clash, passes, refused, checkFrom, check, holds}
-use Rattle.grants.specs.Bytes.{signed, wordAt, rowBy, rowOf, holdsAt, rows, checkBytes}
+use Rattle.ari.specs.Signed.{signed}
+use Rattle.grants.specs.Bytes.{rowBy, rowOf, holdsAt, rows, checkBytes}
 use Rattle.grants.proofs.Signed.{same-words, not-negative, negative}
 
--- big-endian numbers, two bytes at a time
-module _ (s : List ℕ) (at : ℕ) where
-  pub push-two : (x : ℕ) {a b : ℕ} → at + 2 ≤ length s → a ≡ getD s at 0 → b ≡ getD s (at + 1) 0
-      → (x * 256 + a) * 256 + b ≡ x * 65536 + value (take 2 (drop at s))
-  push-two x h p q = omega (arith, two-bytes s at h p q)
-
-  two-more : (n : ℕ) → at + n + 2 ≤ length s → value (take (n + 2) (drop at s)) ≡ value (take n (drop at s)) * 65536 + value (take 2 (drop (at + n) s))
-  two-more n h =
-      let l : length (take 2 (drop (at + n) s)) ≡ 2 = length-take-le 2 (drop (at + n) s) (rw length-drop (omega arith)) in
-      rw (take-add n 2 (drop at s), drop-drop n at s, value-join, l)
-
-  pub all-eight : {a b c d : ℕ} → at + 8 ≤ length s → a ≡ 0 * 65536 + value (take 2 (drop at s)) → b ≡ a * 65536 + value (take 2 (drop (at + 2) s))
-      → c ≡ b * 65536 + value (take 2 (drop (at + 4) s)) → d ≡ c * 65536 + value (take 2 (drop (at + 6) s)) → d ≡ value (take 8 (drop at s))
-  all-eight h p q r t = omega (arith, two-more 2 (omega arith), two-more 4 (omega arith), two-more 6 (omega arith))
-
+-- a whole row at a place
 module _ (b : List ℕ) (at : ℕ) where
-  pub word-none : length b < 8 → 0 ≡ wordAt b at
-  unfolding wordAt
-  word-none h = rw (lt-leb (at + 8) (length b) (omega arith))
-
-  pub word-past : 8 ≤ length b → length b - 8 < at → 0 ≡ wordAt b at
-  unfolding wordAt
-  word-past g h = rw (lt-leb (at + 8) (length b) (omega arith))
-
-  pub word-here : {r : ℕ} → 8 ≤ length b → at ≤ length b - 8 → r ≡ value (take 8 (drop at b)) → r ≡ wordAt b at
-  unfolding wordAt
-  word-here g h e = rw (le-leb (at + 8) (length b) (omega arith)) e
-
   module _ (s n : ℕ) where
     pub holds-none : length b < 16 → false ≡ holdsAt b at s n
     unfolding holdsAt
@@ -98,23 +73,31 @@ rows-one b h =
     let f : rowOf b ≡ rowOf (take 16 b) = rw (take-append-drop 16 b) at (row-front (take 16 b) (drop 16 b) (omega arith)) in
     rw (rows-more (take 16 b) (omega arith), rows-end (drop 16 (take 16 b)) (rw length-drop (omega arith)), f)
 
--- one row
-module _ (b : List ℕ) (at s n : ℕ) where
-  pub other-subscriber : {x : ℕ} → x ≡ value (take 8 (drop at b)) → (x ≡ s → ⊥) → false ≡ holds s (signed n) (rowOf (drop at b))
-  other-subscriber {x} e h = rw (← e, ne-eqb x s h)
+-- the two numbers of a row, as they are loaded
+module _ (b : List ℕ) (at : ℕ) (w : at + 16 ≤ length b) where
+  first-word : {x : ℕ} → x ≡ loadAt 8 b at → x ≡ value (take 8 (drop at b))
+  first-word e = e ∙ load-there 8 b at (omega arith)
 
-  pub its-namespace : {x y : ℕ} → x ≡ value (take 8 (drop at b)) → x ≡ s → y ≡ value (take 8 (drop (at + 8) b)) → y < 2 ^ 64 → n < 2 ^ 64
+  second-word : {y : ℕ} → y ≡ loadAt 8 b (at + 8) → y ≡ value (take 8 (drop (at + 8) b))
+  second-word e = e ∙ load-there 8 b (at + 8) (omega arith)
+
+-- one row
+module _ (b : List ℕ) (at s n : ℕ) (w : at + 16 ≤ length b) where
+  pub other-subscriber : {x : ℕ} → x ≡ loadAt 8 b at → (x ≡ s → ⊥) → false ≡ holds s (signed n) (rowOf (drop at b))
+  other-subscriber {x} e h = rw (← first-word b at w e, ne-eqb x s h)
+
+  pub its-namespace : {x y : ℕ} → x ≡ loadAt 8 b at → x ≡ s → y ≡ loadAt 8 b (at + 8) → y < 2 ^ 64 → n < 2 ^ 64
       → eqb y n ≡ holds s (signed n) (rowOf (drop at b))
-  its-namespace {x} {y} e h f k l = rw (← e, eq-eqb x s h, drop-drop 8 at b, ← f, same-words y n k l)
+  its-namespace {x} {y} e h f k l = rw (← first-word b at w e, eq-eqb x s h, drop-drop 8 at b, ← second-word b at w f, same-words y n k l)
 
   module _ (low : 2 ^ 63 ≤ n) (high : n < 2 ^ 64) where
-    pub other-namespace : {y : ℕ} → y ≡ value (take 8 (drop (at + 8) b)) → y < 2 ^ 64 → (y ≡ n → ⊥) → false ≡ clash (rowBy s n) (rowOf (drop at b))
-    other-namespace {y} f k h = rw (drop-drop 8 at b, ← f, same-words y n k high, ne-eqb y n h) (sym (and-false (not (eqb (value (take 8 (drop at b))) s))))
+    pub other-namespace : {y : ℕ} → y ≡ loadAt 8 b (at + 8) → y < 2 ^ 64 → (y ≡ n → ⊥) → false ≡ clash (rowBy s n) (rowOf (drop at b))
+    other-namespace {y} f k h =
+        rw (drop-drop 8 at b, ← second-word b at w f, same-words y n k high, ne-eqb y n h) (sym (and-false (not (eqb (value (take 8 (drop at b))) s))))
 
-    pub its-subscriber : {x y : ℕ} → y ≡ value (take 8 (drop (at + 8) b)) → y ≡ n → x ≡ value (take 8 (drop at b))
-        → not (eqb x s) ≡ clash (rowBy s n) (rowOf (drop at b))
+    pub its-subscriber : {x y : ℕ} → y ≡ loadAt 8 b (at + 8) → y ≡ n → x ≡ loadAt 8 b at → not (eqb x s) ≡ clash (rowBy s n) (rowOf (drop at b))
     its-subscriber {x} {y} f h e =
-        rw (← e, drop-drop 8 at b, ← f, h, same-words n n high high, eq-eqb n n refl, negative n low) (sym (and-true (not (eqb x s))))
+        rw (← first-word b at w e, drop-drop 8 at b, ← second-word b at w f, h, same-words n n high high, eq-eqb n n refl, negative n low) (sym (and-true (not (eqb x s))))
 
 -- the rows of bytes, searched from the front
 module _ (p : Grant → Bool) (b : List ℕ) where
@@ -133,20 +116,20 @@ module _ (p : Grant → Bool) (b : List ℕ) where
       some-behind g = rw (e, rows-more (drop at b) (rw length-drop h), ← f, g, drop-drop 16 at b)
 
 -- a row against those before it
-module _ (b : List ℕ) (at : ℕ) where
-  pub positive : {n : ℕ} → n ≡ value (take 8 (drop (at + 8) b)) → n < 2 ^ 63 → false ≡ some (clash (rowOf (drop at b))) (rows (take at b))
-  positive {n} e h = sym (go (rowOf (drop at b)) (rw (drop-drop 8 at b, ← e) (not-negative n h)) (rows (take at b)))
+module _ (b : List ℕ) (at : ℕ) (w : at + 16 ≤ length b) where
+  pub positive : {n : ℕ} → n ≡ loadAt 8 b (at + 8) → n < 2 ^ 63 → false ≡ some (clash (rowOf (drop at b))) (rows (take at b))
+  positive {n} e h = sym (go (rowOf (drop at b)) (rw (drop-drop 8 at b, ← second-word b at w e) (not-negative n h)) (rows (take at b)))
     where
       go : (g : Grant) → below0 (g .namespace) ≡ false → (t : List Grant) → some (clash g) t ≡ false
       go g k [] = refl
       go g k (x ∷ t) = rw (k, and-false (same (x .namespace) (g .namespace)), and-false (not (eqb (x .subscriber) (g .subscriber)))) (go g k t)
 
-  pub private-row : {s n : ℕ} {x : Bool} → n ≡ value (take 8 (drop (at + 8) b)) → s ≡ value (take 8 (drop at b)) → x ≡ some (clash (rowBy s n)) (rows (take at b))
+  pub private-row : {s n : ℕ} {x : Bool} → n ≡ loadAt 8 b (at + 8) → s ≡ loadAt 8 b at → x ≡ some (clash (rowBy s n)) (rows (take at b))
       → x ≡ some (clash (rowOf (drop at b))) (rows (take at b))
-  private-row e f g = rw (drop-drop 8 at b, ← e, ← f) g
+  private-row e f g = rw (drop-drop 8 at b, ← second-word b at w e, ← first-word b at w f) g
 
-  pub length-before : at + 16 ≤ length b → at ≡ length (take at b)
-  length-before h = sym (length-take-le at b (omega arith))
+  pub length-before : at ≡ length (take at b)
+  length-before = sym (length-take-le at b (omega arith))
 
 -- the check, row by row
 pub ragged-table : (b : List ℕ) → (length b % 16 ≡ 0 → ⊥) → refused 18 (length b / 16) ≡ checkBytes b
@@ -181,4 +164,4 @@ module _ (b : List ℕ) (at : ℕ) (w : length b % 16 ≡ 0) (k : at % 16 ≡ 0)
         let l : length (take at b) ≡ 16 * (at / 16) = length-take-le at b (omega arith) ∙ omega arith in
         rw (e, this-row, ← f, g, q, take-add at 16 b, rows-join (at / 16) (take at b) (take 16 c) l, rows-one c n)
 
-pub ruleset ways = (push-two, all-eight, other-subscriber, its-namespace, other-namespace, its-subscriber, some-start, some-end, some-here, some-behind, positive, private-row, length-before, ragged-table, check-start, check-end, check-here, check-behind, word-none, word-past, word-here, holds-none, holds-past, holds-here)
+pub ruleset ways = (other-subscriber, its-namespace, other-namespace, its-subscriber, some-start, some-end, some-here, some-behind, positive, private-row, length-before, ragged-table, check-start, check-end, check-here, check-behind, holds-none, holds-past, holds-here)

@@ -1,27 +1,12 @@
--- The table and the listing as bytes: document 01, 'Grants'.
-use Prim.Native.Nat.{ℕ, zero, suc, _+_, _-_, _/_, _%_}
+-- The grant table as bytes: R93, R96. Interface: rowOf, holdsAt, rows, ragged, checkBytes.
+use Prim.Native.Nat.{ℕ, zero, suc, _+_, _/_, _%_}
 use mathlib.Core.Bool.{Bool, not, _&&_, cond}
-use mathlib.Core.List.{List, [], _∷_, _++_}
+use mathlib.Core.List.{List, [], _∷_}
 use lib.ListN.{length, take, drop}
-use lib.IntN.{ℤ, pos, negsuc}
 use lib.Dec.{leb, eqb}
-use Rattle.cbor.specs.Byte.{be, value}
-use Rattle.ari.specs.Table.{max63, max64}
-use Rattle.ari.specs.Reader.{Limits, Answer, refuse, accept, aMessage, read}
-use Rattle.ari.specs.Listing.{Space, number, name, relative, Entry}
-use Rattle.grants.specs.Grants.{Grant, holds, Check, refused, check, Release, release}
-
--- two's complement in 8 bytes, and back
-abbrev pub word : ℤ → ℕ
-word (pos a) = a
-word (negsuc a) = max64 - a
-
-unfoldable pub signed : ℕ → ℤ
-signed n = cond (leb n max63) (pos n) (negsuc (max64 - n))
-
--- the number of the eight bytes from a place on; 0 where there are not so many
-unfoldable pub wordAt : List ℕ → ℕ → ℕ
-wordAt b at = cond (leb (at + 8) (length b)) (value (take 8 (drop at b))) 0
+use Rattle.buffer.specs.Bytes.{value}
+use Rattle.ari.specs.Signed.{signed}
+use Rattle.grants.specs.Grants.{Grant, holds, Check, refused, check}
 
 -- "16 a row, big-endian: subscriber (unsigned, 8), namespace (two's complement, 8)"
 abbrev pub rowBy : ℕ → ℕ → Grant
@@ -49,29 +34,3 @@ ragged b = not (eqb (length b % 16) 0)
 -- it "answers 18 with the number of whole rows"
 unfoldable pub checkBytes : List ℕ → Check
 checkBytes b = cond (ragged b) (refused 18 (length b / 16)) (check (rows b))
-
--- release of a table as bytes: ragged ones are 18 "after the message's own refusal", "and nothing is released"
-abbrev pub whole : Answer → List ℕ → Release → Release
-whole (refuse r p) t x = refused r p
-whole (accept n) t x = cond (ragged t) (refused 18 (length t / 16)) x
-
-unfoldable pub releaseBytes : Limits → List ℕ → List ℕ → ℕ → Release
-releaseBytes m b t s = whole (read m aMessage b) t (release m b (rows t) s)
-
--- "24 an entry, big-endian: first byte (4), byte after (4), kind (8: 0 number, 1 name, 2 relative), namespace number or place of the name's
--- head (two's complement, 8; 0 if relative)"
-abbrev pub kindOf : Space → ℕ
-kindOf (number z) = 0
-kindOf (name p s) = 1
-kindOf relative = 2
-
-abbrev pub wordOf : Space → ℕ
-wordOf (number z) = word z
-wordOf (name p s) = p
-wordOf relative = 0
-
-abbrev pub spaceBytes : Space → List ℕ
-spaceBytes x = be 8 (kindOf x) ++ be 8 (wordOf x)
-
-abbrev pub entryBytes : Entry → List ℕ
-entryBytes e = be 4 (e .first) ++ (be 4 (e .after) ++ spaceBytes (e .space))

@@ -1,11 +1,10 @@
--- The grant table, its check, and release: document 01, 'Grants'.
+-- The grant table and its check: R83 to R85, R87, R88. Interface: Grant, clash, Check, check, holds, granted.
 use Prim.Native.Nat.{ℕ, suc}
 use mathlib.Core.Bool.{Bool, true, false, not, _&&_, _||_, cond}
 use mathlib.Core.List.{List, [], _∷_, _++_}
 use lib.IntN.{ℤ, pos, negsuc}
 use lib.Dec.{eqb}
-use Rattle.ari.specs.Reader.{Limits, Answer, refuse, accept, aMessage, read}
-use Rattle.ari.specs.Listing.{Space, number, name, relative, Entry, listing}
+use Rattle.ari.specs.Listing.{Space, number, name, relative}
 
 -- "a lent list of grant records, each a subscriber and a namespace number, of any length, in any order"
 pub record Grant : Type 0 where
@@ -52,21 +51,3 @@ abbrev pub granted : List Grant → ℕ → Space → Bool
 granted t s (number z) = some (holds s z) t
 granted t s (name p n) = false
 granted t s relative = false
-
--- "the message's refusal, or yes, or no with the number of the first listed entry that isn't granted, entries from 0"
-pub data Release : Type 0 where
-  refused : ℕ → ℕ → Release  -- number, place
-  yes : Release
-  no : ℕ → Release
-
-abbrev pub judgeFrom : (Space → Bool) → ℕ → List Entry → Release
-judgeFrom ok i [] = yes
-judgeFrom ok i (e ∷ es) = let r = judgeFrom ok (suc i) es in cond (ok (e .space)) r (no i)
-
-abbrev pub judge : Answer → (Space → Bool) → List Entry → Release
-judge (refuse r p) ok es = refused r p
-judge (accept n) ok es = judgeFrom ok 0 es
-
--- "Release takes a message, the table and a subscriber". It doesn't run the table's check.
-unfoldable pub release : Limits → List ℕ → List Grant → ℕ → Release
-release m b t s = judge (read m aMessage b) (granted t s) (listing b)

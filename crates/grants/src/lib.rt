@@ -2,10 +2,10 @@
 ghost use mathlib.Core.Path.{_≡_};
 ghost use Prim.Native.Nat.{_+_, _*_, _^_, _<_, _≤_};
 ghost use lib.ListN.{length, take, drop};
-ghost use Rattle.cbor.specs.Byte.{value};
 ghost use Rattle.ari.specs.Listing.{number};
 ghost use Rattle.grants.specs.Grants.{some, clash, holds, granted};
-ghost use Rattle.grants.specs.Bytes.{signed, wordAt, rowOf, holdsAt, rows, rowBy, checkBytes};
+ghost use Rattle.ari.specs.Signed.{signed};
+ghost use Rattle.grants.specs.Bytes.{rowOf, holdsAt, rows, rowBy, checkBytes};
 ghost use Rattle.grants.specs.Verdict.{said};
 
 // The check's answer: the table passes, or 18 with a row.
@@ -14,53 +14,15 @@ pub enum Verdict {
     Refused(u64),
 }
 
-fn wide(x: u8) -> u64
-    ensures { λ r. ⌜ (r ≡ x) × (r < 256) ⌝ }
-{
-    x as u64
-}
-
-// The number x with two bytes more.
-fn push2(x: u64, s: &[u8], at: usize) -> u64
-    requires { ⌜ (at + 2 ≤ length (now s)) × (x < 2 ^ 48) ⌝ }
-    ensures { λ r. ⌜ (r ≡ x * 65536 + value (take 2 (drop at (now (s .entry))))) × (r < 65536 * x + 65536) ⌝ }
-{
-    (x * 256 + wide(s[at])) * 256 + wide(s[at + 1])
-}
-
-// A big-endian number. LLVM makes one load of this form, and not of one by halves.
-fn be8(s: &[u8], at: usize) -> u64
-    requires { ⌜ at + 8 ≤ length (now s) ⌝ }
-    ensures { λ r. ⌜ r ≡ value (take 8 (drop at (now (s .entry)))) ⌝ }
-{
-    let a = push2(0, s, at);
-    let b = push2(a, s, at + 2);
-    let c = push2(b, s, at + 4);
-    push2(c, s, at + 6)
-}
-
-// The number of the eight bytes from a place on, the highest first, or 0 where there are not so many.
-pub fn word_at(bytes: &[u8], at: usize) -> u64
-    ensures { λ r. ⌜ r ≡ wordAt (now (bytes .entry)) at ⌝ }
-{
-    if bytes.len() < 8 {
-        return 0;
-    }
-    if bytes.len() - 8 < at {
-        return 0;
-    }
-    be8(bytes, at)
-}
-
 // The row at a place holds both numbers.
 fn holds_row(t: &[u8], at: usize, subscriber: u64, namespace: u64) -> bool
     requires { ⌜ at + 16 ≤ length (now t) ⌝ }
     ensures { λ r. ⌜ r ≡ holds subscriber (signed namespace) (rowOf (drop at (now (t .entry)))) ⌝ }
 {
-    if be8(t, at) != subscriber {
+    if buffer::load8(t, at) != subscriber {
         return false;
     }
-    be8(t, at + 8) == namespace
+    buffer::load8(t, at + 8) == namespace
 }
 
 // A whole row stands at a place and holds both.
@@ -95,10 +57,10 @@ fn clashes_at(t: &[u8], at: usize, subscriber: u64, namespace: u64) -> bool
     requires { ⌜ (at + 16 ≤ length (now t)) × (2 ^ 63 ≤ namespace) ⌝ }
     ensures { λ r. ⌜ r ≡ clash (rowBy subscriber namespace) (rowOf (drop at (now (t .entry)))) ⌝ }
 {
-    if be8(t, at + 8) != namespace {
+    if buffer::load8(t, at + 8) != namespace {
         return false;
     }
-    be8(t, at) != subscriber
+    buffer::load8(t, at) != subscriber
 }
 
 fn has_partner(t: &[u8], subscriber: u64, namespace: u64) -> bool
@@ -120,11 +82,11 @@ fn is_second(t: &[u8], at: usize) -> bool
     requires { ⌜ at + 16 ≤ length (now t) ⌝ }
     ensures { λ r. ⌜ r ≡ some (clash (rowOf (drop at (now (t .entry))))) (rows (take at (now (t .entry)))) ⌝ }
 {
-    let namespace = be8(t, at + 8);
+    let namespace = buffer::load8(t, at + 8);
     if namespace < 9223372036854775808 {
         return false;
     }
-    has_partner(&t[..at], be8(t, at), namespace)
+    has_partner(&t[..at], buffer::load8(t, at), namespace)
 }
 
 // The first row with a partner among the rows before it. Bytes that are no whole rows are no table.

@@ -1,18 +1,22 @@
--- Item records: document 01, 'Item records and the listing'.
-use Prim.Native.Nat.{ℕ, _/_, _%_, _≤_}
-use mathlib.Core.Bool.{Bool, true, false, not, _&&_, cond}
+-- Item records: R72 to R75, and R67. Interface: literalOf, kindOf, recordOf, foundOf, itemOf, recordFrom. Private to src/: kindAt, recordBy, foundFrom,
+-- Roomy.
+use Prim.Native.Nat.{ℕ, _≤_}
+use mathlib.Core.Bool.{Bool, true, false, cond}
 use mathlib.Core.List.{List, [], _∷_}
 use lib.ListN.{length, getD}
 use lib.Dec.{ltb, eqb}
 use Rattle.cbor.specs.declared.Head.{Head}
 use Rattle.cbor.specs.declared.Head.the-variants.{Bad, Good}
 use Rattle.cbor.specs.Answer.{headAt}
-use Rattle.ari.specs.Table.{version, isReference}
-use Rattle.ari.specs.Reader.{Limits, Input, refuse, accept, read}
+use Rattle.ari.specs.Table.{isReference}
+use Rattle.ari.specs.declared.Limits.{Limits}
+use Rattle.ari.specs.declared.Input.{Input}
+use Rattle.ari.specs.Reader.{refuse, accept, read}
 use Rattle.ari.specs.Reader as reader
-use Rattle.ari.specs.Items.{none, Spot, spotsOf}
-use Rattle.ari.specs.Decode.{decode}
-use Rattle.grammar.specs.Code.{asksOf}
+use Rattle.ari.specs.Items.{Spot}
+use Rattle.item_table.specs.declared.Item.{Item}
+use Rattle.item_table.specs.Entries as items
+use Rattle.item_table.specs.Entries.{referenceBy, spotNumber}
 use Rattle.reader.specs.declared.Answer.{Answer}
 use Rattle.reader.specs.declared.Answer.the-variants.{Accepted, Refused}
 use Rattle.item_records.specs.declared.Literal.{Literal}
@@ -43,28 +47,16 @@ recordOf x = record {
   kind = kindOf (isReference (x .slot) (x .lead)) (x .lead .kind) (x .lead .arg);
 }
 
--- the same from an item's entry: the bytes still have its head
-abbrev pub referenceBy : ℕ → ℕ → ℕ → Bool
-referenceBy i k a = asksOf i && (eqb k 4 && not (eqb a 2))
-
+-- the same from an item's word: the bytes still have its head
 abbrev pub kindAt : ℕ → Head → Kind
 kindAt i (Good k a q) = kindOf (referenceBy i k a) k a
 kindAt i (Bad r) = kinds.Literal (Simple 0)
 
+abbrev pub recordBy : List ℕ → Item → Record
+recordBy b x = record { first = x .first; after = x .after; around = x .around; kind = kindAt (x .slot) (headAt b (x .first)) }
+
 unfoldable pub recordFrom : List ℕ → ℕ → Record
-recordFrom b e = record {
-  first = e % 65536;
-  after = e / 65536 % 65536;
-  around = e / 4294967296 % 256;
-  kind = kindAt (e / 1099511627776 % 256) (headAt b (e % 65536));
-}
-
--- the items of an input, and item k
-abbrev pub noSpot : Spot
-noSpot = record { slot = version; first = 0; after = 0; around = 0; lead = record { info = 0; kind = 0; arg = 0 }; str = []; inside = none }
-
-abbrev pub spotNumber : Input → List ℕ → ℕ → Spot
-spotNumber i b k = getD (spotsOf i (decode b)) k noSpot
+recordFrom b e = recordBy b (items.itemOf e)
 
 -- "A refused input gives its own refusal before 17": "item number not below the item count; the number is the count"
 abbrev pub foundOf : Input → List ℕ → ℕ → reader.Answer → Found

@@ -1,13 +1,14 @@
-// Item k of an input: its record, read off the walk's table and the input's bytes.
+// Item k of an input: its record, read off the item table and the input's bytes.
 ghost use mathlib.Core.Path.{_≡_};
-ghost use Prim.Native.Nat.{_≤_};
+ghost use Prim.Native.Nat.{_<_, _≤_, min};
 ghost use lib.ListN.{length};
-ghost use Rattle.ari.specs.Reader.{single, aMessage};
-ghost use Rattle.ari.specs.Limits.{firstLimits};
-ghost use Rattle.item_records.specs.Records.{referenceBy, literalOf, kindOf, kindAt, recordFrom, foundFrom, Roomy, itemOf};
+ghost use Rattle.ari.specs.Limits.{firstLimits, capped};
+ghost use Rattle.item_records.specs.Records.{literalOf, kindOf, kindAt, recordFrom, foundFrom, Roomy, itemOf};
+use ari::Input;
+use ari::Limits;
 use reader::Answer;
 
-// What is no container: a value, a simple value, a float's bits or a string's length. Negative(n) is the number -1 - n.
+// What is no container: a number (Negative(n) is -1 - n), a simple value, a float's bits or a string's length: specs/Values.antt.
 pub enum Literal {
     Unsigned(u64),
     Negative(u64),
@@ -43,20 +44,7 @@ pub struct Record {
 // Item k with the item count; or the input's own refusal; or 17 with the count.
 pub enum Found {
     Item { record: Record, count: usize },
-    Refused { number: u64, place: usize },
-}
-
-// Whether an array at a slot is a reference.
-fn is_reference(slot: u64, kind: u8, arg: u64) -> bool
-    ensures { λ r. ⌜ r ≡ referenceBy slot kind arg ⌝ }
-{
-    if !grammar::asks(slot) {
-        return false;
-    }
-    if kind == 4 {
-        return arg != 2;
-    }
-    false
+    Refused { number: u8, place: usize },
 }
 
 fn literal_of(kind: u8, arg: u64) -> Literal
@@ -83,10 +71,10 @@ fn kind_of(reference: bool, kind: u8, arg: u64) -> Kind
     if reference {
         return Kind::Reference(arg);
     }
-    if kind == 4 {
+    if kind == cbor::ARRAY {
         return Kind::Container(Container::Array(arg));
     }
-    if kind == 5 {
+    if kind == cbor::MAP {
         return Kind::Container(Container::Map(arg));
     }
     let literal = literal_of(kind, arg);
@@ -98,7 +86,7 @@ fn kind_at(slot: u64, h: cbor::Head) -> Kind
 {
     match h {
         cbor::Head::Good { kind, arg, next: _ } => kind_of(
-            is_reference(slot, kind, arg),
+            item_table::is_reference(slot, kind, arg),
             kind,
             arg,
         ),
@@ -106,29 +94,29 @@ fn kind_at(slot: u64, h: cbor::Head) -> Kind
     }
 }
 
-// The record of an entry of the table.
-fn record_at(s: &[u8], entry: u64) -> Record
+// The record of a word of the item table.
+pub fn record_of(s: &[u8], entry: u64) -> Record
     ensures { λ r. ⌜ r ≡ recordFrom (now (s .entry)) entry ⌝ }
 {
-    let first = (entry % 65536) as usize;
-    let kind = kind_at(entry / 1099511627776 % 256, cbor::head_at(s, first));
+    let x = item_table::item_of(entry);
+    let kind = kind_at(x.slot, cbor::head_again(s, x.first));
     Record {
-        first,
-        after: (entry / 65536 % 65536) as usize,
-        around: (entry / 4294967296 % 256) as usize,
+        first: x.first,
+        after: x.after,
+        around: x.around,
         kind,
     }
 }
 
-fn find_item(s: &[u8], k: usize, a: Answer, table: &[u64]) -> Found
-    requires { ⌜ Roomy a (now table) ⌝ }
-    ensures { λ r. ⌜ r ≡ foundFrom (now (s .entry)) k (now (table .entry)) a ⌝ }
+fn find_item(s: &[u8], k: usize, a: Answer, entries: &[u64]) -> Found
+    requires { ⌜ Roomy a (now entries) ⌝ }
+    ensures { λ r. ⌜ r ≡ foundFrom (now (s .entry)) k (now (entries .entry)) a ⌝ }
 {
     match a {
         Answer::Refused { number, place } => Found::Refused { number, place },
         Answer::Accepted(count) => {
             if k < count {
-                let record = record_at(s, table[k]);
+                let record = record_of(s, entries[k]);
                 return Found::Item { record, count };
             }
             Found::Refused {
@@ -139,34 +127,38 @@ fn find_item(s: &[u8], k: usize, a: Answer, table: &[u64]) -> Found
     }
 }
 
-fn single_in(s: &[u8], k: usize, table: &mut [u64]) -> Found
-    requires { ⌜ 1024 ≤ length (now table) ⌝ }
-    ensures { λ r. ⌜ r ≡ itemOf firstLimits single (now (s .entry)) k ⌝ }
+fn item_in(input: Input, limits: Limits, s: &[u8], k: usize, entries: &mut [u64]) -> Found
+    requires { ⌜ (min (limits .items) (length (now s)) ≤ length (now entries)) × (limits .bytes < 65536) × (limits .containers < 256) ⌝ }
+    ensures { λ r. ⌜ r ≡ itemOf limits input (now (s .entry)) k ⌝ }
 {
-    let a = reader::keep_single(s, table);
-    find_item(s, k, a, table)
+    let a = reader::keep(input, limits, s, entries);
+    find_item(s, k, a, entries)
 }
 
-fn message_in(s: &[u8], k: usize, table: &mut [u64]) -> Found
-    requires { ⌜ 1024 ≤ length (now table) ⌝ }
-    ensures { λ r. ⌜ r ≡ itemOf firstLimits aMessage (now (s .entry)) k ⌝ }
+// An input has no more items than bytes: a table of 128 serves a small one, and is cleared in a fraction of the time.
+fn item_small(input: Input, limits: Limits, s: &[u8], k: usize) -> Found
+    requires { ⌜ (length (now s) ≤ 128) × (limits .bytes < 65536) × (limits .containers < 256) ⌝ }
+    ensures { λ r. ⌜ r ≡ itemOf limits input (now (s .entry)) k ⌝ }
 {
-    let a = reader::keep_message(s, table);
-    find_item(s, k, a, table)
+    let mut entries = [0u64; 128];
+    item_in(input, limits, s, k, &mut entries)
 }
 
-// Item k of a single ARI.
-pub fn item_single(s: &[u8], k: usize) -> Found
-    ensures { λ r. ⌜ r ≡ itemOf firstLimits single (now (s .entry)) k ⌝ }
+// Item k of an input within these limits, none above the gate's own.
+pub fn item_within(input: Input, limits: Limits, s: &[u8], k: usize) -> Found
+    ensures { λ r. ⌜ r ≡ itemOf (capped limits) input (now (s .entry)) k ⌝ }
 {
-    let mut table = [0u64; reader::ITEMS];
-    single_in(s, k, &mut table)
+    let most = ari::cap(limits);
+    if s.len() <= 128 {
+        return item_small(input, most, s, k);
+    }
+    let mut entries = [0u64; ari::ITEMS];
+    item_in(input, most, s, k, &mut entries)
 }
 
-// Item k of a message.
-pub fn item_message(s: &[u8], k: usize) -> Found
-    ensures { λ r. ⌜ r ≡ itemOf firstLimits aMessage (now (s .entry)) k ⌝ }
+// Item k of an input.
+pub fn item(input: Input, s: &[u8], k: usize) -> Found
+    ensures { λ r. ⌜ r ≡ itemOf firstLimits input (now (s .entry)) k ⌝ }
 {
-    let mut table = [0u64; reader::ITEMS];
-    message_in(s, k, &mut table)
+    item_within(input, ari::LIMITS, s, k)
 }

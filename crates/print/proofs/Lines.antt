@@ -7,7 +7,8 @@ use native.Mathlib.Omega.{arith}
 use native.Mathlib.Numerals.{add-one}
 use lib.ListN.{length}
 use borrow.Author.Tests.{le-leb, lt-leb}
-use Rattle.ari.specs.Reader.{single, aMessage, read}
+use Rattle.ari.specs.declared.Input.the-variants.{Single, Message}
+use Rattle.ari.specs.Reader.{read}
 use Rattle.ari.specs.Limits.{firstLimits}
 use Rattle.reader.specs.Answers.{answerOf}
 use Rattle.item_records.specs.Records.{itemOf}
@@ -21,19 +22,19 @@ use Rattle.print.specs.Items.{freshOf, inputOf, checkOf, foundOf, foundL
 use Rattle.buffer.proofs.Putting.{put-nothing}
 
 module _ {i : Bool} (s : List ℕ) where
-  pub check-single : {r : Answer} → i ≡ true → r ≡ answerOf (read firstLimits single s) → r ≡ checkOf i s
+  pub check-single : {r : Answer} → i ≡ true → r ≡ answerOf (read firstLimits Single s) → r ≡ checkOf i s
   unfolding checkOf
   check-single e h = rw e h
 
-  pub check-message : {r : Answer} → i ≡ false → r ≡ answerOf (read firstLimits aMessage s) → r ≡ checkOf i s
+  pub check-message : {r : Answer} → i ≡ false → r ≡ answerOf (read firstLimits Message s) → r ≡ checkOf i s
   unfolding checkOf
   check-message e h = rw e h
 
-  pub find-single : (k : ℕ) {r : Found} → i ≡ true → r ≡ itemOf firstLimits single s k → r ≡ foundOf i s k
+  pub find-single : (k : ℕ) {r : Found} → i ≡ true → r ≡ itemOf firstLimits Single s k → r ≡ foundOf i s k
   unfolding foundOf
   find-single k e h = rw e h
 
-  pub find-message : (k : ℕ) {r : Found} → i ≡ false → r ≡ itemOf firstLimits aMessage s k → r ≡ foundOf i s k
+  pub find-message : (k : ℕ) {r : Found} → i ≡ false → r ≡ itemOf firstLimits Message s k → r ≡ foundOf i s k
   unfolding foundOf
   find-message k e h = rw e h
 

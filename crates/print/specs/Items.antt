@@ -4,7 +4,9 @@ use mathlib.Core.Bool.{Bool, true, false, cond}
 use mathlib.Core.List.{List, []}
 use lib.ListN.{length}
 use lib.Dec.{leb}
-use Rattle.ari.specs.Reader.{Input, single, aMessage, read}
+use Rattle.ari.specs.declared.Input.{Input}
+use Rattle.ari.specs.declared.Input.the-variants.{Single, Message}
+use Rattle.ari.specs.Reader.{read}
 use Rattle.ari.specs.Limits.{firstLimits}
 use Rattle.reader.specs.Answers.{answerOf}
 use Rattle.item_records.specs.Records.{itemOf}
@@ -21,8 +23,8 @@ freshOf at room = cond (leb 256 (room - at)) at 0
 
 -- a single ARI or a message
 abbrev pub inputOf : Bool → Input
-inputOf true = single
-inputOf false = aMessage
+inputOf true = Single
+inputOf false = Message
 
 unfoldable pub checkOf : Bool → List ℕ → Answer
 checkOf i s = answerOf (read firstLimits (inputOf i) s)

@@ -10,14 +10,14 @@ use lib.Dec.{eqb}
 use mir.Syntax.{w64}
 use mir.Val.{Fits}
 use borrow.Author.Tests.{eqb-false, eqb-true}
-use Rattle.cbor.specs.Byte.{within}
+use Rattle.buffer.specs.Bytes.{within}
 use Rattle.cbor.specs.Head.{isContainer}
 use Rattle.ari.specs.Table.{Slot, Own, none, one, rising, filled, Level, due}
 use Rattle.cbor.proofs.HeadLaws.{length-lead}
 use Rattle.ari.specs.Reader.{end, frame}
 use Rattle.ari.specs.Items as items
 use Rattle.ari.specs.Items.{Items, item, encode}
-use Rattle.ari.proofs.Due.{Due as DueItems}
+use Rattle.ari.specs.Due.{Due as DueItems}
 use Rattle.grammar.specs.declared.Next.{Next}
 use Rattle.grammar.specs.declared.Next.the-variants.{Done, Due}
 use Rattle.grammar.specs.Code.{slotOf, levelOf, fitsCode, insideCode}
@@ -70,9 +70,6 @@ module _ (b : List ℕ) (items : ℕ) (v : Level) (prev : List ℕ) (d around p 
 
   pub read-in : q ≤ length b
   read-in = read .held .1
-
-  pub read-small : length b < 65536 → q < 65536
-  read-small l = let z = read-in in omega arith
 
   pub read-few : e ≤ items
   read-few = read .held .2
@@ -128,8 +125,11 @@ module _ (i k a : ℕ) {x : Next} (e : x ≡ insideCode i k a) where
 pub less-deep : (d t : ℕ) → 0 < d → d * 2 ≡ t → (d - 1) * 2 + 1 < t
 less-deep d t h e = omega arith
 
-pub one-in : (d a : ℕ) → 0 < d → d + a < 256 → d - 1 + (a + 1) < 256
+pub one-in : (d a : ℕ) → 0 < d → d + a < 2 ^ 64 → d - 1 + (a + 1) < 2 ^ 64
 one-in d a h g = omega arith
+
+pub one-fits : (d a : ℕ) → 0 < d → d + a < 2 ^ 64 → Fits w64 (a + 1)
+one-fits d a h g = omega arith
 
 pub falls-to : (n p q : ℕ) → p < q → q ≤ n → n - q < n - p
 falls-to n p q h l = omega arith
@@ -137,4 +137,4 @@ falls-to n p q h l = omega arith
 pub falls-on : (n p r q : ℕ) → p < r → r ≤ q → q ≤ n → n - q < n - p
 falls-on n p r q h g l = omega arith
 
-pub ruleset bounds = (taken-on, taken-in, taken-few, taken-more, taken-few-fits, taken-shallow, taken-kind, taken-fits, read-in, read-small, read-few, read-on, inner-slot, opens)
+pub ruleset bounds = (taken-on, taken-in, taken-few, taken-more, taken-few-fits, taken-shallow, taken-kind, taken-fits, read-in, read-few, read-on, inner-slot, opens)

@@ -11,19 +11,20 @@ use lib.Dec.{eqb, ltb}
 use mir.Syntax.{w64}
 use mir.Val.{Fits}
 use borrow.Author.Tests.{lt-ltb, le-ltb, ne-eqb, ltb-true, eqb-true, eqb-false}
-use Rattle.cbor.specs.Byte.{all, isByte}
-use Rattle.cbor.specs.Head.{Lead, leadBytes, shortest, majorOf, width, got, getHead, Sound, counted, stringSize, isContainer}
+use Rattle.buffer.specs.Bytes.{all, isByte}
+use Rattle.cbor.specs.Head.{Lead, leadBytes, shortest, majorOf, width, got, getHead, keyOf, Sound, counted, stringSize, isContainer}
 use Rattle.cbor.proofs.HeadLaws.{getHead-back}
-use Rattle.cbor.proofs.ByteLaws.{and-true, not-false, not-true}
+use Rattle.buffer.proofs.ByteLaws.{and-true, not-false, not-true}
 use Rattle.ari.specs.Table.{message, Slot, version, ari, due, rule, members}
-use Rattle.ari.specs.Reader.{judge, judgeGot}
+use Rattle.ari.specs.Reader.{judge, judgeContent, judgeGot}
 use Rattle.ari.specs.Reader as reader
 use Rattle.grammar.specs.Code.{slotOf, fitsCode, nextCode}
+use Rattle.item_table.specs.Entries.{packed}
 use Rattle.reader.specs.declared.Step.the-variants.{Taken}
 use Rattle.reader.specs.declared.Walk.{Walk}
 use Rattle.reader.specs.declared.Walk.the-variants.{Read, Refused}
 use Rattle.reader.specs.Steps.{standsAt, stepAnswer, stepAt}
-use Rattle.reader.specs.Walks.{packed, Walked}
+use Rattle.reader.specs.Walks.{Walked}
 use Rattle.reader.proofs.Walking.{ended}
 use Rattle.reader.proofs.Loop.{begins, breaks, ends}
 
@@ -83,7 +84,7 @@ unfolding leadBytes shortest majorOf width
 head-pair r = getHead-back {l = pair} r (counted (omega arith) (omega arith) refl)
 
 version-judged : (left d : ℕ) (r : List ℕ) → eqb left 0 ≡ false → judgeGot left d version [] (getHead (1 ∷ r)) (1 ∷ r) ≡ reader.yes one []
-unfolding judgeGot judge stringSize isContainer rule width
+unfolding judgeGot judge judgeContent stringSize isContainer rule width
 version-judged left d r e = rw (head-one r, e, le-ltb (length r) 0 zero-le)
 
 version-step : (b : List ℕ) (items d : ℕ) → Stood b 0 1 0 items → Taken 0 1 1 ≡ stepAt b 0 version [] (items - 0) d
@@ -93,7 +94,7 @@ version-step b items d h =
 
 set-judged : (left d : ℕ) (r : List ℕ) → eqb left 0 ≡ false → eqb d 0 ≡ false
     → judgeGot left d (ari message) [] (getHead (130 ∷ r)) (130 ∷ r) ≡ reader.yes pair []
-unfolding judgeGot judge stringSize isContainer rule width
+unfolding judgeGot judge judgeContent stringSize isContainer rule width
 set-judged left d r e g = rw (head-pair r, e, g, le-ltb (length r) 0 zero-le)
 
 set-step : (b : List ℕ) (p c items d : ℕ) → Stood b p 130 c items → (d ≡ 0 → ⊥) → Taken 4 2 (p + 1) ≡ stepAt b p (ari message) [] (items - c) d
@@ -103,11 +104,11 @@ set-step b p c items d h g =
 
 pub version-read : (b : List ℕ) → all isByte b ≡ true → (items d : ℕ) {r : Bool} → r ≡ standsAt b 0 1 (items - 0) → not r ≡ false
     → (t : List ℕ) {z : List ℕ} → z ≡ set t 0 (packed 0 1 0 0) → Walked b items (due (slotOf 0) 0) [] d 0 0 0 (Read 1 1) t z
-unfolding members rule fitsCode nextCode
+unfolding members rule fitsCode nextCode keyOf getHead
 version-read b bs items d e u t put =
     let h = stood b 0 1 0 items e u in
     let inside = ended b items [] (pred d) 1 1 1 t (h .within) (h .spare) in
-    ends b bs items version 0 [] d 0 0 0 t 0 0 0 0 0 0 t (omega arith) (begins b items version 0 [] d 0 0 0 t) (version-step b items d h) refl inside refl put (omega arith) refl refl refl (h .within) (h .spare)
+    ends b bs items version 0 [] d 0 0 0 t 0 0 0 0 0 0 t (omega arith) (begins b items version 0 d 0 0 0 t) (version-step b items d h) refl inside refl put (omega arith) refl refl refl (h .within) (h .spare)
 
 module _ (b : List ℕ) (bs : all isByte b ≡ true) (items d p c : ℕ) {r : Bool} (e : r ≡ standsAt b p 130 (items - c)) (u : not r ≡ false)
     (g : d ≡ 0 → ⊥) (t : List ℕ) {w : Walk} {t₁ : List ℕ} (m : Walked b items (due (slotOf 6) 0) [] (d - 1) 1 (p + 1) (c + 1) w t t₁) where
@@ -118,13 +119,13 @@ module _ (b : List ℕ) (bs : all isByte b ≡ true) (items d p c : ℕ) {r : Bo
   inside = rw (← sub-one d) m
 
   pub set-stopped : {n x : ℕ} → w ≡ Refused n x → {z : List ℕ} → Walked b items (due (slotOf 2) 0) [] d 0 p c w t z
-  unfolding members rule
+  unfolding members rule keyOf getHead
   set-stopped v =
-      breaks b bs items (ari message) 0 [] d 0 p c t 2 0 0 0 p c t (omega arith) (begins b items (ari message) 0 [] d 0 p c t) (set-step b p c items d there g) refl inside v
+      breaks b bs items (ari message) 0 [] d 0 p c t 2 0 0 0 p c t (omega arith) (begins b items (ari message) 0 d 0 p c t) (set-step b p c items d there g) refl inside v
 
   pub set-read : {q f : ℕ} → w ≡ Read q f → {z : List ℕ} → z ≡ set t₁ c (packed p q 0 2) → q ≤ length b → f ≤ items → Walked b items (due (slotOf 2) 0) [] d 0 p c (Read q f) t z
-  unfolding members rule fitsCode nextCode
+  unfolding members rule fitsCode nextCode keyOf getHead
   set-read v put l n =
-      ends b bs items (ari message) 0 [] d 0 p c t 2 0 0 0 p c t (omega arith) (begins b items (ari message) 0 [] d 0 p c t) (set-step b p c items d there g) refl inside v put (omega arith) refl refl refl l n
+      ends b bs items (ari message) 0 [] d 0 p c t 2 0 0 0 p c t (omega arith) (begins b items (ari message) 0 d 0 p c t) (set-step b p c items d there g) refl inside v put (omega arith) refl refl refl l n
 
 pub ruleset fixed-heads = (stood-in, stood-few, stood-fits, version-read, set-stopped, set-read)

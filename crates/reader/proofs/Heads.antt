@@ -8,14 +8,15 @@ use lib.ListN.{length, take, drop, length-drop}
 use lib.Seq.{drop-drop, length-take-le}
 use lib.Dec.{ltb, leb, eqb}
 use borrow.Author.Tests.{lt-ltb, le-ltb, le-leb, lt-leb, eq-eqb, ne-eqb, ltb-true, ltb-false, not-true, not-false}
-use Rattle.cbor.specs.Byte.{all, isByte, within}
-use Rattle.cbor.specs.Head.{Lead, size, Got, bad, got, getHead, stringSize, isContainer}
+use Rattle.buffer.specs.Bytes.{all, isByte, within}
+use Rattle.cbor.specs.Head.{Lead, size, Got, bad, got, getHead, stringSize, isContainer, keyOf}
 use Rattle.cbor.specs.declared.Head.{Head}
 use Rattle.cbor.specs.declared.Head.the-variants.{Bad, Good}
 use Rattle.cbor.specs.Answer.{answer, headAt}
 use Rattle.cbor.proofs.HeadWays.{Read, read}
 use Rattle.ari.specs.Table.{Slot, Own, rising, rule, fits}
-use Rattle.ari.specs.Reader.{keyBytes, wrongVersion, notGreater, isEmpty, judge, judgeGot}
+use Rattle.cbor.specs.Head.{keyBytes}
+use Rattle.ari.specs.Reader.{wrongVersion, notGreater, isEmpty, judgeContent, judge, judgeGot}
 use Rattle.ari.specs.Reader as reader
 use Rattle.grammar.specs.Code.{slotOf, ownOf, fitsCode}
 use Rattle.grammar.proofs.Right.{IsSlot, fits-right}
@@ -23,8 +24,9 @@ use Rattle.reader.specs.declared.Step.{Step}
 use Rattle.reader.specs.declared.Step.the-variants.{Taken, Refused}
 use Rattle.reader.specs.declared.End.{End}
 use Rattle.reader.specs.declared.End.the-variants.{At, Short}
-use Rattle.reader.specs.Steps.{part, stringEnd, stepAnswer, stepAt, lateStep, lateGot, lateAt, LateShown, Bounded, noHead}
-use Rattle.reader.proofs.Keys.{ordered-kind, key-bytes, same-order, no-key, filled-other}
+use Rattle.buffer.specs.Bytes.{part}
+use Rattle.reader.specs.Steps.{stringEnd, stepAnswer, stepAt, contentGot, contentAt, ContentShown, Bounded, noHead}
+use Rattle.reader.proofs.Keys.{ordered-kind, key-bytes, own-key, same-order, no-key, filled-other}
 
 -- a string's end
 module _ (b : List ℕ) (a q : ℕ) where
@@ -117,9 +119,9 @@ module _ (b : List ℕ) (p : ℕ) (s : Slot) (prev : List ℕ) {k a q : ℕ} (e 
   abbrev str : List ℕ
   str = take (stringSize l) (drop (size l) (drop p b))
 
-  late-is : stepAnswer p (lateStep s prev l (drop (size l) (drop p b))) ≡ lateAt b p s prev
-  unfolding lateAt lateGot
-  late-is = rw (stands b p k a q e .is-got)
+  content-is : stepAnswer p (judgeContent s prev l (drop (size l) (drop p b))) ≡ contentAt b p s prev
+  unfolding contentAt contentGot
+  content-is = rw (stands b p k a q e .is-got)
 
   -- what is left behind the head
   rest-is : drop (size l) (drop p b) ≡ drop q b
@@ -129,12 +131,12 @@ module _ (b : List ℕ) (p : ℕ) (s : Slot) (prev : List ℕ) {k a q : ℕ} (e 
   unfolding stringSize
   size-is = rw (stands b p k a q e .kind-is, stands b p k a q e .arg-is)
 
-  pub is-short : {x : End} → x ≡ stringEnd b k a q → x ≡ Short → Refused 9 p ≡ lateAt b p s prev
-  unfolding lateStep stringEnd
-  is-short {x} g f = go (within 2 3 k) refl (ltb (length b - q) a) refl (sym f ∙ g) ∙ late-is
+  pub is-short : {x : End} → x ≡ stringEnd b k a q → x ≡ Short → Refused 9 p ≡ contentAt b p s prev
+  unfolding judgeContent stringEnd
+  is-short {x} g f = go (within 2 3 k) refl (ltb (length b - q) a) refl (sym f ∙ g) ∙ content-is
     where
       go : (w : Bool) → within 2 3 k ≡ w → (u : Bool) → ltb (length b - q) a ≡ u → Short ≡ cond w (cond u Short (At (q + a))) (At q)
-          → Refused 9 p ≡ stepAnswer p (lateStep s prev l (drop (size l) (drop p b)))
+          → Refused 9 p ≡ stepAnswer p (judgeContent s prev l (drop (size l) (drop p b)))
       go true ew true eu z =
           let n : length b - q < a = ltb-true (length b - q) a eu in
           let m : length (drop (size l) (drop p b)) ≡ length b - q = ap length rest-is ∙ length-drop q b in
@@ -176,48 +178,48 @@ module _ (b : List ℕ) (p : ℕ) (s : Slot) (prev : List ℕ) {k a q : ℕ} (e 
     spelling-is : (eqb k 3 && not (rule s .spelling (part b q x))) ≡ (eqb (l .kind) 3 && not (rule s .spelling str))
     spelling-is = rw (string-is, stands b p k a q e .kind-is)
 
-    pub is-misspelt : {m : Bool} → m ≡ (eqb k 3 && not (rule s .spelling (part b q x))) → m ≡ true → Refused 10 p ≡ lateAt b p s prev
-    unfolding lateStep
-    is-misspelt c t = rw (not-short, sym spelling-is ∙ sym c ∙ t) (refl) ∙ late-is
+    pub is-misspelt : {m : Bool} → m ≡ (eqb k 3 && not (rule s .spelling (part b q x))) → m ≡ true → Refused 10 p ≡ contentAt b p s prev
+    unfolding judgeContent
+    is-misspelt c t = rw (not-short, sym spelling-is ∙ sym c ∙ t) (refl) ∙ content-is
 
     module _ {m : Bool} (c : m ≡ (eqb k 3 && not (rule s .spelling (part b q x)))) (t : m ≡ false) (bs : all isByte b ≡ true)
         (fit : fits k a (rule s .rows) ≡ true) where
       well-spelt : (eqb (l .kind) 3 && not (rule s .spelling str)) ≡ false
       well-spelt = sym spelling-is ∙ sym c ∙ t
 
-      order-is : notGreater (rule s .own) prev (part b p x) ≡ notGreater (rule s .own) prev (keyBytes l str)
+      order-is : notGreater (rule s .own) prev (keyOf (part b p x)) ≡ notGreater (rule s .own) prev (keyBytes l str)
       order-is =
           let st = stands b p k a q e in
           let i : p + (size l + stringSize l) ≡ x = omega (arith, st .next-is, en .end-is) in
-          same-order (rule s .own) prev (part b p x) (keyBytes l str)
-          (λ o. sym (key-bytes b p l bs (st .is-got) (ordered-kind s (l .kind) (l .arg) o (rw (st .kind-is, st .arg-is) fit)) (en .there) x i))
+          same-order (rule s .own) prev (keyOf (part b p x)) (keyBytes l str)
+          (λ o. sym (own-key b bs p x) ∙ sym (key-bytes b p l bs (st .is-got) (ordered-kind s (l .kind) (l .arg) o (rw (st .kind-is, st .arg-is) fit)) (en .there) x i))
 
-      pub is-unordered : {u : Bool} → u ≡ notGreater (rule s .own) prev (part b p x) → u ≡ true → Refused 11 p ≡ lateAt b p s prev
-      unfolding lateStep
-      is-unordered d v = rw (not-short, well-spelt, sym order-is ∙ sym d ∙ v) (refl) ∙ late-is
+      pub is-unordered : {u : Bool} → u ≡ notGreater (rule s .own) prev (keyOf (part b p x)) → u ≡ true → Refused 11 p ≡ contentAt b p s prev
+      unfolding judgeContent
+      is-unordered d v = rw (not-short, well-spelt, sym order-is ∙ sym d ∙ v) (refl) ∙ content-is
 
-      module _ {u : Bool} (d : u ≡ notGreater (rule s .own) prev (part b p x)) (v : u ≡ false) where
+      module _ {u : Bool} (d : u ≡ notGreater (rule s .own) prev (keyOf (part b p x))) (v : u ≡ false) where
         empty-is : isEmpty (rule s .own) a ≡ isEmpty (rule s .own) (l .arg)
         empty-is = rw (stands b p k a q e .arg-is)
 
-        pub is-blank : {z : Bool} → z ≡ isEmpty (rule s .own) a → z ≡ true → Refused 12 p ≡ lateAt b p s prev
-        unfolding lateStep
-        is-blank w j = rw (not-short, well-spelt, sym order-is ∙ sym d ∙ v, sym empty-is ∙ sym w ∙ j) (refl) ∙ late-is
+        pub is-blank : {z : Bool} → z ≡ isEmpty (rule s .own) a → z ≡ true → Refused 12 p ≡ contentAt b p s prev
+        unfolding judgeContent
+        is-blank w j = rw (not-short, well-spelt, sym order-is ∙ sym d ∙ v, sym empty-is ∙ sym w ∙ j) (refl) ∙ content-is
 
-        pub is-taken : {z : Bool} → z ≡ isEmpty (rule s .own) a → z ≡ false → Taken k a x ≡ lateAt b p s prev
-        unfolding lateStep
+        pub is-taken : {z : Bool} → z ≡ isEmpty (rule s .own) a → z ≡ false → Taken k a x ≡ contentAt b p s prev
+        unfolding judgeContent
         is-taken w j =
             let st = stands b p k a q e in
             let o : p + (size l + length str) ≡ x
             = omega (arith, st .next-is, en .end-is, length-take-le (stringSize l) (drop (size l) (drop p b)) (en .there)) in
-            rw (not-short, well-spelt, sym order-is ∙ sym d ∙ v, sym empty-is ∙ sym w ∙ j, o, st .kind-is, st .arg-is) (refl) ∙ late-is
+            rw (not-short, well-spelt, sym order-is ∙ sym d ∙ v, sym empty-is ∙ sym w ∙ j, o, st .kind-is, st .arg-is) (refl) ∙ content-is
 
 -- a slot with no test of its own
 pub is-plain : (b : List ℕ) (p i : ℕ) (prev : List ℕ) {k a q : ℕ} → headAt b p ≡ Good k a q → q ≤ length b → {y : End} → y ≡ stringEnd b k a q
     → {x : ℕ} → y ≡ At x → {m : Bool} → m ≡ (eqb k 3 && not (rule (slotOf i) .spelling (part b q x))) → m ≡ false → all isByte b ≡ true
-    → fits k a (rule (slotOf i) .rows) ≡ true → IsSlot i → {o : ℕ} → o ≡ ownOf i → o ≡ 0 → Taken k a x ≡ lateAt b p (slotOf i) prev
+    → fits k a (rule (slotOf i) .rows) ≡ true → IsSlot i → {o : ℕ} → o ≡ ownOf i → o ≡ 0 → Taken k a x ≡ contentAt b p (slotOf i) prev
 is-plain b p i prev {k} {a} {q} e n g {x} f c t bs fit v {o} eo z =
-    is-taken b p (slotOf i) prev e n g f c t bs fit (no-key i v eo (λ u. omega arith) prev (part b p x)) refl (filled-other i v eo (λ u. omega arith) a) refl
+    is-taken b p (slotOf i) prev e n g f c t bs fit (no-key i v eo (λ u. omega arith) prev (keyOf (part b p x))) refl (filled-other i v eo (λ u. omega arith) a) refl
 
 -- the tests 2 to 8
 module _ (b : List ℕ) (p i : ℕ) (prev : List ℕ) (c items d : ℕ) where
@@ -271,13 +273,13 @@ module _ (b : List ℕ) (p i : ℕ) (prev : List ℕ) (c items d : ℕ) where
           unfolding judge
           stop-version w = rw (spare, deep-is ∙ t, fits-is ∙ not-false y u, version-is ∙ w) (refl) ∙ here-is
 
-          judge-late : z ≡ false → judge (items - c) d (slotOf i) prev (st .lead) (drop (size (st .lead)) (drop p b))
-              ≡ lateStep (slotOf i) prev (st .lead) (drop (size (st .lead)) (drop p b))
-          unfolding judge lateStep
-          judge-late w = rw (spare, deep-is ∙ t, fits-is ∙ not-false y u, version-is ∙ w)
+          judge-content : z ≡ false → judge (items - c) d (slotOf i) prev (st .lead) (drop (size (st .lead)) (drop p b))
+              ≡ judgeContent (slotOf i) prev (st .lead) (drop (size (st .lead)) (drop p b))
+          unfolding judge judgeContent
+          judge-content w = rw (spare, deep-is ∙ t, fits-is ∙ not-false y u, version-is ∙ w)
 
-          pub goes-late : z ≡ false → {r : Step} → r ≡ lateAt b p (slotOf i) prev → r ≡ here
-          goes-late w {r} f = f ∙ sym (late-is b p (slotOf i) prev (sym e ∙ g)) ∙ ap (stepAnswer p) (sym (judge-late w)) ∙ here-is
+          pub goes-on : z ≡ false → {r : Step} → r ≡ contentAt b p (slotOf i) prev → r ≡ here
+          goes-on w {r} f = f ∙ sym (content-is b p (slotOf i) prev (sym e ∙ g)) ∙ ap (stepAnswer p) (sym (judge-content w)) ∙ here-is
 
 -- what a head that was read has shown
 module _ (b : List ℕ) (p : ℕ) {h : Head} {k a q : ℕ} (g : h ≡ Good k a q) where
@@ -294,13 +296,13 @@ unread-of b p c items d i (Good k a q) = tt
 pub unread : (b : List ℕ) (p c items d i : ℕ) {h : Head} {r : ℕ} → h ≡ Bad r → {w : Step} → w ≡ noHead h p → Bounded b p c items d i w
 unread b p c items d i {h} q e = rw e (unread-of b p c items d i h)
 
-pub late-bounded : (b : List ℕ) (p c items d i k a q : ℕ) → p < q → c < items → (isContainer k && eqb d 0) ≡ false → k ≤ 9 → fitsCode i k a ≡ true
-    → (r : Step) → LateShown b k a q r → Bounded b p c items d i r
-late-bounded b p c items d i k a q h n t kk u (Taken k′ a′ q′) f = rw (f .0, f .1) (omega (arith, f .2), f .3, n, t, kk, u)
-late-bounded b p c items d i k a q h n t kk u (Refused r x) f = tt
+pub content-bounded : (b : List ℕ) (p c items d i k a q : ℕ) → p < q → c < items → (isContainer k && eqb d 0) ≡ false → k ≤ 9 → fitsCode i k a ≡ true
+    → (r : Step) → ContentShown b k a q r → Bounded b p c items d i r
+content-bounded b p c items d i k a q h n t kk u (Taken k′ a′ q′) f = rw (f .0, f .1) (omega (arith, f .2), f .3, n, t, kk, u)
+content-bounded b p c items d i k a q h n t kk u (Refused r x) f = tt
 
 pub ruleset head-shown = (good-head, fit-shown, unread)
 
-pub ruleset head-ways = (stop-head, stop-items, stop-deep, stop-fits, stop-version, goes-late)
+pub ruleset head-ways = (stop-head, stop-items, stop-deep, stop-fits, stop-version, goes-on)
 
-pub ruleset late-ways = (is-short, is-misspelt, is-unordered, is-blank, is-taken, is-plain, end-in, end-on, end-past, fits-slot)
+pub ruleset content-ways = (is-short, is-misspelt, is-unordered, is-blank, is-taken, is-plain, end-in, end-on, end-past, fits-slot)

@@ -9,18 +9,21 @@ use lib.ListN.{length, getD, take, drop, length-append, take-append-drop}
 use lib.Seq.{take-at, length-take-le}
 use lib.Dec.{eqb, leb}
 use borrow.Author.Tests.{eq-eqb, ne-eqb, eqb-true, leb-true}
-use Rattle.cbor.specs.Byte.{all, isByte, within, below}
+use Rattle.buffer.specs.Bytes.{all, isByte, within}
+use Rattle.cbor.specs.Byte.{below}
 use Rattle.cbor.specs.Utf8.{utf8}
 use Rattle.ari.specs.Name.{identifier, namespaceName}
-use Rattle.cbor.specs.Head.{Lead, size, leadBytes, shortBytes, isContainer, Got, got, getHead, stringSize}
-use Rattle.cbor.proofs.ByteLaws.{and-true, or-true, all-drop}
-use Rattle.cbor.proofs.HeadLaws.{length-lead, lead-short, getHead-forth}
+use Rattle.cbor.specs.Head.{Lead, size, leadBytes, shortBytes, isContainer, Got, got, getHead, stringSize, keyOf}
+use Rattle.buffer.proofs.ByteLaws.{and-true, or-true, all-take, all-drop}
+use Rattle.cbor.proofs.HeadLaws.{length-lead, lead-short, getHead-forth, key-own}
 use Rattle.ari.specs.Table.{Place, Slot, version, ari, type, value, namespace, objectNamespace, objectType, objectId, params, key, entry, nonce, setTime, target, report, reportTime, reportSource, Own, none, one, rising, filled, Rule, rule, fits, max64, max63}
-use Rattle.ari.specs.Reader.{keyBytes, keyAfter, wrongVersion, notGreater, isEmpty}
+use Rattle.cbor.specs.Head.{keyBytes}
+use Rattle.ari.specs.Reader.{keyAfter, wrongVersion, notGreater, isEmpty}
 use Rattle.grammar.specs.Code.{slotOf, ownOf, spelledAs}
 use Rattle.grammar.proofs.Right.{IsSlot, own-right}
 use Rattle.grammar.proofs.Hits.{Rest, miss}
-use Rattle.reader.specs.Steps.{part, keySpan}
+use Rattle.buffer.specs.Bytes.{part}
+use Rattle.reader.specs.Steps.{keySpan}
 
 -- the slot's own test, by its number
 module _ (i : ℕ) (h : IsSlot i) {x : ℕ} (e : x ≡ ownOf i) where
@@ -121,6 +124,10 @@ key-bytes b p l bs g k h q e =
     let w : drop p b ≡ (leadBytes l ++ str) ++ r
     = f .1 ∙ ap (λ (x : List ℕ). leadBytes l ++ x) (sym (take-append-drop (stringSize l) (drop (size l) (drop p b)))) ∙ sym (append-assoc (leadBytes l) str r) in
     ap (λ (x : List ℕ). x ++ str) (sym (lead-short (f .0) k)) ∙ sym (ap (take (q - p)) w ∙ take-at (leadBytes l ++ str) r (q - p) m)
+
+-- a key is ordered by its own bytes
+pub own-key : (b : List ℕ) → all isByte b ≡ true → (p q : ℕ) → part b p q ≡ keyOf (part b p q)
+own-key b bs p q = sym (key-own (part b p q) (all-take isByte (q - p) (drop p b) (all-drop isByte p b bs)))
 
 -- only a key's bytes matter
 pub same-order : (o : Own) (prev k k′ : List ℕ) → (o ≡ rising → k ≡ k′) → notGreater o prev k ≡ notGreater o prev k′

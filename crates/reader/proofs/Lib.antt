@@ -6,3 +6,4 @@ pub mod Bounds
 pub mod Heads
 pub mod Whole
 pub mod Fixed
+pub mod Kept

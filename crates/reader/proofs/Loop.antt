@@ -9,44 +9,29 @@ use lib.ListN.{length, getD, take, drop, set, length-append}
 use lib.Seq.{length-take-le}
 use lib.Dec.{eqb}
 use borrow.Author.Tests.{eqb-false, ne-eqb, eqb-true}
-use Rattle.cbor.specs.Byte.{all, isByte}
-use Rattle.cbor.specs.Head.{Lead, size, stringSize}
-use Rattle.cbor.proofs.ByteLaws.{and-true}
+use Rattle.buffer.specs.Bytes.{all, isByte}
+use Rattle.cbor.specs.Head.{Lead, size, stringSize, getHead, keyOf}
+use Rattle.buffer.proofs.ByteLaws.{and-true}
 use Rattle.ari.specs.Table.{Slot, Own, none, one, rising, filled, Level, done, due, rule, members}
-use Rattle.ari.specs.Reader.{keyBytes, keyAfter}
+use Rattle.cbor.specs.Head.{keyBytes}
+use Rattle.ari.specs.Reader.{keyAfter}
 use Rattle.ari.proofs.Due.{prevAfter}
 use Rattle.grammar.specs.declared.Next.{Next}
 use Rattle.grammar.specs.declared.Next.the-variants.{Done, Due}
 use Rattle.grammar.specs.Code.{slots, slotOf, levelOf, fitsCode, nextCode, insideCode}
 use Rattle.grammar.proofs.Right.{IsSlot, Slotted, Stands, next-right, inside-right}
+use Rattle.item_table.specs.Entries.{packed}
+use Rattle.item_table.proofs.Entries.{number-slot}
 use Rattle.reader.specs.declared.Step.{Step}
 use Rattle.reader.specs.declared.Step.the-variants.{Taken}
 use Rattle.reader.specs.declared.Step.the-variants as step
 use Rattle.reader.specs.declared.Walk.{Walk}
 use Rattle.reader.specs.declared.Walk.the-variants.{Read, Refused}
-use Rattle.reader.specs.Steps.{part, stepAt, stoppedOf, Bounded, keySpan}
-use Rattle.reader.specs.Walks.{codeOf, packed, insideLevel, Walked}
+use Rattle.buffer.specs.Bytes.{part}
+use Rattle.reader.specs.Steps.{stepAt, stoppedOf, Bounded, keySpan}
+use Rattle.reader.specs.Walks.{insideLevel, Walked}
 use Rattle.reader.proofs.Walking.{Took, took, ended, stopped, broken, onward}
-use Rattle.reader.proofs.Keys.{ordered-kind, key-bytes}
-
--- a slot's number is the slot's
-numbered : ℕ → List Slot → Bool
-numbered i [] = true
-numbered i (s ∷ ss) = eqb (codeOf s) i && numbered (suc i) ss
-
-coded : numbered 0 slots ≡ true
-unfolding codeOf numbered
-coded = refl
-
-code-at : (i j : ℕ) (ss : List Slot) (d : Slot) → numbered i ss ≡ true → j < length ss → codeOf (getD ss j d) ≡ i + j
-unfolding numbered
-code-at i j [] d c h = absurd (omega arith)
-code-at i zero (s ∷ ss) d c h = eqb-true (codeOf s) i (and-true (eqb (codeOf s) i) (numbered (suc i) ss) c .0) ∙ omega arith
-code-at i (suc j) (s ∷ ss) d c h =
-    code-at (suc i) j ss d (and-true (eqb (codeOf s) i) (numbered (suc i) ss) c .1) (omega arith) ∙ omega arith
-
-pub code-slot : (i : ℕ) → IsSlot i → codeOf (slotOf i) ≡ i
-code-slot i h = code-at 0 i slots _ coded h ∙ omega arith
+use Rattle.reader.proofs.Keys.{ordered-kind, key-bytes, own-key}
 
 -- the members' level, by kind and argument
 inside-is : (s : Slot) (l : Lead) → insideLevel s (l .kind) (l .arg) ≡ members s l
@@ -58,21 +43,23 @@ pub record Leads (b : List ℕ) (items : ℕ) (s₀ : Slot) (n₀ : ℕ) (prev�
     (t : List ℕ) : Type 0 where
   pub then : {v : Walk} {z : List ℕ} → Walked b items (due s n) prev d around p c v t z → Walked b items (due s₀ n₀) prev₀ d around p₀ c₀ v t₀ z
 
-pub begins : (b : List ℕ) (items : ℕ) (s : Slot) (n : ℕ) (prev : List ℕ) (d around p c : ℕ) (t : List ℕ) → Leads b items s n prev d around p c t s n prev p c t
-begins b items s n prev d around p c t = record { then = λ w. w }
+-- where a level begins there is no key before
+pub begins : (b : List ℕ) (items : ℕ) (s : Slot) (n d around p c : ℕ) (t : List ℕ) → Leads b items s n [] d around p c t s n (keyOf (part b 0 0)) p c t
+unfolding keyOf getHead
+begins b items s n d around p c t = record { then = λ w. w }
 
 -- the bytes of a key are its head's and its string's
 key-part : (b : List ℕ) → all isByte b ≡ true → (left : ℕ) (s : Slot) (prev : List ℕ) (d p k a q : ℕ) (h : Took b p left d s prev k a q)
-    → h .lead .kind ≤ 5 → keyBytes (h .lead) (h .str) ≡ part b p q
+    → h .lead .kind ≤ 5 → keyBytes (h .lead) (h .str) ≡ keyOf (part b p q)
 key-part b bs left s prev d p k a q h kk =
     let l = h .lead in
     let r = drop (size l) (drop p b) in
     let z : length (h .str) ≡ stringSize l = rw (h .passed .string) (length-take-le (stringSize l) r (h .passed .there)) in
     let i : p + (size l + stringSize l) ≡ q = rw (← z) (h .after-is) in
-    rw (h .passed .string) (key-bytes b p l bs (h .head) kk (h .passed .there) q i)
+    rw (h .passed .string) (key-bytes b p l bs (h .head) kk (h .passed .there) q i) ∙ own-key b bs p q
 
-key-span : (b : List ℕ) (o : Own) (f t p q : ℕ) (kb : List ℕ) → (o ≡ rising → kb ≡ part b p q)
-    → keyAfter o (part b f t) kb ≡ part b (keySpan o f p) (keySpan o t q)
+key-span : (b : List ℕ) (o : Own) (f t p q : ℕ) (kb : List ℕ) → (o ≡ rising → kb ≡ keyOf (part b p q))
+    → keyAfter o (keyOf (part b f t)) kb ≡ keyOf (part b (keySpan o f p) (keySpan o t q))
 key-span b none f t p q kb e = refl
 key-span b one f t p q kb e = refl
 key-span b rising f t p q kb e = e refl
@@ -80,17 +67,17 @@ key-span b filled f t p q kb e = refl
 
 module _ (b : List ℕ) (bs : all isByte b ≡ true) (items : ℕ) (s₀ : Slot) (n₀ : ℕ) (prev₀ : List ℕ) (d around p₀ c₀ : ℕ) (t₀ : List ℕ)
     (i n f t p c : ℕ) (tab : List ℕ) (v : IsSlot i)
-    (lead : Leads b items s₀ n₀ prev₀ d around p₀ c₀ t₀ (slotOf i) n (part b f t) p c tab)
-    {x : Step} (e : x ≡ stepAt b p (slotOf i) (part b f t) (items - c) d) where
+    (lead : Leads b items s₀ n₀ prev₀ d around p₀ c₀ t₀ (slotOf i) n (keyOf (part b f t)) p c tab)
+    {x : Step} (e : x ≡ stepAt b p (slotOf i) (keyOf (part b f t)) (items - c) d) where
   -- the head is refused
   pub halts : {r y : ℕ} → x ≡ step.Refused r y → {w : Walk} → w ≡ stoppedOf x → {z : List ℕ} → Walked b items (due s₀ n₀) prev₀ d around p₀ c₀ w t₀ z
   halts {r} {y} q {w} g {z} =
-      rw (g, q) (lead .then (stopped b items (slotOf i) n (part b f t) d around p c r y tab z (sym e ∙ q)))
+      rw (g, q) (lead .then (stopped b items (slotOf i) n (keyOf (part b f t)) d around p c r y tab z (sym e ∙ q)))
 
   module _ {k a q₀ : ℕ} (q : x ≡ Taken k a q₀) {w : Walk} {tab₁ : List ℕ}
       (m : Walked b items (insideLevel (slotOf i) k a) [] (pred d) (suc around) q₀ (c + 1) w tab tab₁) where
-    abbrev tk : Took b p (items - c) d (slotOf i) (part b f t) k a q₀
-    tk = took b p (items - c) d (slotOf i) (part b f t) k a q₀ (sym e ∙ q)
+    abbrev tk : Took b p (items - c) d (slotOf i) (keyOf (part b f t)) k a q₀
+    tk = took b p (items - c) d (slotOf i) (keyOf (part b f t)) k a q₀ (sym e ∙ q)
 
     walked : Walked b items (members (slotOf i) (tk .lead)) [] (pred d) (suc around) q₀ (suc c) w tab tab₁
     walked = rw (← inside-is (slotOf i) (tk .lead), tk .kind-is, tk .arg-is, ← add-one c) m
@@ -98,14 +85,14 @@ module _ (b : List ℕ) (bs : all isByte b ≡ true) (items : ℕ) (s₀ : Slot)
     -- a member is refused
     pub breaks : {r y : ℕ} → w ≡ Refused r y → {z : List ℕ} → Walked b items (due s₀ n₀) prev₀ d around p₀ c₀ w t₀ z
     breaks {r} {y} g {z} =
-        rw g (lead .then (broken b bs items (slotOf i) n (part b f t) d around p c k a q₀ tk (rw g at walked)))
+        rw g (lead .then (broken b bs items (slotOf i) n (keyOf (part b f t)) d around p c k a q₀ tk (rw g at walked)))
 
     module _ {q₁ e₁ : ℕ} (g : w ≡ Read q₁ e₁) {tab₂ : List ℕ} (put : tab₂ ≡ set tab₁ c (packed p q₁ around i)) where
       -- what follows the item ends the level
-      item : {u : Walk} {z : List ℕ} → Walked b items (rule (slotOf i) .next (tk .lead .arg) n) (prevAfter (slotOf i) (part b f t) (tk .lead) (tk .str)) d around q₁ e₁ u tab₂ z
+      item : {u : Walk} {z : List ℕ} → Walked b items (rule (slotOf i) .next (tk .lead .arg) n) (prevAfter (slotOf i) (keyOf (part b f t)) (tk .lead) (tk .str)) d around q₁ e₁ u tab₂ z
           → Walked b items (due s₀ n₀) prev₀ d around p₀ c₀ u t₀ z
       item y =
-          lead .then (onward b bs items (slotOf i) n (part b f t) d around p c k a q₀ tk (rw g at walked) (put ∙ rw (code-slot i v)) y)
+          lead .then (onward b bs items (slotOf i) n (keyOf (part b f t)) d around p c k a q₀ tk (rw g at walked) (put ∙ rw (number-slot i v)) y)
 
       module _ (kk : k ≤ 9) (fit : fitsCode i k a ≡ true) {nx : Next} (nn : nx ≡ nextCode i a n) where
         next-is : levelOf nx ≡ rule (slotOf i) .next (tk .lead .arg) n
@@ -119,11 +106,11 @@ module _ (b : List ℕ) (bs : all isByte b ≡ true) (items : ℕ) (s₀ : Slot)
         next-slotted z = let s = next-right i k a n v kk fit .slotted in rw (← nn, z) at s
 
         pub again : {j m′ : ℕ} → nx ≡ Due j m′ → {f′ t′ : ℕ} → f′ ≡ keySpan (rule (slotOf i) .own) f p → t′ ≡ keySpan (rule (slotOf i) .own) t q₀
-            → Leads b items s₀ n₀ prev₀ d around p₀ c₀ t₀ (slotOf j) m′ (part b f′ t′) q₁ e₁ tab₂
+            → Leads b items s₀ n₀ prev₀ d around p₀ c₀ t₀ (slotOf j) m′ (keyOf (part b f′ t′)) q₁ e₁ tab₂
         again {j} {m′} z {f′} {t′} ef et =
-            let kp : rule (slotOf i) .own ≡ rising → keyBytes (tk .lead) (tk .str) ≡ part b p q₀ = λ o.
-            key-part b bs (items - c) (slotOf i) (part b f t) d p k a q₀ tk (ordered-kind (slotOf i) (tk .lead .kind) (tk .lead .arg) o (tk .passed .fitting)) in
-            let pv : prevAfter (slotOf i) (part b f t) (tk .lead) (tk .str) ≡ part b f′ t′
+            let kp : rule (slotOf i) .own ≡ rising → keyBytes (tk .lead) (tk .str) ≡ keyOf (part b p q₀) = λ o.
+            key-part b bs (items - c) (slotOf i) (keyOf (part b f t)) d p k a q₀ tk (ordered-kind (slotOf i) (tk .lead .kind) (tk .lead .arg) o (tk .passed .fitting)) in
+            let pv : prevAfter (slotOf i) (keyOf (part b f t)) (tk .lead) (tk .str) ≡ keyOf (part b f′ t′)
             = rw (ef, et) (key-span b (rule (slotOf i) .own) f t p q₀ (keyBytes (tk .lead) (tk .str)) kp) in
             record { then = λ y. item (rw (← next-is, z, pv) y) }
 

@@ -11,8 +11,9 @@ use Rattle.buffer.proofs.Putting.{sets-append}
 use Rattle.ari.specs.Table.{Level, done, due, rule, members}
 use Rattle.ari.specs.Reader.{end, push}
 use Rattle.ari.specs.Items.{Items, none, item, encode, heads, Spot, spots, insideAt, spotAt}
-use Rattle.ari.proofs.Due.{Due, prevAfter}
-use Rattle.reader.specs.Walks.{entries, entryOf}
+use Rattle.ari.specs.Due.{Due}
+use Rattle.ari.proofs.Due.{prevAfter}
+use Rattle.item_table.specs.Entries.{entryOf}
 
 pub set-sets : (l : List ℕ) (i a j : ℕ) (vs : List ℕ) → i < j → set (sets l j vs) i a ≡ sets (set l i a) j vs
 set-sets l i a j [] h = refl

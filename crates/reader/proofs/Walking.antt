@@ -8,22 +8,25 @@ use lib.ListN.{length, take, drop, set, length-append, take-append-drop}
 use lib.Seq.{sets, drop-drop, length-take-le, length-sets}
 use lib.Dec.{eqb}
 use borrow.Author.Tests.{eqb-false, ne-eqb}
-use Rattle.cbor.specs.Byte.{all, isByte}
+use Rattle.buffer.specs.Bytes.{all, isByte}
 use Rattle.cbor.specs.Head.{Lead, size, leadBytes, Got, bad, got, getHead, stringSize, isContainer}
-use Rattle.cbor.proofs.ByteLaws.{all-drop}
+use Rattle.buffer.proofs.ByteLaws.{all-drop}
 use Rattle.cbor.proofs.HeadLaws.{getHead-forth, length-lead, head-fits}
 use Rattle.ari.specs.Table.{Slot, Level, done, due, rule, members}
-use Rattle.ari.specs.Reader.{Dues, end, frame, push, behind, keyBytes, keyAfter, judge, judgeGot, Answer, refuse, takeStep, visit, run}
+use Rattle.cbor.specs.Head.{keyBytes}
+use Rattle.ari.specs.Reader.{Dues, end, frame, push, behind, keyAfter, judge, judgeGot, Answer, refuse, takeStep, visit, run}
 use Rattle.ari.specs.Reader as reader
 use Rattle.ari.specs.Items.{Items, none, item, encode, heads, spots, insideAt, spotAt}
-use Rattle.ari.proofs.Due.{Due, Good, prevAfter}
+use Rattle.ari.specs.Due.{Due, Good}
+use Rattle.ari.proofs.Due.{prevAfter}
 use Rattle.ari.proofs.Central.{Judged, judged}
+use Rattle.item_table.specs.Entries.{slotNumber, packed, entryOf}
 use Rattle.reader.specs.declared.Step.the-variants.{Taken}
 use Rattle.reader.specs.declared.Step.the-variants as step
 use Rattle.reader.specs.declared.Walk.{Walk}
 use Rattle.reader.specs.declared.Walk.the-variants.{Read, Refused}
 use Rattle.reader.specs.Steps.{stepAnswer, stepAt}
-use Rattle.reader.specs.Walks.{codeOf, packed, entryOf, entries, afterWalk, Held, OnRead, Walked}
+use Rattle.reader.specs.Walks.{entries, afterWalk, Held, OnRead, Walked}
 use Rattle.reader.proofs.Tables.{spots-heads, item-entries}
 
 -- a head that was taken
@@ -143,7 +146,7 @@ module _ (b : List ℕ) (bs : all isByte b ≡ true) (items : ℕ) (s : Slot) (n
 
   -- what follows the item finishes the whole
   module _ {q e : ℕ} {t t₁ t₂ : List ℕ} (w : Walked b items (members s (h .lead)) [] (pred d) (suc around) q₀ (suc c) (Read q e) t t₁)
-      (put : t₂ ≡ set t₁ c (packed p q around (codeOf s))) where
+      (put : t₂ ≡ set t₁ c (packed p q around (slotNumber s))) where
     abbrev next : Level
     next = rule s .next (h .lead .arg) n
 
@@ -170,7 +173,7 @@ module _ (b : List ℕ) (bs : all isByte b ≡ true) (items : ℕ) (s : Slot) (n
           bytes = head-bytes ∙ rw (m .bytes, v .bytes) (simp append-assoc);
           place = simp (length-append) (omega (arith, m .place, v .place, i, ll));
           count = omega (arith, m .count, v .count);
-          table = v .table ∙ rw (put, m .table, ce, x, i) (item-entries t c (heads ms) (packed p q around (codeOf s)) xs (spots rs false next q around) hx);
+          table = v .table ∙ rw (put, m .table, ce, x, i) (item-entries t c (heads ms) (packed p q around (slotNumber s)) xs (spots rs false next q around) hx);
         }
 
     onward-of : (v : Walk) {z : List ℕ} → Walked b items next after d around q e v t₂ z → Walked b items (due s n) prev d around p c v t z

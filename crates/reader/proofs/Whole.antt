@@ -11,24 +11,30 @@ use lib.Dec.{ltb}
 use mir.Syntax.{w8}
 use mir.Val.{Fits}
 use borrow.Author.Tests.{lt-ltb, le-ltb}
-use Rattle.cbor.specs.Byte.{all, isByte}
+use Rattle.buffer.specs.Bytes.{all, isByte}
 use Rattle.buffer.proofs.Putting.{sets-append}
 use Rattle.ari.specs.Table.{message, alone, Slot, version, ari, Level, done, due, rule, members}
-use Rattle.ari.specs.Reader.{Limits, Dues, end, sets, frame, push, Answer, refuse, accept, visit, run, counted, Input, single, aMessage, firstSlot, bottom, read}
-use Rattle.ari.specs.Items.{Items, none, item, encode, heads, join, Spot, spots, spotAt, insideAt, spotsOf}
+use Rattle.ari.specs.declared.Limits.{Limits}
+use Rattle.ari.specs.declared.Input.{Input}
+use Rattle.ari.specs.declared.Input.the-variants.{Single, Message}
+use Rattle.ari.specs.Reader.{Dues, end, sets, frame, push, Answer, refuse, accept, visit, run, counted, firstSlot, bottom, read}
+use Rattle.ari.proofs.Join.{join}
+use Rattle.ari.specs.Items.{Items, none, item, encode, heads, Spot, spots, spotAt, insideAt, spotsOf}
 use Rattle.ari.specs.Decode.{decode}
-use Rattle.ari.proofs.Due.{Due, due-sets, prevAfter}
+use Rattle.ari.specs.Due.{Due}
+use Rattle.ari.proofs.Due.{due-sets, prevAfter}
 use Rattle.ari.proofs.Join.{encode-join, heads-join}
 use Rattle.ari.proofs.Central.{paste}
 use Rattle.ari.proofs.Weight.{decodes}
 use Rattle.grammar.specs.Code.{slotOf}
+use Rattle.item_table.specs.Entries.{entryOf}
 use Rattle.reader.specs.declared.Walk.{Walk}
 use Rattle.reader.specs.declared.Walk.the-variants.{Read, Refused}
 use Rattle.reader.specs.declared.Answer.{Answer as OutAnswer}
 use Rattle.reader.specs.declared.Answer.the-variants.{Accepted}
 use Rattle.reader.specs.declared.Answer.the-variants as answers
-use Rattle.reader.specs.Walks.{entryOf, entries, Held, Walked, SetsHeld, SetsWalked, afterWalk, afterSets}
-use Rattle.reader.specs.Answers.{limitsOf, answerOf, refusalOf, Kept}
+use Rattle.reader.specs.Walks.{entries, Held, Walked, SetsHeld, SetsWalked, afterWalk, afterSets}
+use Rattle.reader.specs.Answers.{answerOf, refusalOf, Kept}
 use Rattle.reader.proofs.Tables.{spots-heads, map-append}
 
 -- a slice's elements are bytes
@@ -148,9 +154,15 @@ pub sets-done : (b : List ℕ) (items d p₀ c₀ : ℕ) (t₀ : List ℕ) (p c 
 sets-done b items d p₀ c₀ t₀ p c t i h g n = i .then (sets-ended b items d p c h g n)
 
 -- The answers.
-module _ (b : List ℕ) (bytes items d : ℕ) where
-  abbrev m : Limits
-  m = limitsOf bytes items d
+module _ (b : List ℕ) (m : Limits) where
+  abbrev bytes : ℕ
+  bytes = m .bytes
+
+  abbrev items : ℕ
+  items = m .items
+
+  abbrev d : ℕ
+  d = m .containers
 
   -- test 1
   pub too-long : (i : Input) → bytes < length b → answers.Refused 1 0 ≡ answerOf (read m i b)
@@ -175,36 +187,36 @@ module _ (b : List ℕ) (bytes items d : ℕ) where
     from-start s v ds = rw (sub-zero items) at (v .runs ds)
 
     module _ {w : Walk} {t t₁ : List ℕ} (v : Walked b items (due (ari alone) 0) [] d 0 0 0 w t t₁) where
-      pub single-refused : {r x : ℕ} → w ≡ Refused r x → {z : OutAnswer} → z ≡ refusalOf w → z ≡ answerOf (read m single b)
-      single-refused g q = refuses single (rw g at (from-start (ari alone) v end)) g q
+      pub single-refused : {r x : ℕ} → w ≡ Refused r x → {z : OutAnswer} → z ≡ refusalOf w → z ≡ answerOf (read m Single b)
+      single-refused g q = refuses Single (rw g at (from-start (ari alone) v end)) g q
 
       module _ {q c : ℕ} (g : w ≡ Read q c) where
         abbrev one : Walked b items (due (ari alone) 0) [] d 0 0 0 (Read q c) t t₁
         one = rw g at v
 
-        pub single-more : q < length b → answers.Refused 13 q ≡ answerOf (read m single b)
+        pub single-more : q < length b → answers.Refused 13 q ≡ answerOf (read m Single b)
         single-more n =
             let e : run items (frame (ari alone) 0 [] d end) 0 b ≡ refuse 13 q
             = from-start (ari alone) one end ∙ rw (drop-cons b q 0 n) (run-more (items - c) q (getD b q 0) (drop (suc q) b)) in
-            rw (read-is single e)
+            rw (read-is Single e)
 
         none-left : length b ≤ q → drop q b ≡ []
         none-left n = drop-of-length-le b n
 
-        pub single-accepted : length b ≤ q → Accepted c ≡ answerOf (read m single b)
+        pub single-accepted : length b ≤ q → Accepted c ≡ answerOf (read m Single b)
         single-accepted n =
-            accepts single (from-start (ari alone) one end ∙ rw (none-left n) (run-end (items - c) q)) (one .held .2)
+            accepts Single (from-start (ari alone) one end ∙ rw (none-left n) (run-end (items - c) q)) (one .held .2)
 
-        pub single-kept : length b ≤ q → Kept single b (Accepted c) t t₁
+        pub single-kept : length b ≤ q → Kept Single b (Accepted c) t t₁
         single-kept n =
             let k = one .held .0 in
             let e : encode (k .tree) ≡ b = sym (append-nil (encode (k .tree))) ∙ ap (λ (x : List ℕ). encode (k .tree) ++ x) (sym (none-left n)) ∙ sym (k .bytes) in
             let f : decode b ≡ k .tree = ap decode (sym e) ∙ decodes (k .tree) (frame (ari alone) 0 [] d end) (k .fit) in
-            record { kept = k .table ∙ ap (λ (x : Items). stored t 0 (map entryOf (spotsOf single x))) (sym f) }
+            record { kept = k .table ∙ ap (λ (x : Items). stored t 0 (map entryOf (spotsOf Single x))) (sym f) }
 
     module _ {w : Walk} {t t₁ : List ℕ} (v : Walked b items (due version 0) [] d 0 0 0 w t t₁) where
-      pub message-refused : {r x : ℕ} → w ≡ Refused r x → {z : OutAnswer} → z ≡ refusalOf w → z ≡ answerOf (read m aMessage b)
-      message-refused g q = refuses aMessage (rw g at (from-start version v (sets d))) g q
+      pub message-refused : {r x : ℕ} → w ≡ Refused r x → {z : OutAnswer} → z ≡ refusalOf w → z ≡ answerOf (read m Message b)
+      message-refused g q = refuses Message (rw g at (from-start version v (sets d))) g q
 
       module _ {q c : ℕ} (g : w ≡ Read q c) {u : Walk} {t₂ : List ℕ} (x : SetsWalked b items d q c u t₁ t₂) where
         abbrev ver : Walked b items (due version 0) [] d 0 0 0 (Read q c) t t₁
@@ -213,17 +225,17 @@ module _ (b : List ℕ) (bytes items d : ℕ) where
         message-runs : run items (frame version 0 [] d (sets d)) 0 b ≡ afterSets items u
         message-runs = from-start version ver (sets d) ∙ x .runs
 
-        pub message-stopped : {r k : ℕ} → u ≡ Refused r k → {z : OutAnswer} → z ≡ refusalOf u → z ≡ answerOf (read m aMessage b)
-        message-stopped f z = refuses aMessage (rw f at message-runs) f z
+        pub message-stopped : {r k : ℕ} → u ≡ Refused r k → {z : OutAnswer} → z ≡ refusalOf u → z ≡ answerOf (read m Message b)
+        message-stopped f z = refuses Message (rw f at message-runs) f z
 
         module _ {q′ e : ℕ} (f : u ≡ Read q′ e) where
           abbrev x′ : SetsWalked b items d q c (Read q′ e) t₁ t₂
           x′ = rw f at x
 
-          pub message-accepted : Accepted e ≡ answerOf (read m aMessage b)
-          message-accepted = accepts aMessage (rw f at message-runs) (x′ .held .1)
+          pub message-accepted : Accepted e ≡ answerOf (read m Message b)
+          message-accepted = accepts Message (rw f at message-runs) (x′ .held .1)
 
-          pub message-kept : Kept aMessage b (Accepted e) t t₂
+          pub message-kept : Kept Message b (Accepted e) t t₂
           message-kept =
               let k = ver .held .0 in
               let l = x′ .held .0 in
@@ -233,7 +245,7 @@ module _ (b : List ℕ) (bytes items d : ℕ) where
               let r : decode b ≡ g = ap decode (sym n) ∙ decodes g (frame version 0 [] d (sets d)) w in
               record {
                 kept = join-table (due version 0) (k .tree) (l .tree) d 0 0 q c t (k .fit) (k .place) (k .count) (k .table) (l .table)
-                    ∙ ap (λ (z : Items). stored t 0 (map entryOf (spotsOf aMessage z))) (sym r);
+                    ∙ ap (λ (z : Items). stored t 0 (map entryOf (spotsOf Message z))) (sym r);
               }
 
 -- a refusal, handed on
@@ -241,12 +253,25 @@ pub refused : {w : Walk} {r x : ℕ} → w ≡ Refused r x → answers.Refused r
 refused e = rw e
 
 -- of a refused input no table is asked
-pub unkept : (i : Input) (b : List ℕ) (r x : ℕ) (t t′ : List ℕ) → Kept i b (answers.Refused r x) t t′
-unkept i b r x t t′ = record { kept = tt }
+pub unkept : (i : Input) (b : List ℕ) (r x : ℕ) (t t′ : List ℕ) → length t′ ≡ length t → Kept i b (answers.Refused r x) t t′
+unkept i b r x t t′ l = record { kept = l }
 
-pub unkept-walk : (i : Input) (b : List ℕ) {w : Walk} {r x : ℕ} → w ≡ Refused r x → {z : OutAnswer} → z ≡ refusalOf w → (t t′ : List ℕ) → Kept i b z t t′
-unkept-walk i b g e t t′ = rw (e, g) (record { kept = tt })
+pub unkept-walk : (i : Input) (b : List ℕ) {w : Walk} {r x : ℕ} → w ≡ Refused r x → {z : OutAnswer} → z ≡ refusalOf w → (t t′ : List ℕ) → length t′ ≡ length t → Kept i b z t t′
+unkept-walk i b g e t t′ l = rw (e, g) (record { kept = l })
+
+pub unkept-later : (i : Input) (b : List ℕ) {w : Walk} {r x : ℕ} → w ≡ Refused r x → {z : OutAnswer} → z ≡ refusalOf w → (t t₁ t′ : List ℕ) → length t₁ ≡ length t → length t′ ≡ length t₁
+    → Kept i b z t t′
+unkept-later i b g e t t₁ t′ l l₁ = unkept-walk i b g e t t′ (l₁ ∙ l)
 
 pub ruleset single-ways = (too-long, single-refused, single-more, single-accepted, single-kept, unkept, unkept-walk)
 
-pub ruleset message-ways = (too-long, message-refused, message-stopped, message-accepted, message-kept, unkept, unkept-walk)
+pub ruleset message-ways = (too-long, message-refused, message-stopped, message-accepted, message-kept, unkept, unkept-walk, unkept-later)
+
+-- the answer for one input is the answer for that input
+pub input-read : (m : Limits) (b : List ℕ) {i j : Input} → i ≡ j → {a : OutAnswer} → a ≡ answerOf (read m j b) → a ≡ answerOf (read m i b)
+input-read m b e g = rw e g
+
+pub input-kept : (b : List ℕ) {a : OutAnswer} {t t′ : List ℕ} {i j : Input} → i ≡ j → Kept j b a t t′ → Kept i b a t t′
+input-kept b e k = rw e k
+
+pub ruleset of-input = (input-read, input-kept)

@@ -2,8 +2,10 @@
 use Prim.Native.Nat.{ℕ}
 use mathlib.Core.Path.{_≡_}
 use mathlib.Core.List.{List, map}
+use lib.ListN.{length}
 use lib.Seq.{sets}
-use Rattle.ari.specs.Reader.{Limits, Input, refuse, accept}
+use Rattle.ari.specs.declared.Input.{Input}
+use Rattle.ari.specs.Reader.{refuse, accept}
 use Rattle.ari.specs.Reader as reader
 use Rattle.ari.specs.Items.{spotsOf}
 use Rattle.ari.specs.Decode.{decode}
@@ -11,11 +13,7 @@ use Rattle.reader.specs.declared.Answer.{Answer}
 use Rattle.reader.specs.declared.Answer.the-variants.{Accepted, Refused}
 use Rattle.reader.specs.declared.Walk.{Walk}
 use Rattle.reader.specs.declared.Walk.the-variants as walks
-use Rattle.reader.specs.Walks.{entryOf}
-
--- limits as three numbers: no text is read here
-abbrev pub limitsOf : ℕ → ℕ → ℕ → Limits
-limitsOf bytes items containers = record { bytes = bytes; items = items; containers = containers; text = 0 }
+use Rattle.item_table.specs.Entries.{entryOf}
 
 -- an acceptance with the item count, a refusal with its number and place
 abbrev pub answerOf : reader.Answer → Answer
@@ -27,10 +25,10 @@ abbrev pub refusalOf : Walk → Answer
 refusalOf (walks.Refused r x) = Refused r x
 refusalOf (walks.Read q c) = Refused 0 0
 
--- the table of an accepted input: an entry for each item, as many as there is room for
+-- the table of an accepted input: an entry for each item, as many as there is room for. Of a refused one it is working memory, and keeps its length
 abbrev pub KeptBy : Input → List ℕ → Answer → List ℕ → List ℕ → Type 0
 KeptBy i b (Accepted n) t t′ = t′ ≡ sets t 0 (map entryOf (spotsOf i (decode b)))
-KeptBy i b (Refused r p) t t′ = Unit {0}
+KeptBy i b (Refused r p) t t′ = length t′ ≡ length t
 
 pub record Kept (i : Input) (b : List ℕ) (r : Answer) (t t′ : List ℕ) : Type 0 where
   pub kept : KeptBy i b r t t′

@@ -5,12 +5,13 @@ use mathlib.Core.Bool.{Bool, true, false, not, _&&_, cond}
 use mathlib.Core.List.{List, [], _∷_}
 use lib.ListN.{length, getD, take, drop}
 use lib.Dec.{ltb, eqb}
-use Rattle.cbor.specs.Byte.{within}
+use Rattle.buffer.specs.Bytes.{within}
 use Rattle.cbor.specs.declared.Head as cbor
 use Rattle.cbor.specs.declared.Head.the-variants as cbors
 use Rattle.cbor.specs.Head.{text, Lead, size, Got, bad, got, getHead, stringSize, isContainer}
 use Rattle.ari.specs.Table.{Slot, Own, none, one, rising, filled, rule}
-use Rattle.ari.specs.Reader.{keyBytes, notGreater, isEmpty, judgeGot}
+use Rattle.cbor.specs.Head.{keyBytes}
+use Rattle.ari.specs.Reader.{notGreater, isEmpty, judgeContent, judgeGot}
 use Rattle.ari.specs.Reader as reader
 use Rattle.reader.specs.declared.Step.{Step}
 use Rattle.reader.specs.declared.Step.the-variants.{Taken, Refused}
@@ -19,10 +20,6 @@ use Rattle.reader.specs.declared.Walk.{Walk}
 use Rattle.reader.specs.declared.Walk.the-variants as walk
 use Rattle.reader.specs.declared.End.{End}
 use Rattle.reader.specs.declared.End.the-variants.{At, Short}
-
--- the bytes from one place to another
-abbrev pub part : List ℕ → ℕ → ℕ → List ℕ
-part b from to = take (to - from) (drop from b)
 
 -- a byte stands at a place, where so many items may still come
 abbrev pub standsAt : List ℕ → ℕ → ℕ → ℕ → Bool
@@ -42,21 +39,12 @@ unfoldable pub stepAt : List ℕ → ℕ → Slot → List ℕ → ℕ → ℕ �
 stepAt b p s prev left d = stepAnswer p (judgeGot left d s prev (getHead (drop p b)) (drop p b))
 
 -- the tests 9 to 12 alone
-unfoldable pub lateStep : Slot → List ℕ → Lead → List ℕ → reader.Step
-lateStep s prev l r =
-    let str = take (stringSize l) r in
-    cond (ltb (length r) (stringSize l)) (reader.no 9)
-    (cond (eqb (l .kind) text && not (rule s .spelling str)) (reader.no 10)
-    (cond (notGreater (rule s .own) prev (keyBytes l str)) (reader.no 11)
-    (cond (isEmpty (rule s .own) (l .arg)) (reader.no 12)
-    (reader.yes l str))))
+unfoldable pub contentGot : Slot → List ℕ → Got → List ℕ → reader.Step
+contentGot s prev (bad r) b = reader.no r
+contentGot s prev (got l) b = judgeContent s prev l (drop (size l) b)
 
-unfoldable pub lateGot : Slot → List ℕ → Got → List ℕ → reader.Step
-lateGot s prev (bad r) b = reader.no r
-lateGot s prev (got l) b = lateStep s prev l (drop (size l) b)
-
-unfoldable pub lateAt : List ℕ → ℕ → Slot → List ℕ → Step
-lateAt b p s prev = stepAnswer p (lateGot s prev (getHead (drop p b)) (drop p b))
+unfoldable pub contentAt : List ℕ → ℕ → Slot → List ℕ → Step
+contentAt b p s prev = stepAnswer p (contentGot s prev (getHead (drop p b)) (drop p b))
 
 -- what a head that was taken has shown
 abbrev pub Bounded : List ℕ → ℕ → ℕ → ℕ → ℕ → ℕ → Step → Type 0
@@ -65,9 +53,9 @@ Bounded b p c items d i (Taken k a q) =
 Bounded b p c items d i (Refused r x) = Unit {0}
 
 -- what the tests 9 to 12 leave of a head that passed them
-abbrev pub LateShown : List ℕ → ℕ → ℕ → ℕ → Step → Type 0
-LateShown b k a n (Taken k′ a′ q) = (k′ ≡ k) × (a′ ≡ a) × (n ≤ q) × (q ≤ length b)
-LateShown b k a n (Refused r x) = Unit {0}
+abbrev pub ContentShown : List ℕ → ℕ → ℕ → ℕ → Step → Type 0
+ContentShown b k a n (Taken k′ a′ q) = (k′ ≡ k) × (a′ ≡ a) × (n ≤ q) × (q ≤ length b)
+ContentShown b k a n (Refused r x) = Unit {0}
 
 -- a head that is refused by itself
 abbrev pub noHead : cbor.Head → ℕ → Step

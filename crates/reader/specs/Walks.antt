@@ -6,55 +6,13 @@ use mathlib.Core.List.{List, [], _∷_, _++_, map}
 use lib.ListN.{length, drop}
 use lib.Seq.{sets as stored}
 use lib.Dec.{eqb}
-use Rattle.ari.specs.Table.{Place, alone, message, inside, param, Slot, version, ari, type, value, namespace, objectNamespace, objectType, objectId, params, key, entry, nonce, setTime, target, report, reportTime, reportSource, Level, done, due, members}
+use Rattle.ari.specs.Table.{Slot, Level, done, due, members}
 use Rattle.ari.specs.Reader.{Dues, end, sets, push, Answer, refuse, accept, run}
 use Rattle.ari.specs.Items.{Items, encode, heads, Spot, spots}
-use Rattle.ari.proofs.Due.{Due}
+use Rattle.ari.specs.Due.{Due}
+use Rattle.item_table.specs.Entries.{entryOf}
 use Rattle.reader.specs.declared.Walk.{Walk}
 use Rattle.reader.specs.declared.Walk.the-variants.{Read, Refused}
-
--- the numbers of the slots
-abbrev placeNumber : Place → ℕ
-placeNumber alone = 0
-placeNumber message = 1
-placeNumber inside = 2
-placeNumber param = 3
-
-abbrev inParam : Place → ℕ
-inParam alone = 0
-inParam message = 0
-inParam inside = 0
-inParam param = 1
-
-abbrev flag : Bool → ℕ
-flag false = 0
-flag true = 1
-
-unfoldable pub codeOf : Slot → ℕ
-codeOf version = 0
-codeOf (ari w) = 1 + placeNumber w
-codeOf (type w) = 5 + placeNumber w
-codeOf namespace = 9
-codeOf (objectNamespace p) = 10 + flag p
-codeOf (objectType p) = 12 + flag p
-codeOf (objectId p) = 14 + flag p
-codeOf params = 16
-codeOf (key w) = 17 + inParam w
-codeOf (entry w) = 19 + inParam w
-codeOf (nonce t) = cond (eqb t 20) 21 22
-codeOf setTime = 23
-codeOf target = 24
-codeOf report = 25
-codeOf reportTime = 26
-codeOf reportSource = 27
-codeOf (value t w) = 28 + inParam w * 22 + t
-
--- an item's entry in the table
-abbrev pub packed : ℕ → ℕ → ℕ → ℕ → ℕ
-packed first after around slot = first + after * 65536 + around * 4294967296 + slot * 1099511627776
-
-unfoldable pub entryOf : Spot → ℕ
-entryOf x = packed (x .first) (x .after) (x .around) (codeOf (x .slot))
 
 -- the entries of the items of a level that starts at p, with so many containers around it
 abbrev pub entries : Items → Level → ℕ → ℕ → List ℕ

@@ -1,13 +1,13 @@
-// The reading: one walk over the input, head by head, in the order of document 01's tests. The walk may keep a table of the items.
+// The reading: one walk over the input, head by head, in the order of the tests. The walk may keep a table of the items.
 ghost use mathlib.Core.Path.{_≡_};
 ghost use mathlib.Core.Bool.{Bool, true, false, not, _&&_};
-ghost use Prim.Native.Nat.{_+_, _-_, _*_, _<_, _≤_};
-ghost use lib.ListN.{length, set};
+ghost use Prim.Native.Nat.{_+_, _-_, _*_, _^_, _<_, _≤_};
+ghost use lib.ListN.{length};
 ghost use lib.Dec.{eqb};
 ghost use mathlib.Core.List.{[]};
 ghost use Prim.Native.Nat.{pred, suc};
-ghost use Rattle.cbor.specs.Byte.{all, isByte};
-ghost use Rattle.cbor.specs.Head.{isContainer};
+ghost use Rattle.buffer.specs.Bytes.{all, isByte};
+ghost use Rattle.cbor.specs.Head.{isContainer, keyOf};
 ghost use Rattle.cbor.specs.Answer.{headAt};
 ghost use Rattle.cbor.specs.declared.Head.the-variants.{Good};
 ghost use Rattle.ari.specs.Table.{rule, due};
@@ -15,11 +15,15 @@ ghost use Rattle.grammar.specs.Code.{fitsCode, ownOf};
 ghost use Rattle.ari.specs.Reader.{wrongVersion, notGreater, isEmpty};
 ghost use Rattle.grammar.specs.Code.{slotOf};
 ghost use Rattle.grammar.proofs.Right.{IsSlot};
-ghost use Rattle.reader.specs.Steps.{part, standsAt, stringEnd, stepAt, lateAt, LateShown, noHead, stoppedOf, Bounded, keySpan};
-ghost use Rattle.reader.specs.Walks.{packed, insideLevel, Walked, SetsWalked};
-ghost use Rattle.ari.specs.Reader.{read, single, aMessage};
+ghost use Rattle.buffer.specs.Bytes.{part};
+ghost use Rattle.reader.specs.Steps.{standsAt, stringEnd, stepAt, contentAt, ContentShown, noHead, stoppedOf, Bounded, keySpan};
+ghost use Rattle.reader.specs.Walks.{insideLevel, Walked, SetsWalked};
+ghost use Rattle.ari.specs.declared.Input.the-variants.{Single, Message};
+ghost use Rattle.ari.specs.Reader.{read};
 ghost use Rattle.ari.specs.Limits.{firstLimits};
-ghost use Rattle.reader.specs.Answers.{limitsOf, answerOf, refusalOf, Kept};
+ghost use Rattle.reader.specs.Answers.{answerOf, refusalOf, Kept};
+use ari::Input;
+use ari::Limits;
 
 // The place of a map key.
 pub struct Span {
@@ -30,7 +34,7 @@ pub struct Span {
 // What one head gives: it is taken, with the first byte behind its string; or the input is refused.
 pub enum Step {
     Taken { kind: u8, arg: u64, after: usize },
-    Refused { number: u64, place: usize },
+    Refused { number: u8, place: usize },
 }
 
 // The end of a string, if the input has it.
@@ -42,33 +46,7 @@ pub enum End {
 // What a walk over the items of a level gives: they are read up to a place, and so many items in all; or the input is refused.
 pub enum Walk {
     Read { next: usize, count: usize },
-    Refused { number: u64, place: usize },
-}
-
-// An item's entry in the table: first byte, byte after, containers around, slot, from the lowest bits.
-fn pack(first: usize, after: usize, around: usize, slot: u64) -> u64
-    requires { ⌜ (first < 65536) × (after < 65536) × (around < 256) × (slot < 256) ⌝ }
-    ensures { λ r. ⌜ r ≡ packed first after around slot ⌝ }
-{
-    first as u64 + after as u64 * 65536 + around as u64 * 4294967296 + slot * 1099511627776
-}
-
-// A table that is too short, or empty, keeps what it has room for.
-fn put(table: &mut [u64], i: usize, entry: u64)
-    ensures { λ _. ⌜ now (table .exit) ≡ set (now (table .entry)) i entry ⌝ }
-{
-    if i < table.len() {
-        table[i] = entry;
-    }
-}
-
-// An item that has ended goes into the table.
-fn close(table: &mut [u64], i: usize, first: usize, after: usize, around: usize, slot: u64)
-    requires { ⌜ (first < 65536) × (after < 65536) × (around < 256) × (slot < 256) ⌝ }
-    ensures { λ _. ⌜ now (table .exit) ≡ set (now (table .entry)) i (packed first after around slot) ⌝ }
-{
-    let entry = pack(first, after, around, slot);
-    put(table, i, entry);
+    Refused { number: u8, place: usize },
 }
 
 // Test 8.
@@ -106,10 +84,10 @@ fn end_of(s: &[u8], arg: u64, next: usize) -> End
 pub fn string_end(s: &[u8], kind: u8, arg: u64, next: usize) -> End
     ensures { λ r. ⌜ r ≡ stringEnd (now (s .entry)) kind arg next ⌝ }
 {
-    if kind == 2 {
+    if kind == cbor::BYTES {
         return end_of(s, arg, next);
     }
-    if kind == 3 {
+    if kind == cbor::TEXT {
         return end_of(s, arg, next);
     }
     End::At(next)
@@ -133,7 +111,7 @@ fn is_misspelt(s: &[u8], slot: u64, kind: u8, next: usize, end: usize) -> bool
     requires { ⌜ IsSlot slot × (next ≤ end) × (end ≤ length (now s)) ⌝ }
     ensures { λ r. ⌜ r ≡ (eqb kind 3 && not (rule (slotOf slot) .spelling (part (now (s .entry)) next end))) ⌝ }
 {
-    if kind == 3 {
+    if kind == cbor::TEXT {
         return !is_spelled(slot, &s[next..end]);
     }
     false
@@ -142,12 +120,12 @@ fn is_misspelt(s: &[u8], slot: u64, kind: u8, next: usize, end: usize) -> bool
 // Test 11.
 fn is_not_greater(s: &[u8], slot: u64, own: u64, prev: Span, at: usize, end: usize) -> bool
     requires { ⌜ IsSlot slot × (own ≡ ownOf slot) × (prev .from ≤ prev .to) × (prev .to ≤ length (now s)) × (at ≤ end) × (end ≤ length (now s)) ⌝ }
-    ensures { λ r. ⌜ r ≡ notGreater (rule (slotOf slot) .own) (part (now (s .entry)) (prev .from) (prev .to)) (part (now (s .entry)) at end) ⌝ }
+    ensures { λ r. ⌜ r ≡ notGreater (rule (slotOf slot) .own) (keyOf (part (now (s .entry)) (prev .from) (prev .to))) (keyOf (part (now (s .entry)) at end)) ⌝ }
 {
     if own == 2 {
         let from = prev.from;
         let to = prev.to;
-        return !cbor::is_below(&s[from..to], &s[at..end]);
+        return !cbor::is_key_below(&s[from..to], &s[at..end]);
     }
     false
 }
@@ -164,7 +142,7 @@ fn is_empty(slot: u64, own: u64, arg: u64) -> bool
 }
 
 // The tests 9 to 12. Most slots have no test of their own: 11 and 12 are not theirs.
-fn late(
+fn judge_content(
     s: &[u8],
     at: usize,
     slot: u64,
@@ -176,8 +154,8 @@ fn late(
 ) -> Step
     requires { ⌜ (all isByte (now s) ≡ true) × IsSlot slot × (own ≡ ownOf slot) × (prev .from ≤ prev .to) × (prev .to ≤ length (now s)) ⌝ }
     requires { ⌜ (headAt (now s) at ≡ Good kind arg next) × (at < next) × (next ≤ length (now s)) × (fitsCode slot kind arg ≡ true) × (kind ≤ 9) ⌝ }
-    ensures { λ r. ⌜ r ≡ lateAt (now (s .entry)) at (slotOf slot) (part (now (s .entry)) (prev .from) (prev .to)) ⌝ }
-    ensures { λ r. ⌜ LateShown (now (s .entry)) kind arg next r ⌝ }
+    ensures { λ r. ⌜ r ≡ contentAt (now (s .entry)) at (slotOf slot) (keyOf (part (now (s .entry)) (prev .from) (prev .to))) ⌝ }
+    ensures { λ r. ⌜ ContentShown (now (s .entry)) kind arg next r ⌝ }
 {
     let e = string_end(s, kind, arg, next);
     let End::At(end) = e else {
@@ -222,10 +200,10 @@ fn late(
 pub fn is_too_deep(kind: u8, depth: usize) -> bool
     ensures { λ r. ⌜ r ≡ (isContainer kind && eqb depth 0) ⌝ }
 {
-    if kind < 4 {
+    if kind < cbor::ARRAY {
         return false;
     }
-    if 5 < kind {
+    if cbor::MAP < kind {
         return false;
     }
     depth == 0
@@ -236,10 +214,7 @@ fn no_head(h: cbor::Head, at: usize) -> Step
     ensures { λ r. ⌜ r ≡ noHead h at ⌝ }
 {
     match h {
-        cbor::Head::Bad(number) => Step::Refused {
-            number: number as u64,
-            place: at,
-        },
+        cbor::Head::Bad(number) => Step::Refused { number, place: at },
         cbor::Head::Good {
             kind: _,
             arg: _,
@@ -262,7 +237,7 @@ fn take_head(
     depth: usize,
 ) -> Step
     requires { ⌜ (all isByte (now s) ≡ true) × IsSlot slot × (prev .from ≤ prev .to) × (prev .to ≤ length (now s)) ⌝ }
-    ensures { λ r. ⌜ r ≡ stepAt (now (s .entry)) at (slotOf slot) (part (now (s .entry)) (prev .from) (prev .to)) (items - count) depth ⌝ }
+    ensures { λ r. ⌜ r ≡ stepAt (now (s .entry)) at (slotOf slot) (keyOf (part (now (s .entry)) (prev .from) (prev .to))) (items - count) depth ⌝ }
     ensures { λ r. ⌜ Bounded (now (s .entry)) at count items depth slot r ⌝ }
 {
     let h = cbor::head_at(s, at);
@@ -294,7 +269,7 @@ fn take_head(
             place: at,
         };
     }
-    late(s, at, slot, own, prev, kind, arg, next)
+    judge_content(s, at, slot, own, prev, kind, arg, next)
 }
 
 // The key before, for what is due next on a level.
@@ -336,17 +311,17 @@ fn walk_inside(
     slot: u64,
     kind: u8,
     arg: u64,
-    table: &mut [u64],
+    entries: &mut [u64],
 ) -> Walk
-    requires { ⌜ (all isByte (now s) ≡ true) × (length (now s) < 65536) × (depth + around < 256) × IsSlot slot × (at ≤ length (now s)) × (count ≤ items) ⌝ }
+    requires { ⌜ (all isByte (now s) ≡ true) × (depth + around < 2 ^ 64) × IsSlot slot × (at ≤ length (now s)) × (count ≤ items) ⌝ }
     requires { ⌜ (isContainer kind && eqb depth 0) ≡ false ⌝ }
-    ensures { λ r. ⌜ Walked (now (s .entry)) items (insideLevel (slotOf slot) kind arg) [] (pred depth) (suc around) at count r (now (table .entry)) (now (table .exit)) ⌝ }
+    ensures { λ r. ⌜ Walked (now (s .entry)) items (insideLevel (slotOf slot) kind arg) [] (pred depth) (suc around) at count r (now (entries .entry)) (now (entries .exit)) ⌝ }
 {
     let inner = grammar::inside(slot, kind, arg);
     match inner {
         grammar::Next::Done => Walk::Read { next: at, count },
         grammar::Next::Due { slot: a, more: b } => {
-            walk_level(s, at, count, items, depth - 1, around + 1, a, b, table)
+            walk_level(s, at, count, items, depth - 1, around + 1, a, b, entries)
         }
     }
 }
@@ -361,10 +336,10 @@ fn walk_level(
     around: usize,
     slot: u64,
     more: u64,
-    table: &mut [u64],
+    entries: &mut [u64],
 ) -> Walk
-    requires { ⌜ (all isByte (now s) ≡ true) × (length (now s) < 65536) × (depth + around < 256) × IsSlot slot × (at ≤ length (now s)) × (count ≤ items) ⌝ }
-    ensures { λ r. ⌜ Walked (now (s .entry)) items (due (slotOf slot) more) [] depth around at count r (now (table .entry)) (now (table .exit)) ⌝ }
+    requires { ⌜ (all isByte (now s) ≡ true) × (depth + around < 2 ^ 64) × IsSlot slot × (at ≤ length (now s)) × (count ≤ items) ⌝ }
+    ensures { λ r. ⌜ Walked (now (s .entry)) items (due (slotOf slot) more) [] depth around at count r (now (entries .entry)) (now (entries .exit)) ⌝ }
 {
     let mut p = at;
     let mut c = count;
@@ -386,12 +361,12 @@ fn walk_level(
             place,
             kind,
             arg,
-            table,
+            entries,
         );
         let Walk::Read { next: q, count: e } = r else {
             return r;
         };
-        close(table, c, p, q, around, place);
+        item_table::put(entries, c, p, q, around, place);
         prev = key_after(place, prev, p, after);
         let n = grammar::next_slot(place, arg, left);
         let grammar::Next::Due { slot: a, more: b } = n else {
@@ -407,17 +382,8 @@ fn walk_level(
 // An input is accepted with its item count, or refused.
 pub enum Answer {
     Accepted(usize),
-    Refused { number: u64, place: usize },
+    Refused { number: u8, place: usize },
 }
-
-// The limits of document 01, for all crates.
-pub const BYTES: usize = 4096;
-
-pub const ITEMS: usize = 1024;
-
-pub const CONTAINERS: usize = 12;
-
-pub const TEXT: usize = 32768;
 
 // A walk's refusal is the input's.
 fn refusal(w: Walk) -> Answer
@@ -433,18 +399,27 @@ fn refusal(w: Walk) -> Answer
 }
 
 // A single ARI within these limits.
-fn read_single(s: &[u8], bytes: usize, items: usize, containers: usize, table: &mut [u64]) -> Answer
-    requires { ⌜ (bytes < 65536) × (containers < 256) ⌝ }
-    ensures { λ r. ⌜ r ≡ answerOf (read (limitsOf bytes items containers) single (now (s .entry))) ⌝ }
-    ensures { λ r. ⌜ Kept single (now (s .entry)) r (now (table .entry)) (now (table .exit)) ⌝ }
+fn read_single(s: &[u8], limits: Limits, entries: &mut [u64]) -> Answer
+    ensures { λ r. ⌜ r ≡ answerOf (read limits Single (now (s .entry))) ⌝ }
+    ensures { λ r. ⌜ Kept Single (now (s .entry)) r (now (entries .entry)) (now (entries .exit)) ⌝ }
 {
-    if bytes < s.len() {
+    if limits.bytes < s.len() {
         return Answer::Refused {
             number: 1,
             place: 0,
         };
     }
-    let w = walk_level(s, 0, 0, items, containers, 0, 1, 0, table);
+    let w = walk_level(
+        s,
+        0,
+        0,
+        limits.items,
+        limits.containers,
+        0,
+        grammar::ARI_ALONE,
+        0,
+        entries,
+    );
     let Walk::Read { next, count } = w else {
         return refusal(w);
     };
@@ -471,14 +446,14 @@ fn stands(s: &[u8], at: usize, byte: u8, count: usize, items: usize) -> bool
 }
 
 // A message's version. The byte 01 is the only one that is accepted; of any other head the walk says what is wrong with it.
-fn walk_version(s: &[u8], items: usize, containers: usize, table: &mut [u64]) -> Walk
-    requires { ⌜ (all isByte (now s) ≡ true) × (length (now s) < 65536) × (containers < 256) ⌝ }
-    ensures { λ r. ⌜ Walked (now (s .entry)) items (due (slotOf 0) 0) [] containers 0 0 0 r (now (table .entry)) (now (table .exit)) ⌝ }
+fn walk_version(s: &[u8], items: usize, containers: usize, entries: &mut [u64]) -> Walk
+    requires { ⌜ (all isByte (now s) ≡ true) ⌝ }
+    ensures { λ r. ⌜ Walked (now (s .entry)) items (due (slotOf 0) 0) [] containers 0 0 0 r (now (entries .entry)) (now (entries .exit)) ⌝ }
 {
     if !stands(s, 0, 0x01, 0, items) {
-        return walk_level(s, 0, 0, items, containers, 0, 0, 0, table);
+        return walk_level(s, 0, 0, items, containers, 0, grammar::VERSION, 0, entries);
     }
-    close(table, 0, 0, 1, 0, 0);
+    item_table::put(entries, 0, 0, 1, 0, grammar::VERSION);
     Walk::Read { next: 1, count: 1 }
 }
 
@@ -489,22 +464,52 @@ fn walk_set(
     count: usize,
     items: usize,
     containers: usize,
-    table: &mut [u64],
+    entries: &mut [u64],
 ) -> Walk
-    requires { ⌜ (all isByte (now s) ≡ true) × (length (now s) < 65536) × (containers < 256) × (at ≤ length (now s)) × (count ≤ items) ⌝ }
-    ensures { λ r. ⌜ Walked (now (s .entry)) items (due (slotOf 2) 0) [] containers 0 at count r (now (table .entry)) (now (table .exit)) ⌝ }
+    requires { ⌜ (all isByte (now s) ≡ true) × (at ≤ length (now s)) × (count ≤ items) ⌝ }
+    ensures { λ r. ⌜ Walked (now (s .entry)) items (due (slotOf 2) 0) [] containers 0 at count r (now (entries .entry)) (now (entries .exit)) ⌝ }
 {
     if containers == 0 {
-        return walk_level(s, at, count, items, containers, 0, 2, 0, table);
+        return walk_level(
+            s,
+            at,
+            count,
+            items,
+            containers,
+            0,
+            grammar::ARI_MESSAGE,
+            0,
+            entries,
+        );
     }
     if !stands(s, at, 0x82, count, items) {
-        return walk_level(s, at, count, items, containers, 0, 2, 0, table);
+        return walk_level(
+            s,
+            at,
+            count,
+            items,
+            containers,
+            0,
+            grammar::ARI_MESSAGE,
+            0,
+            entries,
+        );
     }
-    let w = walk_level(s, at + 1, count + 1, items, containers - 1, 1, 6, 0, table);
+    let w = walk_level(
+        s,
+        at + 1,
+        count + 1,
+        items,
+        containers - 1,
+        1,
+        grammar::TYPE_MESSAGE,
+        0,
+        entries,
+    );
     let Walk::Read { next, count: e } = w else {
         return w;
     };
-    close(table, count, at, next, 0, 2);
+    item_table::put(entries, count, at, next, 0, grammar::ARI_MESSAGE);
     Walk::Read { next, count: e }
 }
 
@@ -515,15 +520,15 @@ fn walk_sets(
     count: usize,
     items: usize,
     containers: usize,
-    table: &mut [u64],
+    entries: &mut [u64],
 ) -> Walk
-    requires { ⌜ (all isByte (now s) ≡ true) × (length (now s) < 65536) × (containers < 256) × (at ≤ length (now s)) × (count ≤ items) ⌝ }
-    ensures { λ r. ⌜ SetsWalked (now (s .entry)) items containers at count r (now (table .entry)) (now (table .exit)) ⌝ }
+    requires { ⌜ (all isByte (now s) ≡ true) × (at ≤ length (now s)) × (count ≤ items) ⌝ }
+    ensures { λ r. ⌜ SetsWalked (now (s .entry)) items containers at count r (now (entries .entry)) (now (entries .exit)) ⌝ }
 {
     let mut p = at;
     let mut c = count;
     while p < s.len() {
-        let w = walk_set(s, p, c, items, containers, table);
+        let w = walk_set(s, p, c, items, containers, entries);
         let Walk::Read { next, count: e } = w else {
             return w;
         };
@@ -534,62 +539,56 @@ fn walk_sets(
 }
 
 // A message within these limits.
-fn read_message(
-    s: &[u8],
-    bytes: usize,
-    items: usize,
-    containers: usize,
-    table: &mut [u64],
-) -> Answer
-    requires { ⌜ (bytes < 65536) × (containers < 256) ⌝ }
-    ensures { λ r. ⌜ r ≡ answerOf (read (limitsOf bytes items containers) aMessage (now (s .entry))) ⌝ }
-    ensures { λ r. ⌜ Kept aMessage (now (s .entry)) r (now (table .entry)) (now (table .exit)) ⌝ }
+fn read_message(s: &[u8], limits: Limits, entries: &mut [u64]) -> Answer
+    ensures { λ r. ⌜ r ≡ answerOf (read limits Message (now (s .entry))) ⌝ }
+    ensures { λ r. ⌜ Kept Message (now (s .entry)) r (now (entries .entry)) (now (entries .exit)) ⌝ }
 {
-    if bytes < s.len() {
+    if limits.bytes < s.len() {
         return Answer::Refused {
             number: 1,
             place: 0,
         };
     }
-    let v = walk_version(s, items, containers, table);
+    let v = walk_version(s, limits.items, limits.containers, entries);
     let Walk::Read { next, count } = v else {
         return refusal(v);
     };
-    let w = walk_sets(s, next, count, items, containers, table);
+    let w = walk_sets(s, next, count, limits.items, limits.containers, entries);
     let Walk::Read { next: _, count: e } = w else {
         return refusal(w);
     };
     Answer::Accepted(e)
 }
 
-// A single ARI in binary form is checked.
+// An input is checked, and its items go into the lent table, as many as it has room for. The table is working memory: of a refused input it holds
+// what the walk had come to.
+pub fn keep(input: Input, limits: Limits, s: &[u8], entries: &mut [u64]) -> Answer
+    ensures { λ r. ⌜ r ≡ answerOf (read limits input (now (s .entry))) ⌝ }
+    ensures { λ r. ⌜ Kept input (now (s .entry)) r (now (entries .entry)) (now (entries .exit)) ⌝ }
+{
+    match input {
+        Input::Single => read_single(s, limits, entries),
+        Input::Message => read_message(s, limits, entries),
+    }
+}
+
+// An input is checked.
+pub fn check(input: Input, limits: Limits, s: &[u8]) -> Answer
+    ensures { λ r. ⌜ r ≡ answerOf (read limits input (now (s .entry))) ⌝ }
+{
+    let mut none = [0u64; 1];
+    keep(input, limits, s, &mut none[0..0])
+}
+
+// A single ARI in binary form, and a message, within the gate's own limits.
 pub fn check_single(s: &[u8]) -> Answer
-    ensures { λ r. ⌜ r ≡ answerOf (read firstLimits single (now (s .entry))) ⌝ }
+    ensures { λ r. ⌜ r ≡ answerOf (read firstLimits Single (now (s .entry))) ⌝ }
 {
-    let mut none = [0u64; 1];
-    read_single(s, BYTES, ITEMS, CONTAINERS, &mut none[0..0])
+    check(Input::Single, ari::LIMITS, s)
 }
 
-// A message is checked.
 pub fn check_message(s: &[u8]) -> Answer
-    ensures { λ r. ⌜ r ≡ answerOf (read firstLimits aMessage (now (s .entry))) ⌝ }
+    ensures { λ r. ⌜ r ≡ answerOf (read firstLimits Message (now (s .entry))) ⌝ }
 {
-    let mut none = [0u64; 1];
-    read_message(s, BYTES, ITEMS, CONTAINERS, &mut none[0..0])
-}
-
-// A single ARI is checked, and its items go into the lent table, as many as it has room for.
-pub fn keep_single(s: &[u8], table: &mut [u64]) -> Answer
-    ensures { λ r. ⌜ r ≡ answerOf (read firstLimits single (now (s .entry))) ⌝ }
-    ensures { λ r. ⌜ Kept single (now (s .entry)) r (now (table .entry)) (now (table .exit)) ⌝ }
-{
-    read_single(s, BYTES, ITEMS, CONTAINERS, table)
-}
-
-// A message is checked, and its items go into the lent table, as many as it has room for.
-pub fn keep_message(s: &[u8], table: &mut [u64]) -> Answer
-    ensures { λ r. ⌜ r ≡ answerOf (read firstLimits aMessage (now (s .entry))) ⌝ }
-    ensures { λ r. ⌜ Kept aMessage (now (s .entry)) r (now (table .entry)) (now (table .exit)) ⌝ }
-{
-    read_message(s, BYTES, ITEMS, CONTAINERS, table)
+    check(Input::Message, ari::LIMITS, s)
 }

@@ -1,43 +1,49 @@
 // The C archive: each answer is one number, as host/surfbodkin.h says.
 ghost use mathlib.Core.Path.{_≡_};
-ghost use Prim.Native.Nat.{_<_, _≤_};
-ghost use Rattle.ari.specs.Reader.{read, single, aMessage};
-ghost use Rattle.ari.specs.Limits.{firstLimits};
-ghost use Rattle.grants.specs.Bytes.{checkBytes, releaseBytes};
-ghost use Rattle.grants.specs.Verdict as verdict;
-ghost use Rattle.list.specs.Answers.{listOf, writtenOf, said};
+ghost use Prim.Native.Nat.{min};
 ghost use lib.ListN.{length};
+ghost use Rattle.ari.specs.declared.Input.the-variants.{Single, Message};
+ghost use Rattle.ari.specs.Reader.{read};
+ghost use Rattle.ari.specs.Limits.{firstLimits};
+ghost use Rattle.reader.specs.Answers.{answerOf};
+ghost use Rattle.grants.specs.Bytes.{checkBytes};
+ghost use Rattle.grants.specs.Verdict.{said};
+ghost use Rattle.listing.specs.Answers.{listOf, writtenOf as listedIn};
+ghost use Rattle.release.specs.Release.{releaseBytes, answerOf as releasedOf};
 ghost use Rattle.text.specs.Answer.{writeText, readText, lent};
-ghost use Rattle.text_write.specs.Written.{roomAfter};
-ghost use Rattle.surfbodkin.specs.Code.{refusalCode, countCode, checkCode, answerCode, Bounded, listCode, Few, tableCode, releaseCode, Small, outputCode, writtenCode, Short};
+ghost use Rattle.text_write.specs.Written.{writtenOf, roomAfter};
+ghost use Rattle.surfbodkin.specs.Code.{refusalCode, countCode, checkCode, listCode, tableCode, releaseCode, textCode};
 use grants::Verdict;
-use list::Listed;
-use list::Released;
+use listing::Listed;
 use reader::Answer;
+use release::Released;
 use text_write::Written;
 
+fn least(a: u64, b: u64) -> u64
+    ensures { λ r. ⌜ r ≡ min a b ⌝ }
+{
+    if a < b {
+        return a;
+    }
+    b
+}
+
 // The top byte is the refusal's number, the low 56 bits its place.
-fn refusal_code(number: u64, low: u64) -> u64
-    requires { ⌜ number < 256 ⌝ }
+fn refusal_code(number: u8, low: u64) -> u64
     ensures { λ r. ⌜ r ≡ refusalCode number low ⌝ }
 {
-    if 72057594037927935 < low {
-        return number * 72057594037927936 + 72057594037927935;
-    }
-    number * 72057594037927936 + low
+    number as u64 * 72057594037927936 + least(low, 72057594037927935)
 }
 
 // An acceptance: the item count in bits 32 to 55, a length or a number of entries below.
 fn count_code(count: usize, low: usize) -> u64
-    requires { ⌜ (count < 16777216) × (low < 4294967296) ⌝ }
     ensures { λ r. ⌜ r ≡ countCode count low ⌝ }
 {
-    count as u64 * 4294967296 + low as u64
+    least(count as u64, 16777215) * 4294967296 + least(low as u64, 4294967295)
 }
 
 fn check_code(a: Answer) -> u64
-    requires { ⌜ Bounded a ⌝ }
-    ensures { λ r. ⌜ r ≡ answerCode a ⌝ }
+    ensures { λ r. ⌜ r ≡ checkCode a ⌝ }
 {
     match a {
         Answer::Accepted(count) => count_code(count, 0),
@@ -47,20 +53,19 @@ fn check_code(a: Answer) -> u64
 
 #[no_mangle]
 pub extern "C" fn surfbodkin_check_single(input: &[u8]) -> u64
-    ensures { λ r. ⌜ r ≡ checkCode (read firstLimits single (now (input .entry))) ⌝ }
+    ensures { λ r. ⌜ r ≡ checkCode (answerOf (read firstLimits Single (now (input .entry)))) ⌝ }
 {
     check_code(reader::check_single(input))
 }
 
 #[no_mangle]
 pub extern "C" fn surfbodkin_check_message(input: &[u8]) -> u64
-    ensures { λ r. ⌜ r ≡ checkCode (read firstLimits aMessage (now (input .entry))) ⌝ }
+    ensures { λ r. ⌜ r ≡ checkCode (answerOf (read firstLimits Message (now (input .entry)))) ⌝ }
 {
     check_code(reader::check_message(input))
 }
 
 fn list_code(a: Listed) -> u64
-    requires { ⌜ Few a ⌝ }
     ensures { λ r. ⌜ r ≡ listCode a ⌝ }
 {
     match a {
@@ -72,13 +77,13 @@ fn list_code(a: Listed) -> u64
 #[no_mangle]
 pub extern "C" fn surfbodkin_list(message: &[u8], out: &mut [u8]) -> u64
     ensures { λ r. ⌜ r ≡ listCode (listOf firstLimits (now (message .entry)) (now (out .entry))) ⌝ }
-    ensures { λ r. ⌜ now (out .exit) ≡ writtenOf firstLimits (now (message .entry)) (now (out .entry)) ⌝ }
+    ensures { λ r. ⌜ now (out .exit) ≡ listedIn firstLimits (now (message .entry)) (now (out .entry)) ⌝ }
 {
-    list_code(list::list_message(message, out))
+    list_code(listing::list_message(message, out))
 }
 
 fn table_code(a: Verdict) -> u64
-    ensures { λ r. ⌜ r ≡ tableCode (verdict.said a) ⌝ }
+    ensures { λ r. ⌜ r ≡ tableCode (said a) ⌝ }
 {
     match a {
         Verdict::Passes => 0,
@@ -94,12 +99,11 @@ pub extern "C" fn surfbodkin_check_table(table: &[u8]) -> u64
 }
 
 fn release_code(a: Released) -> u64
-    requires { ⌜ Small (said a) ⌝ }
-    ensures { λ r. ⌜ r ≡ releaseCode (said a) ⌝ }
+    ensures { λ r. ⌜ r ≡ releaseCode (releasedOf a) ⌝ }
 {
     match a {
         Released::Yes => 0,
-        Released::No(entry) => refusal_code(255, entry as u64),
+        Released::No { entry } => refusal_code(255, entry as u64),
         Released::Refused { number, place } => refusal_code(number, place as u64),
     }
 }
@@ -108,12 +112,11 @@ fn release_code(a: Released) -> u64
 pub extern "C" fn surfbodkin_release(message: &[u8], table: &[u8], subscriber: u64) -> u64
     ensures { λ r. ⌜ r ≡ releaseCode (releaseBytes firstLimits (now (message .entry)) (now (table .entry)) subscriber) ⌝ }
 {
-    release_code(list::release(message, table, subscriber))
+    release_code(release::release_message(message, table, subscriber))
 }
 
-fn written_code(a: Written) -> u64
-    requires { ⌜ Short a ⌝ }
-    ensures { λ r. ⌜ r ≡ writtenCode a ⌝ }
+fn text_code(a: Written) -> u64
+    ensures { λ r. ⌜ r ≡ textCode a ⌝ }
 {
     match a {
         Written::Bytes { length, count } => count_code(count, length),
@@ -123,16 +126,16 @@ fn written_code(a: Written) -> u64
 
 #[no_mangle]
 pub extern "C" fn surfbodkin_write_text(ari: &[u8], out: &mut [u8]) -> u64
-    ensures { λ r. ⌜ r ≡ outputCode (lent (length (now (out .entry))) (writeText firstLimits (now (ari .entry)))) ⌝ }
+    ensures { λ r. ⌜ r ≡ textCode (writtenOf (lent (length (now (out .entry))) (writeText firstLimits (now (ari .entry))))) ⌝ }
     ensures { λ r. ⌜ now (out .exit) ≡ roomAfter (now (out .entry)) (lent (length (now (out .entry))) (writeText firstLimits (now (ari .entry)))) ⌝ }
 {
-    written_code(text_write::write_text(ari, out))
+    text_code(text_write::write_text(ari, out))
 }
 
 #[no_mangle]
 pub extern "C" fn surfbodkin_read_text(text: &[u8], out: &mut [u8]) -> u64
-    ensures { λ r. ⌜ r ≡ outputCode (lent (length (now (out .entry))) (readText firstLimits (now (text .entry)))) ⌝ }
+    ensures { λ r. ⌜ r ≡ textCode (writtenOf (lent (length (now (out .entry))) (readText firstLimits (now (text .entry))))) ⌝ }
     ensures { λ r. ⌜ now (out .exit) ≡ roomAfter (now (out .entry)) (lent (length (now (out .entry))) (readText firstLimits (now (text .entry)))) ⌝ }
 {
-    written_code(text_read::read_text(text, out))
+    text_code(text_read::read_text(text, out))
 }

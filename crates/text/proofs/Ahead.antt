@@ -5,7 +5,7 @@ use mathlib.Core.Bool.{Bool, true, false, _||_, cond, true≢false}
 use mathlib.Core.List.{List, [], _∷_, _++_, append-assoc}
 use lib.Dec.{eqb}
 use borrow.Author.Tests.{eqb-true, ne-eqb}
-use Rattle.cbor.specs.Byte.{all, isByte}
+use Rattle.buffer.specs.Bytes.{all, isByte}
 use Rattle.cbor.specs.Head.{array, simple, Lead, Sound, isContainer}
 use Rattle.ari.specs.Table.{Place, inner, ari, type, value, namespace, objectNamespace, params, done, due, ariLevel, rule, members}
 use Rattle.ari.specs.Items.{Items, none, item}

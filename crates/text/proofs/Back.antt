@@ -10,11 +10,12 @@ use lib.Seq.{drop-at}
 use lib.Dec.{eqb}
 use borrow.Author.Tests.{eqb-true, eqb-false, eq-eqb}
 use Rattle.cbor.specs.Head.{array, map, simple, Lead, Sound, isContainer}
-use Rattle.cbor.proofs.ByteLaws.{within-true}
+use Rattle.buffer.proofs.ByteLaws.{within-true}
 use Rattle.ari.specs.Table.{Place, param, outermost, Row, row, Slot, ari, type, value, namespace, objectNamespace, objectType, objectId, params, key, entry, Level, done, due, many, rule, members}
 use Rattle.ari.specs.Items.{Items, none, item, heads, depth}
 use Rattle.ari.specs.Decode.{Headed}
-use Rattle.ari.proofs.Due.{Good, Fit, prevAfter, members-leaf, container-string}
+use Rattle.ari.specs.Due.{Good}
+use Rattle.ari.proofs.Due.{Fit, prevAfter, members-leaf, container-string}
 use Rattle.ari.proofs.Rows.{fits-by, ArrayType, collection, orders, answers, array-type, map-type}
 use Rattle.ari.proofs.RulesFit.{Here}
 use Rattle.ari.proofs.FitRules.{here}

@@ -3,9 +3,9 @@ use Prim.Native.Nat.{ℕ, zero, suc}
 use mathlib.Core.Path.{_≡_, refl}
 use mathlib.Core.Bool.{Bool, true, false, cond}
 use lib.Dec.{eqb}
-use Rattle.cbor.specs.Byte.{all, isByte}
+use Rattle.buffer.specs.Bytes.{all, isByte}
 use Rattle.cbor.specs.Head.{array, map, Lead}
-use Rattle.cbor.proofs.ByteLaws.{or-false}
+use Rattle.buffer.proofs.ByteLaws.{or-false}
 use Rattle.ari.specs.Table.{Place, alone, message, inside, param, inner, outermost, Slot, ari, type, value, namespace, objectNamespace, objectType, objectId, params, key, entry, Level, done, due, many, ariLevel, valueLevel, rule, fits, members}
 use Rattle.ari.specs.Items.{Items, none, item}
 use Rattle.text.specs.Text.{isFloat}

@@ -9,11 +9,11 @@ use lib.ListN.{length, length-append}
 use lib.Dec.{ltb, leb, eqb}
 use borrow.Author.Tests.{ltb-true, ltb-false, leb-true, leb-false}
 use Rattle.cbor.specs.Head.{negative, bytes, text, array, simple, Lead, Sound, width, leadBytes, isContainer}
-use Rattle.cbor.proofs.ByteLaws.{and-true}
+use Rattle.buffer.proofs.ByteLaws.{and-true}
 use Rattle.cbor.proofs.HeadLaws.{Carries, itself, after, sound-carries, length-lead}
 use Rattle.ari.specs.Table.{Slot, version, ari, type, value, namespace, objectNamespace, objectType, objectId, params, key, entry, nonce, setTime, target, report, reportTime, reportSource, Level, done, due, rule, members}
 use Rattle.ari.specs.Items.{Items, none, item, encode, heads}
-use Rattle.ari.specs.Decode.{Well}
+use Rattle.ari.proofs.Well.{Well}
 use Rattle.text.specs.Chars.{ascii, digits, decimal, integer, hexes, bare, escape, each, textString, byteString, simpleText, literalText, nameText}
 use Rattle.text.specs.Text.{Name, name, names, nameIn, typeName, comma, anAri, absolute, spell, texts, anAriDue, isRelative, textOf}
 use Rattle.text.proofs.Decimal.{length-digits, length-fuel}

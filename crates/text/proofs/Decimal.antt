@@ -8,8 +8,8 @@ use native.Mathlib.Nat.{zero-add}
 use lib.ListN.{length, length-append}
 use lib.Dec.{ltb, eqb}
 use borrow.Author.Tests.{ltb-true, ltb-false, le-leb}
-use Rattle.cbor.specs.Byte.{within, all}
-use Rattle.cbor.proofs.ByteLaws.{and-true, or-right, within-is}
+use Rattle.buffer.specs.Bytes.{within, all}
+use Rattle.buffer.proofs.ByteLaws.{and-true, or-right, within-is}
 use Rattle.ari.specs.Table.{max64}
 use Rattle.text.specs.Chars.{digits}
 use Rattle.text.specs.Parse.{startsBy, push, number}

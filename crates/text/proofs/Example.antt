@@ -7,7 +7,7 @@ use Rattle.cbor.specs.Head.{width, shortest, majorOf, kindOf, argument, leadByt
 use Rattle.cbor.specs.Utf8.{utf8From}
 use Rattle.ari.specs.Name.{startsName, continuesName, identifier, namespaceName}
 use Rattle.ari.specs.Table.{types, rule, members}
-use Rattle.ari.specs.Reader.{judge, judgeGot, takeStep, visit, run, read}
+use Rattle.ari.specs.Reader.{judge, judgeContent, judgeGot, takeStep, visit, run, read}
 use Rattle.ari.specs.Decode.{traceGot, trace, build, decode}
 use Rattle.ari.specs.Limits.{firstLimits}
 use Rattle.text.specs.Chars.{ascii, digits, decimal, integer, hex, bare, escape, textString, byteString, simpleText, literalText, nameText}
@@ -43,5 +43,5 @@ examples =
     ∷ []
 
 pub the-examples : Hold examples
-unfolding utf8From width shortest majorOf kindOf argument leadBytes shortBytes badSingle badDouble badHalf badFloat unused notShortest getFrom getHead stringSize isContainer arity startsName continuesName identifier namespaceName types rule members judge judgeGot takeStep visit run read traceGot trace build decode digits decimal integer hex bare escape textString byteString simpleText literalText nameText names typeName spell isRelative textOf isFloat isSet form ends inWord front past startsBy push number unhex unescape unhexes inner leadOf integerOf literalOf startsNumber nameOf typeNumber typeOf opened commas count parts takeAri takeAt level parse candidate writeText readText
+unfolding utf8From width shortest majorOf kindOf argument leadBytes shortBytes badSingle badDouble badHalf badFloat unused notShortest getFrom getHead stringSize isContainer arity startsName continuesName identifier namespaceName types rule members judge judgeContent judgeGot takeStep visit run read traceGot trace build decode digits decimal integer hex bare escape textString byteString simpleText literalText nameText names typeName spell isRelative textOf isFloat isSet form ends inWord front past startsBy push number unhex unescape unhexes inner leadOf integerOf literalOf startsNumber nameOf typeNumber typeOf opened commas count parts takeAri takeAt level parse candidate writeText readText
 the-examples = (refl, refl, (refl, refl, (refl, refl, (refl, refl, (refl, refl, (refl, refl, (refl, refl, (refl, refl, (refl, (refl, (refl, (refl, tt))))))))))))

@@ -7,10 +7,10 @@ use native.Mathlib.Omega.{arith}
 use lib.ListN.{length}
 use lib.Dec.{leb, eqb}
 use borrow.Author.Tests.{leb-true, leb-false, eqb-true, eqb-false, le-leb, lt-leb}
-use Rattle.cbor.specs.Byte.{within, all, isByte}
+use Rattle.buffer.specs.Bytes.{within, all, isByte}
 use Rattle.cbor.specs.Head.{unsigned, negative, bytes, text, map, simple, Lead, shortest, Sound, counted, a-simple, a-float, stringSize, isContainer}
 use mathlib.Core.Logic.{_⊎_, inl, inr}
-use Rattle.cbor.proofs.ByteLaws.{and-true, or-true, not-true, not-false}
+use Rattle.buffer.proofs.ByteLaws.{and-true, or-true, not-true, not-false}
 use Rattle.cbor.proofs.HeadLaws.{sound-64}
 use Rattle.ari.specs.Name.{identifier, namespaceName}
 use Rattle.ari.specs.Table.{Place, alone, message, inside, param, max63, outermost, Row, row, uintTo, nintTo, anyText, isNull, Entry, entryOf, types, typeRows, valueRows, valueSpelling, fits}

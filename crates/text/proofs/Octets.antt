@@ -8,12 +8,12 @@ use native.Mathlib.Nat.{mod-lt, div-lt-iff-lt-mul, pow-suc, mul-comm}
 use lib.ListN.{length, take, drop, length-append, length-take, length-drop}
 use lib.Dec.{leb, eqb}
 use borrow.Author.Tests.{leb-true, lt-ltb, le-leb}
-use Rattle.cbor.specs.Byte.{be, within, all, isByte}
+use Rattle.buffer.specs.Bytes.{be, within, all, isByte}
 use Rattle.cbor.specs.Head.{unsigned, negative, bytes, text, array, map, simple, Lead, width, majorOf, leadBytes}
-use Rattle.cbor.proofs.ByteLaws.{and-true, within-true, pow-pos, all-take, all-drop}
+use Rattle.buffer.proofs.ByteLaws.{and-true, within-true, pow-pos, all-take, all-drop}
 use Rattle.cbor.proofs.HeadLaws.{Carries, itself, after, carries-lt, width-small, shortest-carries}
 use Rattle.ari.specs.Table.{max64, Slot, version, ari, type, value, namespace, objectNamespace, objectType, objectId, params, key, entry, nonce, setTime, target, report, reportTime, reportSource, Level, done, due, rule, members}
-use Rattle.ari.specs.Reader.{Limits}
+use Rattle.ari.specs.declared.Limits.{Limits}
 use Rattle.ari.specs.Items.{none, encode}
 use Rattle.ari.specs.Decode.{Headed}
 use Rattle.text.specs.Chars.{ascii}

@@ -7,11 +7,12 @@ use native.Mathlib.Omega.{arith}
 use lib.ListN.{length, drop}
 use lib.Dec.{eqb}
 use borrow.Author.Tests.{eqb-true}
-use Rattle.cbor.specs.Byte.{all, isByte}
+use Rattle.buffer.specs.Bytes.{all, isByte}
 use Rattle.cbor.specs.Head.{array, simple, Lead, leadBytes}
-use Rattle.cbor.proofs.ByteLaws.{and-true}
+use Rattle.buffer.proofs.ByteLaws.{and-true}
 use Rattle.ari.specs.Table.{Place, alone, inside, ari, Row, row, Level, done, due, types, typeRows, rule, fits, members}
-use Rattle.ari.specs.Reader.{Limits, single}
+use Rattle.ari.specs.declared.Limits.{Limits}
+use Rattle.ari.specs.declared.Input.the-variants.{Single}
 use Rattle.ari.specs.Items.{Items, none, item, encode, heads, depth, Spot, insideAt, spots}
 use Rattle.ari.specs.Rules.{Ari, literal, namespace-ref, typed, object-ref, plain, with-params, Stands, an-ari}
 use Rattle.ari.proofs.Due.{Fit, prevAfter}
@@ -124,7 +125,7 @@ pub texted : (g : Items) → form g ≡ spelled → (isSet g ≡ false) × (floa
 unfolding form
 texted g e = no-float (isSet g) 0 (floatIn (spots g false (due (ari alone) 0) 0 0)) e
 
-pub candidate-back : (m : Limits) {g : Items} → Stands single g → form g ≡ spelled → all isByte (encode g) ≡ true → depth g ≤ m .containers → heads g ≤ m .items
+pub candidate-back : (m : Limits) {g : Items} → Stands Single g → form g ≡ spelled → all isByte (encode g) ≡ true → depth g ≤ m .containers → heads g ≤ m .items
     → candidate m (textOf g) ≡ g
 unfolding candidate parse rule
 candidate-back m (an-ari {l = l} {s = s} {ms = ms} a) e b d k =

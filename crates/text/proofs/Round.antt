@@ -8,10 +8,12 @@ use native.Mathlib.Omega.{arith}
 use lib.ListN.{length}
 use lib.Dec.{ltb, eqb}
 use borrow.Author.Tests.{ltb-true, ltb-false, eqb-true, eq-eqb}
-use Rattle.cbor.specs.Byte.{all, isByte}
-use Rattle.cbor.proofs.ByteLaws.{and-true}
+use Rattle.buffer.specs.Bytes.{all, isByte}
+use Rattle.buffer.proofs.ByteLaws.{and-true}
 use Rattle.ari.specs.Table.{max64, alone, ari, due}
-use Rattle.ari.specs.Reader.{Limits, Answer, refuse, accept, single, read}
+use Rattle.ari.specs.declared.Limits.{Limits}
+use Rattle.ari.specs.declared.Input.the-variants.{Single}
+use Rattle.ari.specs.Reader.{Answer, refuse, accept, read}
 use Rattle.ari.specs.Items.{encode, heads}
 use Rattle.ari.specs.Decode.{decode}
 use Rattle.ari.specs.Rules.{Is}
@@ -49,13 +51,13 @@ module _ (m : Limits) where
   module _ {t b : List ℕ} {n : ℕ} (o : all isByte b ≡ true) where
     written-spelled : writeText m b ≡ output t n → Spelled m t b n
     unfolding writeText
-    written-spelled e = go (read m single b) refl (form (decode b)) refl e
+    written-spelled e = go (read m Single b) refl (form (decode b)) refl e
       where
-        go : (x : Answer) → read m single b ≡ x → (f : Form) → form (decode b) ≡ f → written x (decode b) ≡ output t n → Spelled m t b n
+        go : (x : Answer) → read m Single b ≡ x → (f : Form) → form (decode b) ≡ f → written x (decode b) ≡ output t n → Spelled m t b n
         go (refuse r p) q f g h = absurd (never h)
         go (accept k) q spelled g h =
             let h′ : output (textOf (decode b)) k ≡ output t n = rw g at h in
-            let i = demand-two m single b k o .0 q in
+            let i = demand-two m Single b k o .0 q in
             let z : k ≡ n = cc in
             let y : textOf (decode b) ≡ t = cc in
             record { is = rw z at i; has-text = g; the-text = y }
@@ -63,7 +65,7 @@ module _ (m : Limits) where
 
     spelled-written : Spelled m t b n → writeText m b ≡ output t n
     unfolding writeText
-    spelled-written c = rw (demand-two m single b n o .1 (c .is), c .has-text, c .the-text)
+    spelled-written c = rw (demand-two m Single b n o .1 (c .is), c .has-text, c .the-text)
 
     pub write-exactly : (writeText m b ≡ output t n) ↔ Spelled m t b n
     write-exactly = (written-spelled, spelled-written)
@@ -83,14 +85,14 @@ module _ (m : Limits) where
         rw (c .the-text, i .bytes, i .count) at (text-most (decode b) (well-fit (decode b) false (due (ari alone) 0) [] (stands-fit (i .stands))))
 
   -- what the reader refuses is refused so
-  pub write-refused : (b : List ℕ) (r p : ℕ) → read m single b ≡ refuse r p → writeText m b ≡ refused r p
+  pub write-refused : (b : List ℕ) (r p : ℕ) → read m Single b ≡ refuse r p → writeText m b ≡ refused r p
   unfolding writeText
   write-refused b r p e = rw e
 
   -- "accepted, but has no text form" is 14
-  pub write-no-text : (b : List ℕ) (n p : ℕ) → all isByte b ≡ true → Is m single b (decode b) n → form (decode b) ≡ none-at p → writeText m b ≡ refused 14 p
+  pub write-no-text : (b : List ℕ) (n p : ℕ) → all isByte b ≡ true → Is m Single b (decode b) n → form (decode b) ≡ none-at p → writeText m b ≡ refused 14 p
   unfolding writeText
-  write-no-text b n p o i e = rw (demand-two m single b n o .1 i, e)
+  write-no-text b n p o i e = rw (demand-two m Single b n o .1 i, e)
 
   -- the candidate of a text, and whether it is written so
   abbrev tried : List ℕ → List ℕ

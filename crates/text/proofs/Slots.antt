@@ -4,7 +4,7 @@ use mathlib.Core.Path.{_≡_, refl, sym, _∙_, ap}
 use mathlib.Core.Bool.{Bool, true, false, true≢false}
 use lib.Dec.{eqb}
 use mathlib.Core.List.{List, []}
-use Rattle.cbor.specs.Byte.{all, isByte}
+use Rattle.buffer.specs.Bytes.{all, isByte}
 use Rattle.cbor.specs.Head.{unsigned, array, Lead, Sound, isContainer}
 use Rattle.ari.specs.Table.{Place, Slot, ari, type, value, namespace, objectNamespace, objectType, objectId, key, entry, literals, types, valueRows, valueSpelling, done, rule}
 use Rattle.ari.specs.Items.{Items, none, item}

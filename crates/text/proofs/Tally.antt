@@ -6,9 +6,9 @@ use mathlib.Core.List.{List, [], _∷_, _++_, append-assoc}
 use native.Mathlib.Omega.{arith}
 use lib.Dec.{eqb}
 use borrow.Author.Tests.{ne-eqb}
-use Rattle.cbor.specs.Byte.{all, isByte}
+use Rattle.buffer.specs.Bytes.{all, isByte}
 use Rattle.cbor.specs.Head.{array, map, simple, Lead, isContainer}
-use Rattle.cbor.proofs.ByteLaws.{and-true}
+use Rattle.buffer.proofs.ByteLaws.{and-true}
 use Rattle.ari.specs.Table.{Own, one, rising, filled, Place, Slot, ari, type, value, namespace, objectNamespace, objectType, objectId, key, Level, done, due, many, ariLevel, rule, members}
 use Rattle.ari.specs.Items.{Items, none, item}
 use Rattle.ari.specs.Rules.{Ari}

@@ -10,9 +10,9 @@ use lib.ListN.{length, length-append}
 use lib.Seq.{take-at, drop-at}
 use lib.Dec.{ltb, eqb}
 use borrow.Author.Tests.{ltb-true, eqb-true, eqb-false, lt-leb, ne-eqb}
-use Rattle.cbor.specs.Byte.{within, all, isByte}
+use Rattle.buffer.specs.Bytes.{within, all, isByte}
 use Rattle.cbor.specs.Head.{unsigned, negative, bytes, text, simple, Lead}
-use Rattle.cbor.proofs.ByteLaws.{and-true, or-true, not-true, within-true}
+use Rattle.buffer.proofs.ByteLaws.{and-true, or-true, not-true, within-true}
 use Rattle.ari.specs.Name.{startsName, continuesName, identifier, namespaceName}
 use Rattle.ari.specs.Table.{max64, max63}
 use Rattle.text.specs.Chars.{digits, decimal, integer, hex, hexes, bare, escape, each, textString, byteString, simpleText, literalText, nameText}

@@ -5,7 +5,9 @@ use mathlib.Core.Bool.{cond}
 use mathlib.Core.List.{List}
 use lib.ListN.{length}
 use lib.Dec.{ltb}
-use Rattle.ari.specs.Reader.{Limits, Answer, refuse, accept, single, read}
+use Rattle.ari.specs.declared.Limits.{Limits}
+use Rattle.ari.specs.declared.Input.the-variants.{Single}
+use Rattle.ari.specs.Reader.{Answer, refuse, accept, read}
 use Rattle.ari.specs.Items.{Items, encode}
 use Rattle.ari.specs.Decode.{decode}
 use Rattle.ari.specs.Rules.{Is}
@@ -14,7 +16,7 @@ use Rattle.text.specs.Parse.{same, candidate}
 
 -- The bytes b are an accepted ARI of n items that has a text form, and its text is t.
 pub record Spelled (m : Limits) (t b : List ℕ) (n : ℕ) : Type 0 where
-  pub is : Is m single b (decode b) n
+  pub is : Is m Single b (decode b) n
   pub has-text : form (decode b) ≡ spelled
   pub the-text : textOf (decode b) ≡ t
 
@@ -34,7 +36,7 @@ written (accept n) g = spellOut (form g) (textOf g) n
 
 -- from binary to text
 unfoldable pub writeText : Limits → List ℕ → Output
-writeText l b = written (read l single b) (decode b)
+writeText l b = written (read l Single b) (decode b)
 
 -- "text that isn't the text of an accepted ARI" is 15: these bytes are written as this text, or it is none
 abbrev pub checked : List ℕ → List ℕ → Output → Output

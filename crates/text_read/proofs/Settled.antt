@@ -9,8 +9,10 @@ use lib.ListN.{length, take, drop, getD}
 use lib.Seq.{length-take-le}
 use lib.Dec.{ltb, leb, eqb}
 use borrow.Author.Tests.{lt-ltb, le-ltb, ltb-true, ltb-false, leb-true, leb-false, ne-eqb, eq-eqb, not-true, not-false}
-use Rattle.cbor.specs.Byte.{all, isByte}
-use Rattle.ari.specs.Reader.{Limits, read, single}
+use Rattle.buffer.specs.Bytes.{all, isByte}
+use Rattle.ari.specs.declared.Limits.{Limits}
+use Rattle.ari.specs.declared.Input.the-variants.{Single}
+use Rattle.ari.specs.Reader.{read}
 use Rattle.ari.specs.Items.{encode}
 use Rattle.ari.specs.Limits.{firstLimits}
 use Rattle.text.specs.Text.{anAriDue}

@@ -11,8 +11,8 @@ use lib.ListN.{length, take, drop, getD, length-take, length-drop}
 use lib.Seq.{drop-drop, take-nil, take-take, length-take-le}
 use lib.Dec.{ltb, leb, eqb}
 use borrow.Author.Tests.{lt-ltb, le-ltb, ltb-true, ltb-false, leb-true, eq-eqb, ne-eqb, eqb-true, eqb-false}
-use Rattle.cbor.specs.Byte.{be, value, all, isByte}
-use Rattle.cbor.proofs.ByteLaws.{and-true, value-lt, be-value, all-take, all-drop}
+use Rattle.buffer.specs.Bytes.{be, value, all, isByte}
+use Rattle.buffer.proofs.ByteLaws.{and-true, value-lt, be-value, all-take, all-drop}
 use Rattle.ari.specs.Decode.{Headed}
 use Rattle.reader.specs.Steps.{part}
 use Rattle.text.specs.Chars.{ascii}

@@ -10,9 +10,9 @@ use lib.ListN.{length, take, drop, getD, drop-of-length-le, length-drop}
 use lib.Seq.{drop-cons, drop-drop, drop-length, drop-nil}
 use lib.Dec.{ltb, leb, eqb}
 use borrow.Author.Tests.{lt-ltb, le-ltb, le-leb, lt-leb, eq-eqb, ne-eqb}
-use Rattle.cbor.specs.Byte.{be, within}
+use Rattle.buffer.specs.Bytes.{be, within}
 use Rattle.cbor.specs.Head.{width, shortest, majorOf, leadBytes}
-use Rattle.cbor.proofs.ByteLaws.{be-join}
+use Rattle.buffer.proofs.ByteLaws.{be-join}
 use Rattle.cbor.proofs.HeadLaws.{width-small}
 use Rattle.ari.specs.Table.{max64}
 use Rattle.reader.specs.Steps.{part}

@@ -8,9 +8,9 @@ use lib.ListN.{length, drop, List·getD-eq-default}
 use lib.Dec.{ltb, leb, eqb}
 use borrow.Author.Tests.{ltb-true, ltb-false, leb-true, eqb-true, ne-eqb}
 use mir.Val.{boolByte}
-use Rattle.cbor.specs.Byte.{within}
+use Rattle.buffer.specs.Bytes.{within}
 use Rattle.cbor.specs.Head.{leadBytes, isContainer}
-use Rattle.cbor.proofs.ByteLaws.{and-true, within-true}
+use Rattle.buffer.proofs.ByteLaws.{and-true, within-true}
 use Rattle.cbor.proofs.Computed.{allFrom, all-at}
 use Rattle.ari.specs.Table.{Slot, version, ari, type, value, namespace, objectNamespace, objectType, objectId, params, key, entry, nonce, setTime, target, report, reportTime, reportSource}
 use Rattle.grammar.specs.Code.{slots, slotOf}

@@ -3,7 +3,7 @@ ghost use mathlib.Core.Path.{_≡_};
 ghost use mathlib.Core.List.{[], _∷_, _++_};
 ghost use Prim.Native.Nat.{_+_, _*_, _<_, _≤_, _^_};
 ghost use lib.ListN.{length, drop, getD};
-ghost use Rattle.cbor.specs.Byte.{be};
+ghost use Rattle.buffer.specs.Bytes.{be};
 ghost use Rattle.cbor.specs.Head.{leadBytes};
 ghost use Rattle.grammar.specs.Code.{slotOf};
 ghost use Rattle.buffer.specs.Put.{Put};

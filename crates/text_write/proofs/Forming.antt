@@ -7,16 +7,19 @@ use native.Mathlib.Omega.{arith}
 use lib.ListN.{length, drop, length-append, length-drop}
 use lib.Dec.{leb, eqb}
 use borrow.Author.Tests.{le-leb, lt-leb, eq-eqb, ne-eqb, eqb-true}
-use Rattle.cbor.specs.Byte.{all, isByte}
+use Rattle.buffer.specs.Bytes.{all, isByte}
 use Rattle.cbor.specs.Head.{Lead, Sound, size, leadBytes, stringSize, isContainer}
 use Rattle.cbor.specs.Answer.{headAt, Passed}
 use Rattle.cbor.specs.declared.Head.{Head}
 use Rattle.cbor.specs.declared.Head.the-variants.{Bad, Good}
 use Rattle.cbor.proofs.HeadLaws.{length-lead}
 use Rattle.ari.specs.Table.{alone, ari, Level, done, due, rule, members, ariLevel, referenceLevel}
-use Rattle.ari.specs.Reader.{Limits, single, read, refuse, accept, end, push}
+use Rattle.ari.specs.declared.Limits.{Limits}
+use Rattle.ari.specs.declared.Input.the-variants.{Single}
+use Rattle.ari.specs.Reader.{read, refuse, accept, end, push}
 use Rattle.ari.specs.Items.{Items, none, item, encode, Spot, spots, insideAt}
-use Rattle.ari.specs.Decode.{decode, Well}
+use Rattle.ari.proofs.Well.{Well}
+use Rattle.ari.specs.Decode.{decode}
 use Rattle.ari.specs.Rules.{Is}
 use Rattle.ari.specs.Limits.{firstLimits}
 use Rattle.ari.proofs.Due.{Fit, prevAfter, container-string}
@@ -235,7 +238,7 @@ no-float-form spelled e = refl
 no-float-form (none-at p) e = absurd (let z : _≡_ {A = ℕ} 0 1 = cc in omega arith)
 
 -- test 14 of an accepted ARI
-module _ (b : List ℕ) (n : ℕ) (i : Is firstLimits single b (decode b) n) where
+module _ (b : List ℕ) (n : ℕ) (i : Is firstLimits Single b (decode b) n) where
   abbrev tree : Items
   tree = decode b
 
@@ -256,7 +259,7 @@ module _ (b : List ℕ) (n : ℕ) (i : Is firstLimits single b (decode b) n) whe
     unfolding spellingOf writeText form
     a-set s =
         let t : isSet tree ≡ true = ap (λ (x : Outer). x .set) (sym outer-right ∙ sym e) ∙ s in
-        rw (demand-two firstLimits single b n bs .1 i, t)
+        rw (demand-two firstLimits Single b n bs .1 i, t)
 
     module _ (s : o .set ≡ false) {f : Float} (c : FloatAt b 0 f) where
       unset : isSet tree ≡ false
@@ -266,17 +269,17 @@ module _ (b : List ℕ) (n : ℕ) (i : Is firstLimits single b (decode b) n) whe
       unfolding spellingOf writeText form
       has-float q =
           let t = float-form (floatIn (spots tree false (due (ari alone) 0) 0 0)) (sym (c .told (spots tree false (due (ari alone) 0) 0 0) all-laid) ∙ q) in
-          rw (demand-two firstLimits single b n bs .1 i, unset, t)
+          rw (demand-two firstLimits Single b n bs .1 i, unset, t)
 
       pub has-form : f ≡ Nowhere → spellings.Has (o .relative) n ≡ spellingOf b
       unfolding spellingOf writeText form
       has-form q =
           let t = no-float-form (floatIn (spots tree false (due (ari alone) 0) 0 0)) (sym (c .told (spots tree false (due (ari alone) 0) 0 0) all-laid) ∙ q) in
           let r : o .relative ≡ isRelative tree = ap (λ (x : Outer). x .relative) (e ∙ outer-right) in
-          rw (demand-two firstLimits single b n bs .1 i, unset, t, r)
+          rw (demand-two firstLimits Single b n bs .1 i, unset, t, r)
 
 -- the reading's answer
-module _ (b : List ℕ) {a : Answer} (e : a ≡ answerOf (read firstLimits single b)) where
+module _ (b : List ℕ) {a : Answer} (e : a ≡ answerOf (read firstLimits Single b)) where
   accepted-by : (x : Rattle.ari.specs.Reader.Answer) {n : ℕ} → answerOf x ≡ answers.Accepted n → x ≡ accept n
   accepted-by (refuse r p) q = absurd (let z : _≡_ {A = ℕ} 0 1 = cc in omega arith)
   accepted-by (accept n) q = cc
@@ -285,12 +288,12 @@ module _ (b : List ℕ) {a : Answer} (e : a ≡ answerOf (read firstLimits singl
   refused-by (refuse r p) q = cc
   refused-by (accept n) q = absurd (let z : _≡_ {A = ℕ} 0 1 = cc in omega arith)
 
-  pub is-accepted : {n : ℕ} → all isByte b ≡ true → a ≡ answers.Accepted n → Is firstLimits single b (decode b) n
-  is-accepted {n} bs q = demand-two firstLimits single b n bs .0 (accepted-by (read firstLimits single b) (sym e ∙ q))
+  pub is-accepted : {n : ℕ} → all isByte b ≡ true → a ≡ answers.Accepted n → Is firstLimits Single b (decode b) n
+  is-accepted {n} bs q = demand-two firstLimits Single b n bs .0 (accepted-by (read firstLimits Single b) (sym e ∙ q))
 
   pub is-refused : {r p : ℕ} → a ≡ answers.Refused r p → spellings.None r p ≡ spellingOf b
   unfolding spellingOf writeText
-  is-refused q = rw (refused-by (read firstLimits single b) (sym e ∙ q))
+  is-refused q = rw (refused-by (read firstLimits Single b) (sym e ∙ q))
 
 -- the whole text
 pub scheme-none : (room : List ℕ) (x : Bool) → x ≡ true → Put room room 0 0 (schemeOf x)

@@ -8,14 +8,16 @@ use lib.ListN.{length, take, drop}
 use lib.Seq.{sets, sets-eq, take-append-seam}
 use lib.Dec.{ltb}
 use borrow.Author.Tests.{lt-ltb, le-ltb}
-use Rattle.cbor.specs.Byte.{all, isByte}
+use Rattle.buffer.specs.Bytes.{all, isByte}
 use Rattle.ari.specs.Table.{rule, due, ari, inside}
-use Rattle.ari.specs.Reader.{single, end, push}
+use Rattle.ari.specs.declared.Input.the-variants.{Single}
+use Rattle.ari.specs.Reader.{end, push}
 use Rattle.ari.specs.Items.{Items, encode, depth}
 use Rattle.ari.specs.Decode.{decode}
 use Rattle.ari.specs.Rules.{Is, Stands, an-ari}
 use Rattle.ari.specs.Limits.{firstLimits}
-use Rattle.ari.proofs.Due.{Fit, Due, unsplit}
+use Rattle.ari.specs.Due.{Due}
+use Rattle.ari.proofs.Due.{Fit, unsplit}
 use Rattle.ari.proofs.Decoded.{heads-encode}
 use Rattle.ari.proofs.RulesFit.{here-ari}
 use Rattle.text.specs.Text.{texts, anAriDue, isRelative, isSet, textOf}
@@ -71,7 +73,7 @@ module _ (b : List ℕ) (count : ℕ) (room : List ℕ) where
         rw (le-ltb (length room) (length b) g) y
 
 -- an ARI with a text form may stand inside another
-inside-fit : {g : Items} → Stands single g → isSet g ≡ false → Fit g false anAriDue []
+inside-fit : {g : Items} → Stands Single g → isSet g ≡ false → Fit g false anAriDue []
 unfolding rule
 inside-fit (an-ari a) n = let h = here-ari [] (inward a n) in (h .good, h .holds, tt)
 

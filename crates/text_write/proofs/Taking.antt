@@ -7,7 +7,7 @@ use native.Mathlib.Omega.{arith}
 use lib.ListN.{length, drop, length-append, length-drop}
 use lib.Dec.{ltb, leb, eqb}
 use borrow.Author.Tests.{lt-ltb, le-ltb, ltb-true, ltb-false}
-use Rattle.cbor.specs.Byte.{within}
+use Rattle.buffer.specs.Bytes.{within}
 use Rattle.cbor.specs.Head.{Lead, size, leadBytes, getHead, stringSize, isContainer}
 use Rattle.cbor.specs.Answer.{headAt, Passed}
 use Rattle.cbor.specs.declared.Head.{Head}
@@ -15,7 +15,7 @@ use Rattle.cbor.specs.declared.Head.the-variants.{Bad}
 use Rattle.cbor.specs.declared.Head.the-variants as heads
 use Rattle.cbor.proofs.HeadLaws.{getHead-back, length-lead}
 use Rattle.ari.specs.Table.{rule}
-use Rattle.ari.proofs.Due.{Good}
+use Rattle.ari.specs.Due.{Good}
 use Rattle.grammar.specs.Code.{slotOf}
 use Rattle.reader.specs.declared.End.{End}
 use Rattle.reader.specs.declared.End.the-variants.{At, Short}

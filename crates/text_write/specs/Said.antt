@@ -9,7 +9,7 @@ use Rattle.cbor.specs.Head.{Lead, size, leadBytes, isContainer}
 use Rattle.ari.specs.Table.{Level}
 use Rattle.ari.specs.Reader.{end, push}
 use Rattle.ari.specs.Items.{Items, encode}
-use Rattle.ari.proofs.Due.{Good, Due}
+use Rattle.ari.specs.Due.{Good, Due}
 use Rattle.grammar.specs.Code.{slotOf}
 use Rattle.text.specs.Text.{texts}
 use Rattle.buffer.specs.Put.{Put}

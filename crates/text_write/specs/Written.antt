@@ -9,7 +9,7 @@ use Rattle.ari.specs.Reader.{end, push}
 use Rattle.ari.specs.Limits.{firstLimits}
 use Rattle.ari.specs.Items.{Items, encode}
 use Rattle.ari.specs.Decode.{decode}
-use Rattle.ari.proofs.Due.{Due}
+use Rattle.ari.specs.Due.{Due}
 use Rattle.text.specs.Chars.{ascii}
 use Rattle.text.specs.Text.{texts, anAriDue, isRelative}
 use Rattle.text.specs.Answer.{Output, refused, output, writeText}

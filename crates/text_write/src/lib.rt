@@ -1,7 +1,7 @@
 // An ARI's text: one walk over an accepted ARI, which puts what each head writes before its members and after them.
 ghost use mathlib.Core.Path.{_≡_};
 ghost use mathlib.Core.Bool.{true, false, _&&_};
-ghost use Rattle.cbor.specs.Byte.{all, isByte};
+ghost use Rattle.buffer.specs.Bytes.{all, isByte};
 ghost use Prim.Native.Nat.{pred, _+_, _*_, _≤_, min};
 ghost use lib.ListN.{length};
 ghost use lib.Dec.{eqb};
@@ -17,7 +17,7 @@ ghost use Rattle.text_write.specs.Said.{ItemAt, Said};
 ghost use lib.ListN.{take};
 ghost use mathlib.Core.List.{_++_};
 ghost use Rattle.ari.specs.Limits.{firstLimits};
-ghost use Rattle.ari.specs.Reader.{single};
+ghost use Rattle.ari.specs.declared.Input.the-variants.{Single};
 ghost use Rattle.ari.specs.Rules.{Is};
 ghost use Rattle.ari.specs.Decode.{decode};
 ghost use Rattle.text.specs.Answer.{output, writeText, lent};
@@ -243,7 +243,7 @@ pub enum Spelling {
 
 // An accepted ARI: test 14.
 fn form_of(s: &[u8], count: usize) -> Spelling
-    requires { ⌜ (all isByte (now s) ≡ true) × Is firstLimits single (now s) (decode (now s)) count ⌝ }
+    requires { ⌜ (all isByte (now s) ≡ true) × Is firstLimits Single (now s) (decode (now s)) count ⌝ }
     ensures { λ r. ⌜ r ≡ spellingOf (now (s .entry)) ⌝ }
 {
     let o = outermost(s);

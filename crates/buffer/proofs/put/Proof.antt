@@ -1,3 +1,4 @@
+-- `buffer::put` meets its contract: the byte where it has room.
 use Rattle.buffer.proofs.Putting.{putting}
 use borrow.Author.Needs.{needs}
 use Rattle.buffer.proofs.put.Statement.{statement}

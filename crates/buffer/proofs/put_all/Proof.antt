@@ -1,3 +1,4 @@
+-- `buffer::put_all` meets its contract: byte after byte.
 use Prim.Native.Nat.{_-_, _≤_}
 use lib.ListN.{length, take}
 use Rattle.buffer.specs.Put.{Put}

@@ -3,7 +3,7 @@ use Rattle.grammar.proofs.NameWays.{names}
 use Prim.Native.Nat.{_+_, _-_, _≤_}
 use mathlib.Core.Path.{_≡_}
 use lib.ListN.{length, drop}
-use Rattle.cbor.specs.Byte.{all}
+use Rattle.buffer.specs.Bytes.{all}
 use Rattle.ari.specs.Name.{continuesName}
 use Rattle.grammar.proofs.is_identifier_at.Statement.{statement}
 use Rattle.grammar.proofs.is_identifier_at.Tie as tie

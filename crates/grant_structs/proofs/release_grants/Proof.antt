@@ -40,9 +40,9 @@ use denote.Triple.Clauses.{ensured, lasts}
 use denote.Exit.{yes}
 use Rattle.ari.specs.Limits.{firstLimits}
 use Rattle.grants.specs.Grants.{Release as Answer, judgeFrom, granted as grantedBy, release as releaseBy}
-use Rattle.list.specs.declared.Listed.{Listed}
-use Rattle.list.proofs.Listed as L
-use Rattle.list.proofs.Listed.Laws as L′
+use Rattle.listing.specs.declared.Listed.{Listed}
+use Rattle.listing.proofs.Listed as L
+use Rattle.listing.proofs.Listed.Laws as L′
 use Rattle.grant_structs.specs.declared.Grant.{Grant}
 use Rattle.grant_structs.specs.declared.Release.{Release}
 use Rattle.grant_structs.specs.Structs.{grants, entriesFrom, entriesOf, answerBy, Decides}

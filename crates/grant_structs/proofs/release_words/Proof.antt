@@ -44,7 +44,7 @@ use denote.Triple.Walked.{says, needs, Stays, stay-none-slice, stay-none, walkOf
 use denote.Triple.Clauses.{ensured, lasts}
 use denote.Exit.{yes}
 use Rattle.grants.specs.Grants.{some, holds, judgeFrom, granted as grantedBy}
-use Rattle.grants.specs.Bytes.{signed}
+use Rattle.ari.specs.Signed.{signed}
 use Rattle.grant_structs.specs.declared.Grant.{Grant}
 use Rattle.grant_structs.specs.declared.Release.{Release}
 use Rattle.grant_structs.specs.Structs.{grantOf, grants, meetsBy, wordAt, entriesFrom, wantedAt, heldBack, heldAt}

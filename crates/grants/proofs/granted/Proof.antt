@@ -4,7 +4,8 @@ use Prim.Native.Nat.{_-_, _≤_}
 use mathlib.Core.Path.{_≡_}
 use lib.ListN.{length, drop}
 use Rattle.grants.specs.Grants.{some, holds}
-use Rattle.grants.specs.Bytes.{signed, rows}
+use Rattle.ari.specs.Signed.{signed}
+use Rattle.grants.specs.Bytes.{rows}
 use Rattle.grants.proofs.granted.Statement.{statement}
 use Rattle.grants.proofs.granted.Tie as tie
 

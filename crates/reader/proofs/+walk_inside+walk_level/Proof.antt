@@ -1,5 +1,5 @@
 -- `reader::walk_inside` and `reader::walk_level` meet their contracts. Both measures are the containers that may still be opened.
-use Prim.Native.Nat.{ℕ, suc, pred, _+_, _-_, _*_, _<_, _≤_}
+use Prim.Native.Nat.{ℕ, suc, pred, _+_, _-_, _*_, _^_, _<_, _≤_}
 use mathlib.Core.Path.{_≡_, refl, sym, _∙_}
 use mathlib.Core.Bool.{true}
 use mathlib.Core.List.{[]}
@@ -9,12 +9,13 @@ use lib.ListN.{length, length-set}
 use borrow.Author.Needs.{needs}
 use borrow.Fn.Kinds.{In}
 use borrow.Fn.PlainCycle.{Measures, is, falls, and}
-use Rattle.cbor.specs.Byte.{all, isByte}
+use Rattle.buffer.specs.Bytes.{all, isByte}
+use Rattle.cbor.specs.Head.{keyOf}
 use Rattle.ari.specs.Table.{rule}
 use Rattle.grammar.specs.Code.{slotOf}
 use Rattle.grammar.proofs.Right.{IsSlot}
-use Rattle.reader.specs.Steps.{part}
-use Rattle.reader.proofs.Bounds.{nothing-inside, opened, bounds, taken-on, taken-in, taken-kind, taken-fits, read-in, read-few, read-on, less-deep, one-in, falls-on, span-order, span-within}
+use Rattle.buffer.specs.Bytes.{part}
+use Rattle.reader.proofs.Bounds.{nothing-inside, opened, bounds, taken-on, taken-in, taken-kind, taken-fits, read-in, read-few, read-on, less-deep, one-in, one-fits, falls-on, span-order, span-within}
 use Rattle.reader.proofs.Loop.{Leads, begins, halts, breaks, ends, again, next-slotted, turns}
 use Rattle.reader.proofs.walk_inside.Reads as walk-inside
 use Rattle.reader.proofs.walk_inside.Kinds as walk-inside-kinds
@@ -22,7 +23,7 @@ use Rattle.reader.proofs.+walk_inside+walk_level.Lts-walk_inside as wal
 use Rattle.reader.proofs.walk_level.Reads as walk-level
 use Rattle.reader.proofs.walk_level.Kinds as walk-level-kinds
 use Rattle.reader.proofs.+walk_inside+walk_level.Lts-walk_level as walk-level-lts
-use Rattle.reader.proofs.close.Reads as close-reads
+use Rattle.item_table.proofs.put.Reads as put-reads
 use Rattle.reader.proofs.key_after.Reads as key-after-reads
 use Rattle.reader.proofs.stopped.Reads as stopped-reads
 use Rattle.reader.proofs.take_head.Reads as take-head-reads
@@ -55,9 +56,9 @@ walk-level-below t =
 
 abbrev walk-level-Inv-loop : walk-level-lts.InvT-loop
 walk-level-Inv-loop s at count items depth around slot more table₀ p₀ c₀ place₀ left₀ prev₀ table p c place left prev =
-    Leads s items (slotOf slot) more [] depth around at count table₀ (slotOf place) left (part s (prev .from) (prev .to)) p c table
+    Leads s items (slotOf slot) more [] depth around at count table₀ (slotOf place) left (keyOf (part s (prev .from) (prev .to))) p c table
     × IsSlot place × (prev .from ≤ prev .to) × (prev .to ≤ length s) × (p ≤ length s) × (c ≤ items) × (length table ≡ length table₀)
-    × (all isByte s ≡ true) × (length s < 65536) × (depth + around < 256)
+    × (all isByte s ≡ true) × (depth + around < 2 ^ 64)
 
 abbrev walk-level-μ-loop : walk-level-lts.MeasureT-loop
 walk-level-μ-loop s at count items depth around slot more table₀ p₀ c₀ place₀ left₀ prev₀ table p c place left prev = length s - p
@@ -70,17 +71,17 @@ pub +walk-inside+walk-level-spec : {M : Type 1} → statement M
     (λ c. search needs)
     (λ c. search needs)
     (λ c. search (bounds, needs))
-    (λ c. search (bounds, needs))
-    (λ c κs. (search (less-deep, bounds, needs), (search needs, search needs, search (one-in, bounds, needs), search (bounds, needs), search needs, search needs)))
+    (λ c. search (one-fits, bounds, needs))
+    (λ c κs. (search (less-deep, bounds, needs), (search needs, search (one-in, bounds, needs), search (bounds, needs), search needs, search needs)))
     (λ c. search (nothing-inside, needs))
     (λ c. search needs)
     (λ c. search (opened, needs)))
-    λ t. walk-level-lts.spec (take-head-reads.Asked, take-head-reads.Learnt, stopped-reads.Asked, stopped-reads.Learnt, walk-inside-below t, walk-inside.Post, close-reads.Asked, close-reads.Learnt, key-after-reads.Asked, key-after-reads.Learnt, next-slot-reads.Asked, next-slot-reads.Learnt)
+    λ t. walk-level-lts.spec (take-head-reads.Asked, take-head-reads.Learnt, stopped-reads.Asked, stopped-reads.Learnt, walk-inside-below t, walk-inside.Post, put-reads.Asked, put-reads.Learnt, key-after-reads.Asked, key-after-reads.Learnt, next-slot-reads.Asked, next-slot-reads.Learnt)
     (walk-level-at t)
     walk-level.Post
     walk-level-Inv-loop
     walk-level-μ-loop
-    (λ c. (search turns, search needs, search needs, search needs, search needs, search needs, search needs, search needs, search needs, search needs))
+    (λ c. (search turns, search needs, search needs, search needs, search needs, search needs, search needs, search needs, search needs))
     (λ c κs. search needs)
     (λ c. search needs)
     (λ c. search needs)
@@ -88,12 +89,12 @@ pub +walk-inside+walk-level-spec : {M : Type 1} → statement M
     (λ c. search needs)
     (λ c. search (turns, needs))
     (λ c. search (bounds, needs))
-    (λ c κs. (search needs, ((search needs, search needs, search needs, search needs, search (bounds, needs), search (bounds, needs)), search (bounds, needs))))
+    (λ c κs. (search needs, ((search needs, search needs, search needs, search (bounds, needs), search (bounds, needs)), search (bounds, needs))))
     (λ c. search needs)
     (λ c. search needs)
     (λ c. search needs)
     (λ c. search (turns, needs))
-    (λ c κs. (search needs, search (bounds, needs), search needs, search needs))
+    (λ c κs. search needs)
     (λ c κs. search needs)
     (λ c κs. search needs)
     (λ c. search needs)
@@ -115,7 +116,7 @@ pub +walk-inside+walk-level-spec : {M : Type 1} → statement M
     let own = rule (slotOf (c .before .before .before .before .before .before .before .before .before .before .before .before .before .before .before .before .before .before .before .before .loop .place)) .own in
     let kk = taken-kind _ _ _ _ _ _ (h .1) q in
     let fit = taken-fits _ _ _ _ _ _ (h .1) q in
-    let put = c .before .before .before .before .before .before .before .close .ensures in
+    let put = c .before .before .before .before .before .before .before .put .ensures in
     let y = c .before .before .before .before .key-after .ensures in
     let nn = c .before .before .before .next-slot .ensures in
     let z = c .before .n .given .1 in (
@@ -125,8 +126,7 @@ pub +walk-inside+walk-level-spec : {M : Type 1} → statement M
       rw (y .1) (span-within own _ _ _ (l .3) (taken-in _ _ _ _ _ _ (h .1) q)),
       read-in _ _ _ _ _ _ _ _ m g,
       read-few _ _ _ _ _ _ _ _ m g,
-      omega (arith, c .before .before .before .before .before .before .before .close .kept .0, c .before .before .before .before .before .before .before .before .before .before .before .before .before .before .walk-inside .kept .1 .1 .1 .1 .1 .1 .1 .1 .1 .0, l .6),
+      omega (arith, c .before .before .before .before .before .before .before .put .kept .0, c .before .before .before .before .before .before .before .before .before .before .before .before .before .before .walk-inside .kept .1 .1 .1 .1 .1 .1 .1 .1 .1 .0, l .6),
       l .7,
       l .8,
-      l .9,
     ))

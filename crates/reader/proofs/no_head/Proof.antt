@@ -10,6 +10,5 @@ no-head-spec =
     (tie.spec
     (λ c. search needs)
     (λ c. search needs)
-    (λ c. search needs)
     (λ c. search (headless, needs))
     (λ c. search needs))

@@ -10,13 +10,13 @@ read-message-spec =
     tie.close
     (tie.spec
     (λ c. (search (message-ways, needs), search (message-ways, needs)))
-    (λ c κs. (all-bytes (c .before .before .before .before .args .s .now) (c .before .before .before .shared-slice-known .given), search needs, search needs))
+    (λ c κs. all-bytes (c .before .before .before .before .before .args .s .now) (c .before .before .before .before .shared-slice-known .given))
     (λ c. search needs)
     (λ c. search needs)
     (λ c κs. search needs)
     (λ c. search needs)
     (λ c. (search (message-ways, needs), search (message-ways, needs)))
-    (λ c κs. (all-bytes (c .before .before .before .before .before .before .before .before .before .before .before .args .s .now) (c .before .before .before .before .before .before .before .before .before .before .shared-slice-known .given), search needs, search needs, search (bounds, needs), search (bounds, needs)))
+    (λ c κs. (all-bytes (c .before .before .before .before .before .before .before .before .before .before .before .before .args .s .now) (c .before .before .before .before .before .before .before .before .before .before .before .shared-slice-known .given), search (bounds, needs), search (bounds, needs)))
     (λ c. search needs)
     (λ c. search needs)
     (λ c κs. search needs)

@@ -9,7 +9,7 @@ read-single-spec =
     tie.close
     (tie.spec
     (λ c. (search (single-ways, needs), search (single-ways, needs)))
-    (λ c κs. (all-bytes (c .before .before .before .before .args .s .now) (c .before .before .before .shared-slice-known .given), search needs, search needs, search needs, search needs, search needs))
+    (λ c κs. (all-bytes (c .before .before .before .before .before .args .s .now) (c .before .before .before .before .shared-slice-known .given), search needs, search needs, search needs, search needs))
     (λ c. search needs)
     (λ c. search needs)
     (λ c κs. search needs)

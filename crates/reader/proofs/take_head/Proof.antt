@@ -1,6 +1,6 @@
 -- `reader::take_head` meets its contract: a law for each test.
 use borrow.Author.Needs.{needs}
-use Rattle.reader.proofs.Heads.{head-ways, head-shown, fit-shown, late-bounded}
+use Rattle.reader.proofs.Heads.{head-ways, head-shown, fit-shown, content-bounded}
 use Rattle.cbor.proofs.HeadWays.{bounds, advances, kind-known}
 use mathlib.Core.Path.{_≡_, refl, sym, _∙_, ap}
 use Rattle.reader.proofs.take_head.Statement.{statement}
@@ -24,4 +24,4 @@ take-head-spec =
     (λ c κs. search needs)
     (λ c. (search (head-ways, head-shown, bounds, needs), tt))
     (λ c κs. ((search needs, search needs, search needs, search needs, search needs), (search (head-ways, head-shown, bounds, needs), search (head-ways, head-shown, bounds, needs), search (head-ways, head-shown, bounds, needs), fit-shown _ _ _ (c .before .before .before .before .fits2 .ensures) (c .before .before .before .if3 .left), search (head-ways, head-shown, bounds, needs))))
-    (λ c. (search (head-ways, head-shown, bounds, needs), (let g = c .before .before .before .before .before .before .before .before .before .before .h .given .1 in let y = c .before .before .before .before .before .before .before .before .before .before .before .before .head-at .ensures in late-bounded (c .before .before .before .before .before .before .before .before .before .before .before .before .before .before .args .s .now) _ _ _ (c .before .before .before .before .before .before .before .before .before .before .before .before .before .before .args .depth) _ _ _ _ (advances _ _ (y .1) g) (c .before .before .before .before .before .before .before .before .if1 .left) (sym (c .before .before .before .before .before .before .before .is-too-deep .ensures) ∙ c .before .before .before .before .before .before .if2 .left) (kind-known _ _ (y .1) g) (fit-shown _ _ _ (c .before .before .before .before .before .fits2 .ensures) (c .before .before .before .before .if3 .left)) (c .late .result) (c .late .ensures .1)))))
+    (λ c. (search (head-ways, head-shown, bounds, needs), (let g = c .before .before .before .before .before .before .before .before .before .before .h .given .1 in let y = c .before .before .before .before .before .before .before .before .before .before .before .before .head-at .ensures in content-bounded (c .before .before .before .before .before .before .before .before .before .before .before .before .before .before .args .s .now) _ _ _ (c .before .before .before .before .before .before .before .before .before .before .before .before .before .before .args .depth) _ _ _ _ (advances _ _ (y .1) g) (c .before .before .before .before .before .before .before .before .if1 .left) (sym (c .before .before .before .before .before .before .before .is-too-deep .ensures) ∙ c .before .before .before .before .before .before .if2 .left) (kind-known _ _ (y .1) g) (fit-shown _ _ _ (c .before .before .before .before .before .fits2 .ensures) (c .before .before .before .before .if3 .left)) (c .judge-content .result) (c .judge-content .ensures .1)))))

@@ -5,7 +5,7 @@ use mathlib.Core.Bool.{true}
 use native.Mathlib.Omega.{arith}
 use lib.ListN.{length}
 use borrow.Author.Needs.{needs}
-use Rattle.cbor.specs.Byte.{all, isByte}
+use Rattle.buffer.specs.Bytes.{all, isByte}
 use Rattle.reader.proofs.Bounds.{bounds, read-past, falls-to}
 use Rattle.reader.proofs.Whole.{SetsLead, sets-begin, sets-again, sets-halt, sets-done}
 use Rattle.reader.proofs.walk_sets.Statement.{statement}
@@ -25,7 +25,7 @@ walk-sets-spec =
     Inv-loop
     μ-loop
     (λ c. (sets-begin _ _ _ _ _ _, search needs, search needs, search needs))
-    (λ c κs. (search needs, search needs, search needs, search needs, search needs))
+    (λ c κs. search needs)
     (λ c. search needs)
     (λ c. search needs)
     (λ c. search needs)

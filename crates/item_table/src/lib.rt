@@ -1,0 +1,57 @@
+// The table of an input's items, in the order of their first bytes: one word for each. The walk writes it; listing, records and all else that
+// asks about items reads it, with the heads that still stand in the input's bytes.
+ghost use mathlib.Core.Path.{_≡_};
+ghost use lib.ListN.{set};
+ghost use Rattle.item_table.specs.Entries.{packed, itemOf, referenceBy};
+
+// An item: its first byte, the byte after its last, the open containers around it, and the number of its slot.
+pub struct Item {
+    pub first: usize,
+    pub after: usize,
+    pub around: usize,
+    pub slot: u64,
+}
+
+// The item of a word.
+pub fn item_of(entry: u64) -> Item
+    ensures { λ r. ⌜ r ≡ itemOf entry ⌝ }
+{
+    Item {
+        first: (entry % 65536) as usize,
+        after: (entry / 65536 % 65536) as usize,
+        around: (entry / 4294967296 % 256) as usize,
+        slot: entry / 1099511627776 % 256,
+    }
+}
+
+// A word of the table; each field keeps its lowest bits.
+fn pack(first: usize, after: usize, around: usize, slot: u64) -> u64
+    ensures { λ r. ⌜ r ≡ packed first after around slot ⌝ }
+{
+    (first % 65536) as u64
+        + (after % 65536) as u64 * 65536
+        + (around % 256) as u64 * 4294967296
+        + slot % 256 * 1099511627776
+}
+
+// Item k goes into the table. One that is too short, or empty, keeps what it has room for.
+pub fn put(entries: &mut [u64], k: usize, first: usize, after: usize, around: usize, slot: u64)
+    ensures { λ _. ⌜ now (entries .exit) ≡ set (now (entries .entry)) k (packed first after around slot) ⌝ }
+{
+    if k < entries.len() {
+        entries[k] = pack(first, after, around, slot);
+    }
+}
+
+// Whether a head of this kind and argument, at a slot, is a reference: an array of length 1, 3 or 4 where an ARI or an object reference is due.
+pub fn is_reference(slot: u64, kind: u8, arg: u64) -> bool
+    ensures { λ r. ⌜ r ≡ referenceBy slot kind arg ⌝ }
+{
+    if !grammar::asks(slot) {
+        return false;
+    }
+    if kind == cbor::ARRAY {
+        return arg != 2;
+    }
+    false
+}

@@ -1,6 +1,0 @@
-pub mod Ways
-pub mod Stored
-pub mod Table
-pub mod Written
-pub mod Outcome
-pub mod Search

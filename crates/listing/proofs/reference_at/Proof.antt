@@ -1,0 +1,19 @@
+-- `listing::reference_at` meets its contract: by the head and what it is at its slot.
+use Rattle.listing.proofs.Ways.{ways}
+use borrow.Author.Needs.{needs}
+use Rattle.listing.proofs.reference_at.Statement.{statement}
+use Rattle.listing.proofs.reference_at.Tie as tie
+
+pub reference-at-spec : {M : Type 1} → statement M
+reference-at-spec =
+    tie.close
+    (tie.spec
+    (λ c κs. search needs)
+    (λ c κs. search needs)
+    (λ c. search needs)
+    (λ c. search needs)
+    (λ c. search (ways, needs))
+    (λ c κs. search needs)
+    (λ c. search (ways, needs))
+    (λ c κs. search needs)
+    (λ c. search (ways, needs)))

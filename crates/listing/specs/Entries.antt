@@ -1,0 +1,38 @@
+-- What is read off a word of the item table and the bytes. Interface: namespaceOf, referenceFrom, spaceCode. Private to src/: referenceOf.
+use Prim.Native.Nat.{ℕ, _-_}
+use mathlib.Core.Bool.{cond}
+use mathlib.Core.List.{List}
+use lib.ListN.{length}
+use lib.Dec.{eqb}
+use Rattle.cbor.specs.Head.{unsigned, negative, text}
+use Rattle.cbor.specs.declared.Head.{Head}
+use Rattle.cbor.specs.declared.Head.the-variants.{Bad, Good}
+use Rattle.cbor.specs.Answer.{headAt}
+use Rattle.ari.specs.Signed.{word}
+use Rattle.ari.specs.Table.{max64}
+use Rattle.ari.specs.Listing.{Space, number, name, relative}
+use Rattle.item_table.specs.declared.Item.{Item}
+use Rattle.item_table.specs.Entries.{itemOf, referenceBy}
+use Rattle.listing.specs.declared.Reference.{Reference}
+use Rattle.listing.specs.declared.Reference.the-variants.{Nothing, To}
+use Rattle.listing.specs.declared.Namespace.{Namespace}
+use Rattle.listing.specs.declared.Namespace.the-variants.{Number, Name, Relative}
+
+-- the namespace that a head at p is: a number in two's complement, a name by its place and length, or null
+abbrev pub namespaceOf : ℕ → Head → Namespace
+namespaceOf p (Good k a q) = cond (eqb k unsigned) (Number a) (cond (eqb k negative) (Number (max64 - a)) (cond (eqb k text) (Name p a) Relative))
+namespaceOf p (Bad r) = Relative
+
+-- a reference, whose first member's head is its namespace
+abbrev pub referenceOf : List ℕ → Item → Head → Reference
+referenceOf b x (Good k a q) = cond (referenceBy (x .slot) k a) (To (x .first) (x .after) (namespaceOf q (headAt b q))) Nothing
+referenceOf b x (Bad r) = Nothing
+
+unfoldable pub referenceFrom : List ℕ → ℕ → Reference
+referenceFrom b e = referenceOf b (itemOf e) (headAt b (itemOf e .first))
+
+-- a listed namespace as the code has it
+abbrev pub spaceCode : Space → Namespace
+spaceCode (number z) = Number (word z)
+spaceCode (name p s) = Name p (length s)
+spaceCode relative = Relative

@@ -1,0 +1,253 @@
+// The listing of a message, read off the item table and the message's bytes.
+ghost use mathlib.Core.Path.{_≡_};
+ghost use mathlib.Core.List.{_++_};
+ghost use Prim.Native.Nat.{_+_, _*_, _/_, _^_, _<_, _≤_, min};
+ghost use lib.ListN.{length, drop};
+ghost use lib.Seq.{sets};
+ghost use Rattle.buffer.specs.Bytes.{be};
+ghost use Rattle.cbor.specs.Answer.{headAt};
+ghost use Rattle.ari.specs.declared.Input.the-variants as input;
+ghost use Rattle.ari.specs.Reader.{accept};
+ghost use Rattle.ari.specs.Limits.{firstLimits, capped};
+ghost use Rattle.ari.specs.Listing.{listing};
+ghost use Rattle.item_table.specs.Entries.{Tabled};
+ghost use Rattle.listing.specs.Bytes.{listingBytes};
+ghost use Rattle.listing.specs.Answers.{listedOf, listOf, writtenBy, writtenOf};
+ghost use Rattle.listing.specs.Entries.{namespaceOf, referenceFrom};
+ghost use Rattle.listing.specs.Codes.{kindCode, wordCode, entryCode};
+use ari::Input;
+use ari::Limits;
+use reader::Answer;
+
+// The entries listed with the item count; or the message's own refusal; or 16 with the number of references.
+pub enum Listed {
+    Entries { listed: usize, count: usize },
+    Refused { number: u8, place: usize },
+}
+
+// A namespace: a number in two's complement; a name, by the place of its head and its length; relative.
+pub enum Namespace {
+    Number(u64),
+    Name { place: usize, length: u64 },
+    Relative,
+}
+
+// What a word of the item table stands for: no reference; or one, with its ends and its namespace.
+pub enum Reference {
+    Nothing,
+    To {
+        first: usize,
+        after: usize,
+        namespace: Namespace,
+    },
+}
+
+// The namespace whose head stands at a place.
+fn namespace_at(s: &[u8], at: usize) -> Namespace
+    ensures { λ r. ⌜ r ≡ namespaceOf at (headAt (now (s .entry)) at) ⌝ }
+{
+    let h = cbor::head_again(s, at);
+    let cbor::Head::Good { kind, arg, next: _ } = h else {
+        return Namespace::Relative;
+    };
+    match kind {
+        0 => Namespace::Number(arg),
+        1 => Namespace::Number(18446744073709551615 - arg),
+        3 => Namespace::Name {
+            place: at,
+            length: arg,
+        },
+        _ => Namespace::Relative,
+    }
+}
+
+// The reference that a word of the item table stands for.
+pub fn reference_at(s: &[u8], entry: u64) -> Reference
+    ensures { λ r. ⌜ r ≡ referenceFrom (now (s .entry)) entry ⌝ }
+{
+    let x = item_table::item_of(entry);
+    let h = cbor::head_again(s, x.first);
+    let cbor::Head::Good { kind, arg, next } = h else {
+        return Reference::Nothing;
+    };
+    if !item_table::is_reference(x.slot, kind, arg) {
+        return Reference::Nothing;
+    }
+    let namespace = namespace_at(s, next);
+    Reference::To {
+        first: x.first,
+        after: x.after,
+        namespace,
+    }
+}
+
+// How many references the items of a table are.
+fn count_references(s: &[u8], limits: Limits, count: usize, entries: &[u64]) -> usize
+    requires { ⌜ Tabled limits input.Message (now s) count (now entries) ⌝ }
+    ensures { λ r. ⌜ r ≡ length (listing (now (s .entry))) ⌝ }
+{
+    let mut listed = 0;
+    let mut k = 0;
+    while k < count {
+        let r = reference_at(s, entries[k]);
+        k += 1;
+        match r {
+            Reference::Nothing => {}
+            Reference::To {
+                first: _,
+                after: _,
+                namespace: _,
+            } => listed += 1,
+        }
+    }
+    listed
+}
+
+// A namespace's two numbers in an entry.
+fn kind_code(n: Namespace) -> u64
+    ensures { λ r. ⌜ r ≡ kindCode n ⌝ }
+{
+    match n {
+        Namespace::Number(_) => 0,
+        Namespace::Name {
+            place: _,
+            length: _,
+        } => 1,
+        Namespace::Relative => 2,
+    }
+}
+
+fn word_code(n: Namespace) -> u64
+    ensures { λ r. ⌜ r ≡ wordCode n ⌝ }
+{
+    match n {
+        Namespace::Number(word) => word,
+        Namespace::Name { place, length: _ } => place as u64,
+        Namespace::Relative => 0,
+    }
+}
+
+fn put_numbers(out: &mut [u8], at: usize, ends: u64, kind: u64, word: u64)
+    requires { ⌜ at + 24 ≤ length (now out) ⌝ }
+    ensures { λ _. ⌜ now (out .exit) ≡ sets (now (out .entry)) at (be 8 ends ++ (be 8 kind ++ be 8 word)) ⌝ }
+{
+    buffer::store8(out, at, ends);
+    buffer::store8(out, at + 8, kind);
+    buffer::store8(out, at + 16, word);
+}
+
+// The 24 bytes of an entry; its two ends are one number.
+fn put_entry(out: &mut [u8], at: usize, first: usize, after: usize, namespace: Namespace)
+    requires { ⌜ (at + 24 ≤ length (now out)) × (first < 65536) × (after < 65536) ⌝ }
+    ensures { λ _. ⌜ now (out .exit) ≡ sets (now (out .entry)) at (entryCode first after namespace) ⌝ }
+{
+    let ends = first as u64 * 4294967296 + after as u64;
+    put_numbers(out, at, ends, kind_code(namespace), word_code(namespace));
+}
+
+// The entries of a table's references, where there is room for them, and the place behind them.
+fn write_entries(s: &[u8], limits: Limits, count: usize, entries: &[u64], out: &mut [u8]) -> usize
+    requires { ⌜ Tabled limits input.Message (now s) count (now entries) ⌝ }
+    requires { ⌜ 24 * length (listing (now s)) ≤ length (now out) ⌝ }
+    ensures { λ r. ⌜ r ≡ 24 * length (listing (now (s .entry))) ⌝ }
+    ensures { λ _. ⌜ now (out .exit) ≡ listingBytes (listing (now (s .entry))) ++ drop (24 * length (listing (now (s .entry)))) (now (out .entry)) ⌝ }
+{
+    let mut at = 0;
+    let mut k = 0;
+    while k < count {
+        let r = reference_at(s, entries[k]);
+        k += 1;
+        match r {
+            Reference::Nothing => {}
+            Reference::To {
+                first,
+                after,
+                namespace,
+            } => {
+                put_entry(out, at, first, after, namespace);
+                at += 24;
+            }
+        }
+    }
+    at
+}
+
+// What a table's message answers where there is room for so many entries.
+fn answer_in(s: &[u8], limits: Limits, count: usize, entries: &[u64], room: usize) -> Listed
+    requires { ⌜ Tabled limits input.Message (now s) count (now entries) ⌝ }
+    ensures { λ r. ⌜ r ≡ listedOf (accept count) (listing (now (s .entry))) room ⌝ }
+{
+    let listed = count_references(s, limits, count, entries);
+    if room < listed {
+        return Listed::Refused {
+            number: 16,
+            place: listed,
+        };
+    }
+    Listed::Entries { listed, count }
+}
+
+fn list_table(s: &[u8], limits: Limits, count: usize, entries: &[u64], out: &mut [u8]) -> Listed
+    requires { ⌜ Tabled limits input.Message (now s) count (now entries) ⌝ }
+    ensures { λ r. ⌜ r ≡ listedOf (accept count) (listing (now (s .entry))) (length (now (out .entry)) / 24) ⌝ }
+    ensures { λ r. ⌜ now (out .exit) ≡ writtenBy r (listing (now (s .entry))) (now (out .entry)) ⌝ }
+{
+    if count <= out.len() / 24 {
+        // room for every item: the references need not be counted before
+        let end = write_entries(s, limits, count, entries, out);
+        return Listed::Entries {
+            listed: end / 24,
+            count,
+        };
+    }
+    let r = answer_in(s, limits, count, entries, out.len() / 24);
+    if let Listed::Entries {
+        listed: _,
+        count: _,
+    } = r {
+        write_entries(s, limits, count, entries, out);
+    }
+    r
+}
+
+fn list_in(s: &[u8], limits: Limits, out: &mut [u8], entries: &mut [u64]) -> Listed
+    requires { ⌜ (min (limits .items) (length (now s)) ≤ length (now entries)) × (limits .bytes < 65536) × (limits .containers < 256) ⌝ }
+    ensures { λ r. ⌜ r ≡ listOf limits (now (s .entry)) (now (out .entry)) ⌝ }
+    ensures { λ r. ⌜ now (out .exit) ≡ writtenOf limits (now (s .entry)) (now (out .entry)) ⌝ }
+{
+    match reader::keep(Input::Message, limits, s, entries) {
+        Answer::Refused { number, place } => Listed::Refused { number, place },
+        Answer::Accepted(count) => list_table(s, limits, count, entries, out),
+    }
+}
+
+// A message has no more items than bytes: a table of 128 serves a small one, and is cleared in a fraction of the time.
+fn list_small(s: &[u8], limits: Limits, out: &mut [u8]) -> Listed
+    requires { ⌜ (length (now s) ≤ 128) × (limits .bytes < 65536) × (limits .containers < 256) ⌝ }
+    ensures { λ r. ⌜ r ≡ listOf limits (now (s .entry)) (now (out .entry)) ⌝ }
+    ensures { λ r. ⌜ now (out .exit) ≡ writtenOf limits (now (s .entry)) (now (out .entry)) ⌝ }
+{
+    let mut entries = [0u64; 128];
+    list_in(s, limits, out, &mut entries)
+}
+
+// The listing of a message within these limits, none above the gate's own, in the lent room.
+pub fn list_within(limits: Limits, s: &[u8], out: &mut [u8]) -> Listed
+    ensures { λ r. ⌜ r ≡ listOf (capped limits) (now (s .entry)) (now (out .entry)) ⌝ }
+    ensures { λ r. ⌜ now (out .exit) ≡ writtenOf (capped limits) (now (s .entry)) (now (out .entry)) ⌝ }
+{
+    let most = ari::cap(limits);
+    if s.len() <= 128 {
+        return list_small(s, most, out);
+    }
+    let mut entries = [0u64; ari::ITEMS];
+    list_in(s, most, out, &mut entries)
+}
+
+// The listing of a message.
+pub fn list_message(s: &[u8], out: &mut [u8]) -> Listed
+    ensures { λ r. ⌜ r ≡ listOf firstLimits (now (s .entry)) (now (out .entry)) ⌝ }
+    ensures { λ r. ⌜ now (out .exit) ≡ writtenOf firstLimits (now (s .entry)) (now (out .entry)) ⌝ }
+{
+    list_within(ari::LIMITS, s, out)
+}

@@ -1,0 +1,4 @@
+pub mod Judged
+pub mod Clause
+pub mod ReleaseDemand
+pub mod Search

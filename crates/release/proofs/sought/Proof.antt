@@ -1,0 +1,15 @@
+-- `release::sought` meets its contract: by the namespace.
+use borrow.Author.Needs.{needs}
+use Rattle.release.proofs.sought.Statement.{statement}
+use Rattle.release.proofs.sought.Tie as tie
+
+pub sought-spec : {M : Type 1} → statement M
+sought-spec =
+    tie.close
+    (tie.spec
+    (λ c. search needs)
+    (λ c. search needs)
+    (λ c. search needs)
+    (λ c. cc)
+    (λ c. cc)
+    (λ c. cc))

@@ -1,9 +1,0 @@
--- `surfbodkin::surfbodkin_check_table` meets its contract: the verdict as a number.
-use mathlib.Core.Path.{_∙_, ap}
-use Rattle.surfbodkin.specs.Code.{tableCode}
-use borrow.Author.Needs.{needs}
-use Rattle.surfbodkin.proofs.surfbodkin_check_table.Statement.{statement}
-use Rattle.surfbodkin.proofs.surfbodkin_check_table.Tie as tie
-
-pub surfbodkin-check-table-spec : {M : Type 1} → statement M
-surfbodkin-check-table-spec = tie.close (tie.spec (λ c κs. search needs) (λ c κs. search needs) (λ c. c .table-code .ensures ∙ ap tableCode (c .before .check-table .ensures)))
