@@ -54,6 +54,12 @@ given-either : (x : Bool) (u v : Level) → Given u → Given v → Given (cond 
 given-either true u v p q = p
 given-either false u v p q = q
 
+by-place : (P : Place → Type 0) → P alone → P message → P inside → P param → (w : Place) → P w
+by-place P a m i p alone = a
+by-place P a m i p message = m
+by-place P a m i p inside = i
+by-place P a m i p param = p
+
 type-low : (t : ℕ) → typeNumber t ≤ 21
 type-low t = go (ltb t 22) refl
   where
@@ -70,28 +76,18 @@ value-slot a h = (
 
 value-numbered : (a : ℕ) (w : Place) → a ≤ 21 → Numbered (value a (inner w))
 unfolding slotNumber
-value-numbered a w h = rw (lt-ltb a 22 (omega arith)) (go w)
-  where
-    go : (w : Place) → slotOf (28 + inParam (inner w) * 22 + a) ≡ value a (inner w)
-    go alone = value-slot a h .0
-    go message = value-slot a h .0
-    go inside = value-slot a h .0
-    go param = value-slot a h .1
+value-numbered a w h =
+    let (i, p) = value-slot a h in
+    rw (lt-ltb a 22 (omega arith)) (by-place (λ u. slotOf (28 + inParam (inner u) * 22 + a) ≡ value a (inner u)) i i i p w)
 
 -- a map's keys and values stand inside or in parameters
 key-entry : (w : Place) → Numbered (key w) → Numbered (entry w)
 unfolding slotNumber
-key-entry alone h = cc
-key-entry message h = cc
-key-entry inside h = refl
-key-entry param h = refl
+key-entry = by-place (λ w. Numbered (key w) → Numbered (entry w)) (λ h. cc) (λ h. cc) (λ h. refl) (λ h. refl)
 
 entry-key : (w : Place) → Numbered (entry w) → Numbered (key w)
 unfolding slotNumber
-entry-key alone h = cc
-entry-key message h = cc
-entry-key inside h = refl
-entry-key param h = refl
+entry-key = by-place (λ w. Numbered (entry w) → Numbered (key w)) (λ h. cc) (λ h. cc) (λ h. refl) (λ h. refl)
 
 -- What the rule makes due beside a slot; beside a type's it is the value's, if the argument is a type's number.
 next-given : (s : Slot) → Numbered s → (a n : ℕ) → ((w : Place) → s ≡ type w → a ≤ 21) → Given (rule s .next a n)
@@ -123,35 +119,25 @@ typeRow (row k lo hi) = leb hi 21
 
 type-fits : (k a : ℕ) (w : Place) → fits k a (rule (type w) .rows) ≡ true → a ≤ 21
 unfolding rule types
-type-fits k a w e = let f = fits-by typeRow k a (typeRows w types) (go w) e in let h : f .hi ≤ 21 = leb-true (f .hi) 21 (f .holds) in omega (arith, f .high)
-  where
-    go : (w : Place) → every typeRow (typeRows w types) ≡ true
-    go alone = refl
-    go message = refl
-    go inside = refl
-    go param = refl
+type-fits k a w e =
+    let f = fits-by typeRow k a (typeRows w types) (by-place (λ u. every typeRow (typeRows u types) ≡ true) refl refl refl refl w) e in
+    let h : f .hi ≤ 21 = leb-true (f .hi) 21 (f .holds) in
+    omega (arith, f .high)
 
 -- what it makes due inside
 ari-numbered : (w : Place) → Numbered (ari w)
 unfolding slotNumber
-ari-numbered alone = refl
-ari-numbered message = refl
-ari-numbered inside = refl
-ari-numbered param = refl
+ari-numbered = by-place (λ w. Numbered (ari w)) refl refl refl refl
 
 type-numbered : (w : Place) → Numbered (type w)
 unfolding slotNumber
-type-numbered alone = refl
-type-numbered message = refl
-type-numbered inside = refl
-type-numbered param = refl
+type-numbered = by-place (λ w. Numbered (type w)) refl refl refl refl
 
 value-key : (t : ℕ) (w : Place) → Numbered (value t w) → Numbered (key w)
 unfolding slotNumber
-value-key t alone h = let q = value-slot (typeNumber t) (type-low t) .0 in cc
-value-key t message h = let q = value-slot (typeNumber t) (type-low t) .0 in cc
-value-key t inside h = refl
-value-key t param h = refl
+value-key t =
+    let q = value-slot (typeNumber t) (type-low t) .0 in
+    by-place (λ w. Numbered (value t w) → Numbered (key w)) (λ h. cc) (λ h. cc) (λ h. refl) (λ h. refl)
 
 reference-given : (a : ℕ) → Given (referenceLevel a)
 unfolding slotNumber
@@ -226,10 +212,7 @@ asks-right i v = refl
 -- The types' slots are 5 to 8.
 type-place : (w : Place) → within 5 8 (slotNumber (type w)) ≡ true
 unfolding slotNumber
-type-place alone = refl
-type-place message = refl
-type-place inside = refl
-type-place param = refl
+type-place = by-place (λ w. within 5 8 (slotNumber (type w)) ≡ true) refl refl refl refl
 
 pub next-stands : (i a n : ℕ) → IsSlot i → (within 5 8 i ≡ true → a ≤ 21) → Stands (nextCode i a n) (rule (slotOf i) .next a n)
 unfolding nextCode
