@@ -1,4 +1,5 @@
 pub mod Hits
-pub mod Ways
+pub mod Ranges
 pub mod Right
+pub mod Ways
 pub mod NameWays

@@ -1,434 +1,183 @@
--- The table says what document 01 says: one test over the whole table, and the laws that it gives for each slot.
-use Prim.Native.Nat.{ℕ, zero, suc, _+_, _-_, _*_, _/_, _%_, _^_, _<_, _≤_}
+-- The definitions by number in the rules' terms: a slot's number is its own, and what is due by number stands for what the rule makes due.
+use Prim.Native.Nat.{ℕ, zero, suc, _+_, _-_, _*_, _<_, _≤_}
 use mathlib.Core.Path.{_≡_, refl, sym, _∙_, ap}
-use mathlib.Core.Bool.{Bool, true, false, not, _&&_, _||_, cond, true≢false}
+use mathlib.Core.Bool.{Bool, true, false, cond, true≢false}
 use mathlib.Core.List.{List, [], _∷_}
 use native.Mathlib.Omega.{arith}
-use lib.ListN.{length, getD}
+use lib.ListN.{getD, List·getD-eq-default}
 use lib.Dec.{ltb, leb, eqb}
-use borrow.Author.Tests.{ltb-true, ltb-false, leb-true, leb-false, eqb-true, eqb-false, lt-ltb, le-ltb, le-leb, lt-leb, eq-eqb, ne-eqb}
+use borrow.Author.Tests.{ltb-true, ltb-false, leb-true, eqb-true, lt-ltb}
 use Rattle.buffer.specs.Bytes.{within}
-use Rattle.cbor.specs.Head.{Lead}
-use Rattle.buffer.proofs.ByteLaws.{and-true}
-use Rattle.cbor.proofs.Computed.{same, same-true, allFrom, all-at}
-use Rattle.cbor.specs.Utf8.{utf8}
-use Rattle.ari.specs.Name.{identifier, namespaceName}
-use Rattle.ari.specs.Table.{Place, inside, param, Slot, version, type, value, namespace, objectNamespace, Row, row, types, Own, none, one, rising, filled, Level, done, due, many, referenceLevel, ariLevel, Rule, rule, fits, fitsRow, members}
+use Rattle.cbor.specs.Head.{Lead, isContainer}
+use Rattle.buffer.proofs.ByteLaws.{within-true}
+use Rattle.cbor.proofs.Computed.{all-at}
+use Rattle.ari.specs.Table.{Place, alone, message, inside, param, inner, Slot, version, ari, type, value, namespace, objectNamespace, objectType, objectId, params, key, entry, nonce, setTime, target, report, reportTime, reportSource, Row, row, types, typeRows, Own, none, one, rising, filled, Level, done, due, many, referenceLevel, ariLevel, rule, fits, members}
+use Rattle.ari.proofs.Rows.{every, fits-by}
 use Rattle.grammar.specs.declared.Next.{Next}
 use Rattle.grammar.specs.declared.Next.the-variants.{Done, Due}
-use Rattle.grammar.specs.Code.{slots, slotOf, levelOf, words, wordOf, insides, insideOf, smalls, tops, smallOf, topOf, field, rangeOf, fitsCode, ownOf, spellingOf, asksOf, manyCode, keptCode, nextBits, nextCode, inReferenceCode, inAriCode, arrayWay, inArrayCode, inMapCode, insideCode}
+unfoldable pub use Rattle.grammar.specs.Code.{IsSlot}
+use Rattle.grammar.proofs.Ranges.{each-at}
+use Rattle.grammar.specs.Code.{slots, slotOf, inParam, typeNumber, slotNumber, levelOf, nextOf, fitsCode, ownNumber, ownOf, asksOf, nextCode, insideCode}
 
--- what a word says, in the rules' terms
-abbrev ownIn : ℕ → Own
-ownIn w = getD (none ∷ one ∷ rising ∷ filled ∷ []) (field w 60 4) none
+pub no-slot : (i : ℕ) → 72 ≤ i → version ≡ slotOf i
+no-slot i h = sym (List·getD-eq-default slots version h)
 
-abbrev spellingIn : ℕ → List ℕ → Bool
-spellingIn w = getD (utf8 ∷ identifier ∷ namespaceName ∷ []) (w / 2 ^ 62) utf8
+-- A slot's number is its own, in one test over all slots.
+pub number-slot : (i : ℕ) → IsSlot i → slotNumber (slotOf i) ≡ i
+unfolding slotNumber
+number-slot i h = eqb-true (slotNumber (slotOf i)) i (all-at 72 0 (λ j. eqb (slotNumber (slotOf j)) j) refl i (omega arith) (omega arith))
 
-abbrev asksIn : ℕ → Bool
-asksIn v = eqb (field v 28 2) 1
+-- A slot that its number gives back, and a level that holds such a slot.
+abbrev Numbered : Slot → Type 0
+Numbered s = slotOf (slotNumber s) ≡ s
 
-abbrev levelBits : ℕ → ℕ → ℕ → ℕ → ℕ → ℕ → Level
-levelBits took stay add to a n =
-    cond (eqb add 0)
-    (cond (eqb took 0) (due (slotOf to) (keptCode stay n)) (cond (eqb stay 0) done (many (slotOf to) n)))
-    (cond (eqb to 28) (due (value a inside) 0) (due (value a param) 0))
+abbrev Given : Level → Type 0
+Given done = Unit {0}
+Given (due s n) = Numbered s
 
-abbrev nextIn : ℕ → ℕ → ℕ → Level
-nextIn w a n = levelBits (field w 57 2) (field w 58 2) (field w 59 2) (field w 50 128) a n
+numbered : (i : ℕ) → IsSlot i → Numbered (slotOf i)
+numbered i h = ap slotOf (number-slot i h)
 
-abbrev arrayLevel : ℕ → ℕ → ℕ → Level
-arrayLevel way to a =
-    cond (ltb way 3)
-    (cond (eqb way 1) (cond (eqb a 2) (due (slotOf to) 0) (referenceLevel a)) (cond (eqb way 0) done (referenceLevel a)))
-    (cond (eqb way 3) (many (slotOf to) a) (due (slotOf to) (a - (way - 3))))
+numbered-is-slot : (s : Slot) → Numbered s → IsSlot (slotNumber s)
+unfolding slotNumber
+numbered-is-slot s h = go (ltb (slotNumber s) 72) refl
+  where
+    go : (x : Bool) → ltb (slotNumber s) 72 ≡ x → slotNumber s < 72
+    go true e = ltb-true (slotNumber s) 72 e
+    go false e = rw (← (no-slot (slotNumber s) (ltb-false (slotNumber s) 72 e) ∙ h)) (omega arith)
 
-abbrev arrayIn : ℕ → ℕ → Level
-arrayIn v a = arrayLevel (field v 8 16) (v % 256) a
+given-many : (s : Slot) → Numbered s → (n : ℕ) → Given (many s n)
+given-many s h zero = tt
+given-many s h (suc n) = h
 
-abbrev mapIn : ℕ → ℕ → Level
-mapIn v a = cond (eqb (field v 24 16) 3) (many (slotOf (field v 16 256)) a) done
+given-either : (x : Bool) (u v : Level) → Given u → Given v → Given (cond x u v)
+given-either true u v p q = p
+given-either false u v p q = q
 
--- the rows of one kind
-abbrev only : ℕ → List Row → List Row
-only k [] = []
-only k (row k′ lo hi ∷ rs) = let r = only k rs in cond (eqb k k′) (row k′ lo hi ∷ r) r
+by-place : (P : Place → Type 0) → P alone → P message → P inside → P param → (w : Place) → P w
+by-place P a m i p alone = a
+by-place P a m i p message = m
+by-place P a m i p inside = i
+by-place P a m i p param = p
 
--- the bits of a range are the arguments below 32 that the rows allow
-abbrev bitIs : ℕ → ℕ → List Row → ℕ → Bool
-bitIs m k rs a = same (eqb (m / 2 ^ a % 2) 1) (fits k a rs)
+type-low : (t : ℕ) → typeNumber t ≤ 21
+type-low t = go (ltb t 22) refl
+  where
+    go : (x : Bool) → ltb t 22 ≡ x → cond x t 0 ≤ 21
+    go true e = let h : t < 22 = ltb-true t 22 e in omega arith
+    go false e = omega arith
 
--- no row goes beyond 31
-abbrev topped : List Row → Bool
-topped [] = true
-topped (row k lo hi ∷ rs) = leb hi 31 && topped rs
-
--- the rows of one kind allow from 32 on what lies below t
-abbrev aboveIs : ℕ → List Row → Bool
-aboveIs t [] = leb t 31
-aboveIs t (row k lo hi ∷ []) = leb lo 32 && (eqb t hi || (leb hi 31 && leb t 31))
-aboveIs t (row k lo hi ∷ r ∷ rs) = leb t 31 && topped (row k lo hi ∷ r ∷ rs)
-
-abbrev isRange : ℕ → ℕ → List Row → Bool
-isRange c k rs = allFrom 32 0 (bitIs (getD smalls c 1) k rs) && aboveIs (getD tops c 1) rs
-
-abbrev rangeAt : ℕ → List Row → ℕ → Bool
-rangeAt w rs k = isRange (w / 2 ^ (k * 5) % 32) k (only k rs)
-
--- where a value follows, no argument beyond 21 passes
-abbrev clear : ℕ → ℕ → Bool
-clear m a = eqb (m / 2 ^ a % 2) 0
-
-abbrev isSmall : ℕ → Bool
-isSmall c = allFrom 10 22 (clear (getD smalls c 1)) && leb (getD tops c 1) 31
-
-abbrev smallAt : ℕ → ℕ → Bool
-smallAt w k = isSmall (w / 2 ^ (k * 5) % 32)
-
-abbrev valueAt : ℕ → Bool
-valueAt w =
-    cond (eqb (field w 59 2) 0) true
-    (allFrom 10 0 (smallAt w) && (eqb (field w 57 2) 0 && (eqb (field w 58 2) 0 && (eqb (field w 50 128) 28 || eqb (field w 50 128) 50))))
-
--- the slots that a word names are slots
-abbrev names : ℕ → ℕ → Bool
-names w v = ltb (field w 50 128) 72 && (ltb (v % 256) 72 && ltb (field v 16 256) 72)
-
--- the word and the inner word of a slot's number are right for the slot
-abbrev RightFor : ℕ → ℕ → Slot → Type 0
-RightFor w v s =
-    (nextIn w ≡ rule s .next)
-    × (arrayIn v ≡ rule s .inArray)
-    × (mapIn v ≡ rule s .inMap)
-    × (ownIn w ≡ rule s .own)
-    × (spellingIn w ≡ rule s .spelling)
-    × (asksIn v ≡ rule s .asks)
-    × (allFrom 10 0 (rangeAt w (rule s .rows)) ≡ true)
-    × ((valueAt w && names w v) ≡ true)
-
-abbrev AllRight : List ℕ → List ℕ → List Slot → Type 0
-AllRight [] vs ss = Unit {0}
-AllRight (w ∷ ws) [] ss = Unit {0}
-AllRight (w ∷ ws) (v ∷ vs) [] = Unit {0}
-AllRight (w ∷ ws) (v ∷ vs) (s ∷ ss) = RightFor w v s × AllRight ws vs ss
-
-all-right : AllRight words insides slots
-unfolding rule types
-all-right = (
-  (refl, refl, refl, refl, refl, refl, refl, refl),
-  (
-    (refl, refl, refl, refl, refl, refl, refl, refl),
-    (
-      (refl, refl, refl, refl, refl, refl, refl, refl),
-      (
-        (refl, refl, refl, refl, refl, refl, refl, refl),
-        (
-          (refl, refl, refl, refl, refl, refl, refl, refl),
-          (
-            (refl, refl, refl, refl, refl, refl, refl, refl),
-            (
-              (refl, refl, refl, refl, refl, refl, refl, refl),
-              (
-                (refl, refl, refl, refl, refl, refl, refl, refl),
-                (
-                  (refl, refl, refl, refl, refl, refl, refl, refl),
-                  (
-                    (refl, refl, refl, refl, refl, refl, refl, refl),
-                    (
-                      (refl, refl, refl, refl, refl, refl, refl, refl),
-                      (
-                        (refl, refl, refl, refl, refl, refl, refl, refl),
-                        (
-                          (refl, refl, refl, refl, refl, refl, refl, refl),
-                          (
-                            (refl, refl, refl, refl, refl, refl, refl, refl),
-                            (
-                              (refl, refl, refl, refl, refl, refl, refl, refl),
-                              (
-                                (refl, refl, refl, refl, refl, refl, refl, refl),
-                                (
-                                  (refl, refl, refl, refl, refl, refl, refl, refl),
-                                  (
-                                    (refl, refl, refl, refl, refl, refl, refl, refl),
-                                    (
-                                      (refl, refl, refl, refl, refl, refl, refl, refl),
-                                      (
-                                        (refl, refl, refl, refl, refl, refl, refl, refl),
-                                        (
-                                          (refl, refl, refl, refl, refl, refl, refl, refl),
-                                          (
-                                            (refl, refl, refl, refl, refl, refl, refl, refl),
-                                            (
-                                              (refl, refl, refl, refl, refl, refl, refl, refl),
-                                              (
-                                                (refl, refl, refl, refl, refl, refl, refl, refl),
-                                                (
-                                                  (refl, refl, refl, refl, refl, refl, refl, refl),
-                                                  (
-                                                    (refl, refl, refl, refl, refl, refl, refl, refl),
-                                                    (
-                                                      (refl, refl, refl, refl, refl, refl, refl, refl),
-                                                      (
-                                                        (refl, refl, refl, refl, refl, refl, refl, refl),
-                                                        (
-                                                          (refl, refl, refl, refl, refl, refl, refl, refl),
-                                                          (
-                                                            (refl, refl, refl, refl, refl, refl, refl, refl),
-                                                            (
-                                                              (refl, refl, refl, refl, refl, refl, refl, refl),
-                                                              (
-                                                                (refl, refl, refl, refl, refl, refl, refl, refl),
-                                                                (
-                                                                  (refl, refl, refl, refl, refl, refl, refl, refl),
-                                                                  (
-                                                                    (refl, refl, refl, refl, refl, refl, refl, refl),
-                                                                    (
-                                                                      (refl, refl, refl, refl, refl, refl, refl, refl),
-                                                                      (
-                                                                        (refl, refl, refl, refl, refl, refl, refl, refl),
-                                                                        (
-                                                                          (refl, refl, refl, refl, refl, refl, refl, refl),
-                                                                          (
-                                                                            (refl, refl, refl, refl, refl, refl, refl, refl),
-                                                                            (
-                                                                              (refl, refl, refl, refl, refl, refl, refl, refl),
-                                                                              (
-                                                                                (refl, refl, refl, refl, refl, refl, refl, refl),
-                                                                                (
-                                                                                  (refl, refl, refl, refl, refl, refl, refl, refl),
-                                                                                  (
-                                                                                    (refl, refl, refl, refl, refl, refl, refl, refl),
-                                                                                    (
-                                                                                      (refl, refl, refl, refl, refl, refl, refl, refl),
-                                                                                      (
-                                                                                        (refl, refl, refl, refl, refl, refl, refl, refl),
-                                                                                        (
-                                                                                          (refl, refl, refl, refl, refl, refl, refl, refl),
-                                                                                          (
-                                                                                            (refl, refl, refl, refl, refl, refl, refl, refl),
-                                                                                            (
-                                                                                              (refl, refl, refl, refl, refl, refl, refl, refl),
-                                                                                              (
-                                                                                                (refl, refl, refl, refl, refl, refl, refl, refl),
-                                                                                                (
-                                                                                                  (refl, refl, refl, refl, refl, refl, refl, refl),
-                                                                                                  (
-                                                                                                    (refl, refl, refl, refl, refl, refl, refl, refl),
-                                                                                                    (
-                                                                                                      (refl, refl, refl, refl, refl, refl, refl, refl),
-                                                                                                      (
-                                                                                                        (refl, refl, refl, refl, refl, refl, refl, refl),
-                                                                                                        (
-                                                                                                          (refl, refl, refl, refl, refl, refl, refl, refl),
-                                                                                                          (
-                                                                                                            (refl, refl, refl, refl, refl, refl, refl, refl),
-                                                                                                            (
-                                                                                                              (refl, refl, refl, refl, refl, refl, refl, refl),
-                                                                                                              (
-                                                                                                                (refl, refl, refl, refl, refl, refl, refl, refl),
-                                                                                                                (
-                                                                                                                  (refl, refl, refl, refl, refl, refl, refl, refl),
-                                                                                                                  (
-                                                                                                                    (refl, refl, refl, refl, refl, refl, refl, refl),
-                                                                                                                    (
-                                                                                                                      (refl, refl, refl, refl, refl, refl, refl, refl),
-                                                                                                                      (
-                                                                                                                        (refl, refl, refl, refl, refl, refl, refl, refl),
-                                                                                                                        (
-                                                                                                                          (refl, refl, refl, refl, refl, refl, refl, refl),
-                                                                                                                          (
-                                                                                                                            (refl, refl, refl, refl, refl, refl, refl, refl),
-                                                                                                                            (
-                                                                                                                              (refl, refl, refl, refl, refl, refl, refl, refl),
-                                                                                                                              (
-                                                                                                                                (refl, refl, refl, refl, refl, refl, refl, refl),
-                                                                                                                                (
-                                                                                                                                  (refl, refl, refl, refl, refl, refl, refl, refl),
-                                                                                                                                  (
-                                                                                                                                    (refl, refl, refl, refl, refl, refl, refl, refl),
-                                                                                                                                    (
-                                                                                                                                      (refl, refl, refl, refl, refl, refl, refl, refl),
-                                                                                                                                      (
-                                                                                                                                        (refl, refl, refl, refl, refl, refl, refl, refl),
-                                                                                                                                        (
-                                                                                                                                          (refl, refl, refl, refl, refl, refl, refl, refl),
-                                                                                                                                          (
-                                                                                                                                            (refl, refl, refl, refl, refl, refl, refl, refl),
-                                                                                                                                            (
-                                                                                                                                              (refl, refl, refl, refl, refl, refl, refl, refl),
-                                                                                                                                              (
-                                                                                                                                                (refl, refl, refl, refl, refl, refl, refl, refl),
-                                                                                                                                                tt,
-                                                                                                                                              ),
-                                                                                                                                            ),
-                                                                                                                                          ),
-                                                                                                                                        ),
-                                                                                                                                      ),
-                                                                                                                                    ),
-                                                                                                                                  ),
-                                                                                                                                ),
-                                                                                                                              ),
-                                                                                                                            ),
-                                                                                                                          ),
-                                                                                                                        ),
-                                                                                                                      ),
-                                                                                                                    ),
-                                                                                                                  ),
-                                                                                                                ),
-                                                                                                              ),
-                                                                                                            ),
-                                                                                                          ),
-                                                                                                        ),
-                                                                                                      ),
-                                                                                                    ),
-                                                                                                  ),
-                                                                                                ),
-                                                                                              ),
-                                                                                            ),
-                                                                                          ),
-                                                                                        ),
-                                                                                      ),
-                                                                                    ),
-                                                                                  ),
-                                                                                ),
-                                                                              ),
-                                                                            ),
-                                                                          ),
-                                                                        ),
-                                                                      ),
-                                                                    ),
-                                                                  ),
-                                                                ),
-                                                              ),
-                                                            ),
-                                                          ),
-                                                        ),
-                                                      ),
-                                                    ),
-                                                  ),
-                                                ),
-                                              ),
-                                            ),
-                                          ),
-                                        ),
-                                      ),
-                                    ),
-                                  ),
-                                ),
-                              ),
-                            ),
-                          ),
-                        ),
-                      ),
-                    ),
-                  ),
-                ),
-              ),
-            ),
-          ),
-        ),
-      ),
-    ),
-  ),
+-- the values of the types, in one test over them
+value-slot : (a : ℕ) → a ≤ 21 → (slotOf (28 + a) ≡ value a inside) × (slotOf (50 + a) ≡ value a param)
+value-slot a h = (
+  each-at 22 (λ t. slotOf (28 + t)) (λ t. value t inside) refl a (omega arith),
+  each-at 22 (λ t. slotOf (50 + t)) (λ t. value t param) refl a (omega arith),
 )
 
-right-at : (j : ℕ) (ws vs : List ℕ) (ss : List Slot) (d : Slot) → AllRight ws vs ss → j < length ws → j < length vs → j < length ss
-    → RightFor (getD ws j 0) (getD vs j 0) (getD ss j d)
-right-at j [] vs ss d r h h₁ h₂ = absurd (omega arith)
-right-at j (w ∷ ws) [] ss d r h h₁ h₂ = absurd (omega arith)
-right-at j (w ∷ ws) (v ∷ vs) [] d r h h₁ h₂ = absurd (omega arith)
-right-at zero (w ∷ ws) (v ∷ vs) (s ∷ ss) d r h h₁ h₂ = r .0
-right-at (suc j) (w ∷ ws) (v ∷ vs) (s ∷ ss) d r h h₁ h₂ = right-at j ws vs ss d (r .1) (omega arith) (omega arith) (omega arith)
+value-numbered : (a : ℕ) (w : Place) → a ≤ 21 → Numbered (value a (inner w))
+unfolding slotNumber
+value-numbered a w h =
+    let (i, p) = value-slot a h in
+    rw (lt-ltb a 22 (omega arith)) (by-place (λ u. slotOf (28 + inParam (inner u) * 22 + a) ≡ value a (inner u)) i i i p w)
 
--- a slot's number
-abbrev pub IsSlot : ℕ → Type 0
-IsSlot i = i < 72
+-- a map's keys and values stand inside or in parameters
+key-entry : (w : Place) → Numbered (key w) → Numbered (entry w)
+unfolding slotNumber
+key-entry = by-place (λ w. Numbered (key w) → Numbered (entry w)) (λ h. cc) (λ h. cc) (λ h. refl) (λ h. refl)
 
-right : (i : ℕ) → IsSlot i → RightFor (wordOf i) (insideOf i) (slotOf i)
-unfolding wordOf insideOf
-right i h = right-at i words insides slots version all-right h h h
+entry-key : (w : Place) → Numbered (entry w) → Numbered (key w)
+unfolding slotNumber
+entry-key = by-place (λ w. Numbered (entry w) → Numbered (key w)) (λ h. cc) (λ h. cc) (λ h. refl) (λ h. refl)
 
--- test 7
-only-fits : (k a : ℕ) (rs : List Row) → fits k a rs ≡ fits k a (only k rs)
-only-fits k a [] = refl
-only-fits k a (row k′ lo hi ∷ rs) = go (eqb k k′) refl (only-fits k a rs)
+-- What the rule makes due beside a slot; beside a type's it is the value's, if the argument is a type's number.
+next-given : (s : Slot) → Numbered s → (a n : ℕ) → ((w : Place) → s ≡ type w → a ≤ 21) → Given (rule s .next a n)
+unfolding rule slotNumber
+next-given version h a n t = tt
+next-given (ari w) h a n t = given-many (ari w) h n
+next-given (type w) h a n t = value-numbered a w (t w refl)
+next-given (value u w) h a n t = tt
+next-given namespace h a n t = tt
+next-given (objectNamespace false) h a n t = refl
+next-given (objectNamespace true) h a n t = refl
+next-given (objectType false) h a n t = refl
+next-given (objectType true) h a n t = refl
+next-given (objectId false) h a n t = tt
+next-given (objectId true) h a n t = refl
+next-given params h a n t = tt
+next-given (key w) h a n t = key-entry w h
+next-given (entry w) h a n t = given-many (key w) (entry-key w h) n
+next-given (nonce u) h a n t = given-either (eqb u 21) (due setTime n) (many target n) refl (given-many target refl n)
+next-given setTime h a n t = given-many report refl n
+next-given target h a n t = given-many target refl n
+next-given report h a n t = given-many report refl n
+next-given reportTime h a n t = refl
+next-given reportSource h a n t = given-many (ari inside) refl n
+
+-- what passed test 7 where a type is due is a type's number
+abbrev typeRow : Row → Bool
+typeRow (row k lo hi) = leb hi 21
+
+type-fits : (k a : ℕ) (w : Place) → fits k a (rule (type w) .rows) ≡ true → a ≤ 21
+unfolding rule types
+type-fits k a w e =
+    let f = fits-by typeRow k a (typeRows w types) (by-place (λ u. every typeRow (typeRows u types) ≡ true) refl refl refl refl w) e in
+    let h : f .hi ≤ 21 = leb-true (f .hi) 21 (f .holds) in
+    omega (arith, f .high)
+
+-- what it makes due inside
+ari-numbered : (w : Place) → Numbered (ari w)
+unfolding slotNumber
+ari-numbered = by-place (λ w. Numbered (ari w)) refl refl refl refl
+
+type-numbered : (w : Place) → Numbered (type w)
+unfolding slotNumber
+type-numbered = by-place (λ w. Numbered (type w)) refl refl refl refl
+
+value-key : (t : ℕ) (w : Place) → Numbered (value t w) → Numbered (key w)
+unfolding slotNumber
+value-key t =
+    let q = value-slot (typeNumber t) (type-low t) .0 in
+    by-place (λ w. Numbered (value t w) → Numbered (key w)) (λ h. cc) (λ h. cc) (λ h. refl) (λ h. refl)
+
+reference-given : (a : ℕ) → Given (referenceLevel a)
+unfolding slotNumber
+reference-given a = go (eqb a 1) (eqb a 4)
   where
-    go : (t : Bool) → eqb k k′ ≡ t → fits k a rs ≡ fits k a (only k rs)
-        → (t && within lo hi a) || fits k a rs ≡ fits k a (cond t (row k′ lo hi ∷ only k rs) (only k rs))
-    go true q ih = rw (q, ih)
-    go false q ih = ih
+    go : (x y : Bool) → Given (cond x (due namespace 0) (due (objectNamespace y) 0))
+    go true y = refl
+    go false false = refl
+    go false true = refl
 
-abbrev AreKind : ℕ → List Row → Type 0
-AreKind k [] = Unit {0}
-AreKind k (row k′ lo hi ∷ rs) = (k ≡ k′) × AreKind k rs
+ari-given : (w : Place) (a : ℕ) → Given (ariLevel w a)
+ari-given w a = given-either (eqb a 2) (due (type w) 0) (referenceLevel a) (type-numbered w) (reference-given a)
 
-only-kind : (k : ℕ) (rs : List Row) → AreKind k (only k rs)
-only-kind k [] = tt
-only-kind k (row k′ lo hi ∷ rs) = go (eqb k k′) refl (only-kind k rs)
-  where
-    go : (t : Bool) → eqb k k′ ≡ t → AreKind k (only k rs) → AreKind k (cond t (row k′ lo hi ∷ only k rs) (only k rs))
-    go true q ih = (eqb-true k k′ q, ih)
-    go false q ih = ih
+abbrev Holds : Slot → Type 0
+Holds s = ((a : ℕ) → Given (rule s .inArray a)) × ((a : ℕ) → Given (rule s .inMap a))
 
-above-false : (k a : ℕ) (rs : List Row) → topped rs ≡ true → 31 < a → fits k a rs ≡ false
-above-false k a [] t h = refl
-above-false k a (row k′ lo hi ∷ rs) t h =
-    let (p, q) = and-true (leb hi 31) (topped rs) t in
-    let l : hi ≤ 31 = leb-true hi 31 p in
-    rw (lt-leb a hi (omega arith), above-false k a rs q h) (go (eqb k k′) (leb lo a))
-  where
-    go : (x y : Bool) → (x && (y && false)) || false ≡ false
-    go true true = refl
-    go true false = refl
-    go false y = refl
-
-above-right : (t k a : ℕ) (rs : List Row) → AreKind k rs → aboveIs t rs ≡ true → 31 < a → leb a t ≡ fits k a rs
-above-right t k a [] y e h = let l : t ≤ 31 = leb-true t 31 e in lt-leb a t (omega arith)
-above-right t k a (row k′ lo hi ∷ []) y e h = go (eqb t hi) refl (and-true (leb lo 32) (eqb t hi || (leb hi 31 && leb t 31)) e)
-  where
-    go : (x : Bool) → eqb t hi ≡ x → (leb lo 32 ≡ true) × ((x || (leb hi 31 && leb t 31)) ≡ true)
-        → leb a t ≡ (eqb k k′ && (leb lo a && leb a hi)) || false
-    go true q (p, z) =
-        let l : lo ≤ 32 = leb-true lo 32 p in
-        rw (eqb-true t hi q, eq-eqb k k′ (y .0), le-leb lo a (omega arith)) (one (leb a hi))
-      where
-        one : (x : Bool) → x ≡ x || false
-        one true = refl
-        one false = refl
-    go false q (p, z) =
-        let (u, v) = and-true (leb hi 31) (leb t 31) z in
-        let l : t ≤ 31 = leb-true t 31 v in
-        let m : topped (row k′ lo hi ∷ []) ≡ true = rw u in
-        lt-leb a t (omega arith) ∙ sym (above-false k a (row k′ lo hi ∷ []) m h)
-above-right t k a (row k′ lo hi ∷ r ∷ rs) y e h =
-    let (u, v) = and-true (leb t 31) (topped (row k′ lo hi ∷ r ∷ rs)) e in
-    let l : t ≤ 31 = leb-true t 31 u in
-    lt-leb a t (omega arith) ∙ sym (above-false k a (row k′ lo hi ∷ r ∷ rs) v h)
-
-range-right : (c k a : ℕ) (rs : List Row) → AreKind k rs → isRange c k rs ≡ true
-    → cond (ltb a 32) (eqb (getD smalls c 1 / 2 ^ a % 2) 1) (leb a (getD tops c 1)) ≡ fits k a rs
-range-right c k a rs y t = go (ltb a 32) refl (and-true (allFrom 32 0 (bitIs (getD smalls c 1) k rs)) (aboveIs (getD tops c 1) rs) t)
-  where
-    go : (x : Bool) → ltb a 32 ≡ x → (allFrom 32 0 (bitIs (getD smalls c 1) k rs) ≡ true) × (aboveIs (getD tops c 1) rs ≡ true)
-        → cond x (eqb (getD smalls c 1 / 2 ^ a % 2) 1) (leb a (getD tops c 1)) ≡ fits k a rs
-    go true q (u, v) = same-true _ _ (all-at 32 0 (bitIs (getD smalls c 1) k rs) u a (omega arith) (let h : a < 32 = ltb-true a 32 q in omega arith))
-    go false q (u, v) = above-right (getD tops c 1) k a rs y v (let h : 32 ≤ a = ltb-false a 32 q in omega arith)
-
-pub fits-right : (i k a : ℕ) → IsSlot i → k ≤ 9 → fitsCode i k a ≡ fits k a (rule (slotOf i) .rows)
-unfolding fitsCode rangeOf smallOf topOf
-fits-right i k a h g =
-    let rs = rule (slotOf i) .rows in
-    let t = all-at 10 0 (rangeAt (wordOf i) rs) (right i h .6) k (omega arith) (omega arith) in
-    rw (le-ltb 9 k g) (range-right (wordOf i / 2 ^ (k * 5) % 32) k a (only k rs) (only-kind k rs) t) ∙ sym (only-fits k a rs)
-
-pub own-right : (i : ℕ) → IsSlot i → rule (slotOf i) .own ≡ getD (none ∷ one ∷ rising ∷ filled ∷ []) (ownOf i) none
-own-right i h = sym (right i h .3)
-
-pub spelling-right : (i : ℕ) → IsSlot i → rule (slotOf i) .spelling ≡ getD (utf8 ∷ identifier ∷ namespaceName ∷ []) (spellingOf i) utf8
-spelling-right i h = sym (right i h .4)
-
-pub asks-right : (i : ℕ) → IsSlot i → rule (slotOf i) .asks ≡ asksOf i
-asks-right i h = sym (right i h .5)
+inside-given : (s : Slot) → Numbered s → Holds s
+unfolding rule slotNumber
+inside-given version h = (λ a. tt, λ a. tt)
+inside-given (ari w) h = (ari-given w, λ a. tt)
+inside-given (type w) h = (λ a. tt, λ a. tt)
+inside-given (value t w) h = (
+  λ a.
+      given-either (eqb t 20) (due (nonce 20) (a - 1)) (cond (eqb t 21) (due (nonce 21) (a - 2)) (many (ari w) a)) refl
+      (given-either (eqb t 21) (due (nonce 21) (a - 2)) (many (ari w) a) refl (given-many (ari w) (ari-numbered w) a)),
+  given-many (key w) (value-key t w h),
+)
+inside-given namespace h = (λ a. tt, λ a. tt)
+inside-given (objectNamespace p) h = (λ a. tt, λ a. tt)
+inside-given (objectType p) h = (λ a. tt, λ a. tt)
+inside-given (objectId p) h = (λ a. tt, λ a. tt)
+inside-given params h = (given-many (ari param) refl, given-many (key param) refl)
+inside-given (key w) h = (λ a. tt, λ a. tt)
+inside-given (entry w) h = (ari-given w, λ a. tt)
+inside-given (nonce t) h = (λ a. tt, λ a. tt)
+inside-given setTime h = (λ a. tt, λ a. tt)
+inside-given target h = (reference-given, λ a. tt)
+inside-given report h = (λ a. refl, λ a. tt)
+inside-given reportTime h = (λ a. tt, λ a. tt)
+inside-given reportSource h = (reference-given, λ a. tt)
 
 -- what is due is a slot
 abbrev pub Slotted : Next → Type 0
@@ -440,212 +189,90 @@ pub record Stands (r : Next) (v : Level) : Type 0 where
   pub level : levelOf r ≡ v
   pub slotted : Slotted r
 
-stands-many : (s n : ℕ) → IsSlot s → Stands (manyCode s n) (many (slotOf s) n)
-stands-many s zero h = record { level = refl; slotted = tt }
-stands-many s (suc n) h = rw (ne-eqb (suc n) 0 (λ e. omega arith)) (record { level = ap (due (slotOf s)) (omega arith); slotted = h })
+stands : (v : Level) → Given v → Stands (nextOf v) v
+stands done h = record { level = refl; slotted = tt }
+stands (due s n) h = record { level = ap (λ (x : Slot). due x n) h; slotted = numbered-is-slot s h }
 
--- the values of the types, inside and in parameters
-abbrev Values : ℕ → Type 0
-Values zero = Unit {0}
-Values (suc n) = Values n × (slotOf (28 + n) ≡ value n inside) × (slotOf (50 + n) ≡ value n param)
+pub fits-right : (i k a : ℕ) → IsSlot i → k ≤ 9 → fitsCode i k a ≡ fits k a (rule (slotOf i) .rows)
+unfolding fitsCode
+fits-right i k a v h = refl
 
-values : Values 22
-values = ((((((((((((((((((((((tt, refl, refl), refl, refl), refl, refl), refl, refl), refl, refl), refl, refl), refl, refl), refl, refl), refl, refl), refl, refl), refl, refl), refl, refl), refl, refl), refl, refl), refl, refl), refl, refl), refl, refl), refl, refl), refl, refl), refl, refl), refl, refl), refl, refl)
-
-value-at : (n a : ℕ) → Values n → a < n → (slotOf (28 + a) ≡ value a inside) × (slotOf (50 + a) ≡ value a param)
-value-at zero a v h = absurd (omega arith)
-value-at (suc n) a v h = go (eqb a n) refl (value-at n a (v .0))
+pub own-right : (i : ℕ) → IsSlot i → rule (slotOf i) .own ≡ getD (none ∷ one ∷ rising ∷ filled ∷ []) (ownOf i) none
+own-right i v = go (rule (slotOf i) .own)
   where
-    go : (x : Bool) → eqb a n ≡ x → (a < n → (slotOf (28 + a) ≡ value a inside) × (slotOf (50 + a) ≡ value a param))
-        → (slotOf (28 + a) ≡ value a inside) × (slotOf (50 + a) ≡ value a param)
-    go true q ih = rw (eqb-true a n q) (v .1, v .2)
-    go false q ih = let ne : a ≡ n → ⊥ = eqb-false a n q in ih (omega arith)
+    go : (o : Own) → o ≡ getD (none ∷ one ∷ rising ∷ filled ∷ []) (ownNumber o) none
+    go none = refl
+    go one = refl
+    go rising = refl
+    go filled = refl
 
--- the ways of `next_slot`
-module _ (took stay add to a n : ℕ) (h : IsSlot to) (l : took < 2) where
-  abbrev Follows : Type 0
-  Follows = Stands (nextBits took stay add to a n) (levelBits took stay add to a n)
+pub asks-right : (i : ℕ) → IsSlot i → rule (slotOf i) .asks ≡ asksOf i
+asks-right i v = refl
 
-  follows-plain : add ≡ 0 → Follows
-  unfolding nextBits
-  follows-plain e = rw e (go (eqb took 0) refl (eqb stay 0) refl)
-    where
-      last : (m : ℕ) → Stands (cond (ltb m 1) Done (Due (to + 0) (m - 1))) (many (slotOf to) m)
-      last zero = record { level = refl; slotted = tt }
-      last (suc m) = rw (le-ltb (suc m) 1 (omega arith)) (let z : to + 0 ≡ to = omega arith in rw z (record { level = ap (due (slotOf to)) (omega arith); slotted = h }))
+-- The types' slots are 5 to 8.
+type-place : (w : Place) → within 5 8 (slotNumber (type w)) ≡ true
+unfolding slotNumber
+type-place = by-place (λ w. within 5 8 (slotNumber (type w)) ≡ true) refl refl refl refl
 
-      go : (x : Bool) → eqb took 0 ≡ x → (y : Bool) → eqb stay 0 ≡ y
-          → Stands (cond (ltb (cond y 0 n) took) Done (Due (to + 0) (cond y 0 n - took)))
-          (cond x (due (slotOf to) (cond y 0 n)) (cond y done (many (slotOf to) n)))
-      go true q y p =
-          let z : took ≡ 0 = eqb-true took 0 q in
-          let v : to + 0 ≡ to = omega arith in
-          rw (z, v, le-ltb (cond y 0 n) 0 (omega arith)) (record { level = ap (due (slotOf to)) (omega arith); slotted = h })
-      go false q true p =
-          let ne : took ≡ 0 → ⊥ = eqb-false took 0 q in
-          let z : took ≡ 1 = omega arith in
-          rw z (record { level = refl; slotted = tt })
-      go false q false p =
-          let ne : took ≡ 0 → ⊥ = eqb-false took 0 q in
-          let z : took ≡ 1 = omega arith in
-          rw z (last n)
-
-  follows-value : (add ≡ 0 → ⊥) → a ≤ 21 → took ≡ 0 → stay ≡ 0 → (eqb to 28 || eqb to 50) ≡ true → Follows
-  unfolding nextBits
-  follows-value m g e f t =
-      rw (e, f, lt-ltb a 22 (omega arith), ne-eqb add 0 m) (go (eqb to 28) refl t)
-    where
-      go : (x : Bool) → eqb to 28 ≡ x → (x || eqb to 50) ≡ true → Stands (Due (to + a) 0) (cond x (due (value a inside) 0) (due (value a param) 0))
-      go true q p = rw (eqb-true to 28 q) (record { level = ap (λ (x : Slot). due x 0) (value-at 22 a values (omega arith) .0); slotted = omega arith })
-      go false q p = rw (eqb-true to 50 p) (record { level = ap (λ (x : Slot). due x 0) (value-at 22 a values (omega arith) .1); slotted = omega arith })
-
-  -- a slot follows, whatever the argument
-  follows-slotted : (add ≡ 0 → ⊥) → took ≡ 0 → stay ≡ 0 → (eqb to 28 || eqb to 50) ≡ true → Slotted (nextBits took stay add to a n)
-  unfolding nextBits
-  follows-slotted m e f t = rw (e, f, ne-eqb add 0 m) (go (eqb to 28) refl t (ltb a 22) refl)
-    where
-      go : (x : Bool) → eqb to 28 ≡ x → (x || eqb to 50) ≡ true → (y : Bool) → ltb a 22 ≡ y → to + cond y a 0 < 72
-      go true q p true z = omega (arith, eqb-true to 28 q, ltb-true a 22 z)
-      go true q p false z = omega (arith, eqb-true to 28 q)
-      go false q p true z = omega (arith, eqb-true to 50 p, ltb-true a 22 z)
-      go false q p false z = omega (arith, eqb-true to 50 p)
-
--- what passed test 7 where a value follows is a type
-fits-small : (i k a : ℕ) → k ≤ 9 → isSmall (wordOf i / 2 ^ (k * 5) % 32) ≡ true → fitsCode i k a ≡ true → a ≤ 21
-unfolding fitsCode rangeOf smallOf topOf
-fits-small i k a g t e = go (ltb a 32) refl (and-true _ _ t) (rw (le-ltb 9 k g) at e)
-  where
-    go : (x : Bool) → ltb a 32 ≡ x
-        → (allFrom 10 22 (clear (getD smalls (wordOf i / 2 ^ (k * 5) % 32) 1)) ≡ true) × (leb (getD tops (wordOf i / 2 ^ (k * 5) % 32) 1) 31 ≡ true)
-        → cond x (eqb (getD smalls (wordOf i / 2 ^ (k * 5) % 32) 1 / 2 ^ a % 2) 1) (leb a (getD tops (wordOf i / 2 ^ (k * 5) % 32) 1)) ≡ true → a ≤ 21
-    go true q (u, v) p = low (ltb a 22) refl
-      where
-        low : (y : Bool) → ltb a 22 ≡ y → a ≤ 21
-        low true r = let h : a < 22 = ltb-true a 22 r in omega arith
-        low false r =
-            let h : a < 32 = ltb-true a 32 q in
-            let m : 22 ≤ a = ltb-false a 22 r in
-            let z : getD smalls (wordOf i / 2 ^ (k * 5) % 32) 1 / 2 ^ a % 2 ≡ 0 = eqb-true (getD smalls (wordOf i / 2 ^ (k * 5) % 32) 1 / 2 ^ a % 2) 0 (all-at 10 22 (clear (getD smalls (wordOf i / 2 ^ (k * 5) % 32) 1)) u a m (omega arith)) in
-            let o : getD smalls (wordOf i / 2 ^ (k * 5) % 32) 1 / 2 ^ a % 2 ≡ 1 = eqb-true (getD smalls (wordOf i / 2 ^ (k * 5) % 32) 1 / 2 ^ a % 2) 1 p in
-            absurd (omega arith)
-    go false q (u, v) p =
-        let h : 32 ≤ a = ltb-false a 32 q in
-        let m : a ≤ getD tops (wordOf i / 2 ^ (k * 5) % 32) 1 = leb-true a _ p in
-        let o : getD tops (wordOf i / 2 ^ (k * 5) % 32) 1 ≤ 31 = leb-true _ 31 v in
-        absurd (omega arith)
-
--- what is due beside a slot, if an argument that is added to a slot's number is a type's
-pub next-stands : (i a n : ℕ) → IsSlot i → (eqb (field (wordOf i) 59 2) 0 ≡ false → a ≤ 21) → Stands (nextCode i a n) (rule (slotOf i) .next a n)
+pub next-stands : (i a n : ℕ) → IsSlot i → (within 5 8 i ≡ true → a ≤ 21) → Stands (nextCode i a n) (rule (slotOf i) .next a n)
 unfolding nextCode
-next-stands i a n h s =
-    let r = right i h in
-    let w = wordOf i in
-    let (p, q) = and-true (valueAt w) (names w (insideOf i)) (r .7) in
-    let l : field w 50 128 < 72 = ltb-true _ 72 (and-true _ _ q .0) in
-    rw (← ap (λ (f : ℕ → ℕ → Level). f a n) (r .0)) (go l (eqb (field w 59 2) 0) refl p)
-  where
-    go : field (wordOf i) 50 128 < 72 → (x : Bool) → eqb (field (wordOf i) 59 2) 0 ≡ x
-        → cond x true (allFrom 10 0 (smallAt (wordOf i)) && (eqb (field (wordOf i) 57 2) 0 && (eqb (field (wordOf i) 58 2) 0 && (eqb (field (wordOf i) 50 128) 28 || eqb (field (wordOf i) 50 128) 50)))) ≡ true
-        → Stands (nextBits (field (wordOf i) 57 2) (field (wordOf i) 58 2) (field (wordOf i) 59 2) (field (wordOf i) 50 128) a n)
-        (levelBits (field (wordOf i) 57 2) (field (wordOf i) 58 2) (field (wordOf i) 59 2) (field (wordOf i) 50 128) a n)
-    go l true q p = follows-plain _ _ _ _ a n l (omega arith) (eqb-true _ 0 q)
-    go l false q p =
-        let (u, v) = and-true (allFrom 10 0 (smallAt (wordOf i))) _ p in
-        let (v₁, v₂) = and-true (eqb (field (wordOf i) 57 2) 0) _ v in
-        let (v₃, v₄) = and-true (eqb (field (wordOf i) 58 2) 0) _ v₂ in
-        follows-value _ _ _ _ a n l (omega arith) (eqb-false _ 0 q) (s q) (eqb-true _ 0 v₁) (eqb-true _ 0 v₃) v₄
+next-stands i a n v t =
+    stands (rule (slotOf i) .next a n)
+    (next-given (slotOf i) (numbered i v) a n (λ w e. let q : i ≡ slotNumber (type w) = sym (number-slot i v) ∙ ap slotNumber e in t (rw q (type-place w))))
+
+-- A slot follows, whatever the argument.
+after-type : (j a n : ℕ) → j < 4 → Slotted (nextCode (5 + j) a n)
+unfolding nextCode slotNumber rule
+after-type zero a n h = omega (arith, type-low a)
+after-type (suc zero) a n h = omega (arith, type-low a)
+after-type (suc (suc zero)) a n h = omega (arith, type-low a)
+after-type (suc (suc (suc zero))) a n h = omega (arith, type-low a)
+after-type (suc (suc (suc (suc j)))) a n h = absurd (omega arith)
 
 pub next-slotted : (i a n : ℕ) → IsSlot i → Slotted (nextCode i a n)
-unfolding nextCode
-next-slotted i a n h =
-    let r = right i h in
-    let w = wordOf i in
-    let (p, q) = and-true (valueAt w) (names w (insideOf i)) (r .7) in
-    let l : field w 50 128 < 72 = ltb-true _ 72 (and-true _ _ q .0) in
-    go l (eqb (field w 59 2) 0) refl p
+next-slotted i a n v = go (within 5 8 i) refl
   where
-    go : field (wordOf i) 50 128 < 72 → (x : Bool) → eqb (field (wordOf i) 59 2) 0 ≡ x
-        → cond x true (allFrom 10 0 (smallAt (wordOf i)) && (eqb (field (wordOf i) 57 2) 0 && (eqb (field (wordOf i) 58 2) 0 && (eqb (field (wordOf i) 50 128) 28 || eqb (field (wordOf i) 50 128) 50)))) ≡ true
-        → Slotted (nextBits (field (wordOf i) 57 2) (field (wordOf i) 58 2) (field (wordOf i) 59 2) (field (wordOf i) 50 128) a n)
-    go l true q p = follows-plain (field (wordOf i) 57 2) (field (wordOf i) 58 2) (field (wordOf i) 59 2) (field (wordOf i) 50 128) a n l (omega arith) (eqb-true _ 0 q) .slotted
-    go l false q p =
-        let v = and-true (allFrom 10 0 (smallAt (wordOf i))) _ p .1 in
-        let (v₁, v₂) = and-true (eqb (field (wordOf i) 57 2) 0) _ v in
-        let (v₃, v₄) = and-true (eqb (field (wordOf i) 58 2) 0) _ v₂ in
-        follows-slotted (field (wordOf i) 57 2) (field (wordOf i) 58 2) (field (wordOf i) 59 2) (field (wordOf i) 50 128) a n l (omega arith) (eqb-false _ 0 q) (eqb-true _ 0 v₁) (eqb-true _ 0 v₃) v₄
+    go : (x : Bool) → within 5 8 i ≡ x → Slotted (nextCode i a n)
+    go true e =
+        let (l, h) = within-true 5 8 i e in
+        let q : i ≡ 5 + (i - 5) = omega arith in
+        rw q (after-type (i - 5) a n (omega arith))
+    go false e = next-stands i a n v (λ q. absurd (true≢false (sym q ∙ e))) .slotted
 
 pub next-right : (i k a n : ℕ) → IsSlot i → k ≤ 9 → fitsCode i k a ≡ true → Stands (nextCode i a n) (rule (slotOf i) .next a n)
-next-right i k a n h g t = next-stands i a n h small
-  where
-    small : eqb (field (wordOf i) 59 2) 0 ≡ false → a ≤ 21
-    small q =
-        let p = rw q at (and-true (valueAt (wordOf i)) (names (wordOf i) (insideOf i)) (right i h .7) .0) in
-        let u = and-true (allFrom 10 0 (smallAt (wordOf i))) _ p .0 in
-        fits-small i k a g (all-at 10 0 (smallAt (wordOf i)) u k (omega arith) (omega arith)) t
-
--- the slots whose argument is so added: a type's
-pub adds-type : (i : ℕ) → IsSlot i → eqb (field (wordOf i) 59 2) 0 ≡ false → within 5 8 i ≡ true
-unfolding wordOf
-adds-type i h q = go (eqb (field (getD words i 0) 59 2) 0) q (all-at 72 0 (λ j. eqb (field (getD words j 0) 59 2) 0 || within 5 8 j) refl i (omega arith) (omega arith))
-  where
-    go : (x : Bool) → x ≡ false → (x || within 5 8 i) ≡ true → within 5 8 i ≡ true
-    go true e p = absurd (true≢false e)
-    go false e p = p
-
-stands-reference : (a : ℕ) → Stands (inReferenceCode a) (referenceLevel a)
-unfolding inReferenceCode
-stands-reference a = go (eqb a 1) (eqb a 4)
-  where
-    go : (x y : Bool) → Stands (cond x (Due 9 0) (cond y (Due 11 0) (Due 10 0))) (cond x (due namespace 0) (due (objectNamespace y) 0))
-    go true y = record { level = refl; slotted = omega arith }
-    go false true = record { level = refl; slotted = omega arith }
-    go false false = record { level = refl; slotted = omega arith }
-
-stands-ari : (to a : ℕ) → IsSlot to → Stands (inAriCode to a) (cond (eqb a 2) (due (slotOf to) 0) (referenceLevel a))
-unfolding inAriCode
-stands-ari to a h = go (eqb a 2) (stands-reference a)
-  where
-    go : (x : Bool) → Stands (inReferenceCode a) (referenceLevel a)
-        → Stands (cond x (Due to 0) (inReferenceCode a)) (cond x (due (slotOf to) 0) (referenceLevel a))
-    go true s = record { level = refl; slotted = h }
-    go false s = s
-
-array-way : (way to a : ℕ) → IsSlot to → Stands (arrayWay way to a) (arrayLevel way to a)
-unfolding arrayWay
-array-way way to a h = go (ltb way 3) (eqb way 1) (eqb way 0) (eqb way 3)
-  where
-    go : (x y z u : Bool)
-        → Stands (cond x (cond y (inAriCode to a) (cond z Done (inReferenceCode a))) (cond u (manyCode to a) (Due to (a - (way - 3)))))
-        (cond x (cond y (cond (eqb a 2) (due (slotOf to) 0) (referenceLevel a)) (cond z done (referenceLevel a))) (cond u (many (slotOf to) a) (due (slotOf to) (a - (way - 3)))))
-    go true true z u = stands-ari to a h
-    go true false true u = record { level = refl; slotted = tt }
-    go true false false u = stands-reference a
-    go false y z true = stands-many to a h
-    go false y z false = record { level = refl; slotted = h }
+unfolding nextCode fitsCode
+next-right i k a n v h f = stands (rule (slotOf i) .next a n) (next-given (slotOf i) (numbered i v) a n (λ w e. type-fits k a w (rw e at f)))
 
 pub inside-right : (i : ℕ) (l : Lead) → IsSlot i → Stands (insideCode i (l .kind) (l .arg)) (members (slotOf i) l)
-unfolding insideCode members inArrayCode inMapCode
-inside-right i l h = go (eqb (l .kind) 4) (eqb (l .kind) 5)
+unfolding insideCode members
+inside-right i l v =
+    let (p, q) = inside-given (slotOf i) (numbered i v) in
+    stands (members (slotOf i) l) (given-either (eqb (l .kind) 4) (rule (slotOf i) .inArray (l .arg)) (cond (eqb (l .kind) 5) (rule (slotOf i) .inMap (l .arg)) done) (p (l .arg)) (given-either (eqb (l .kind) 5) (rule (slotOf i) .inMap (l .arg)) done (q (l .arg)) tt))
+
+-- Only arrays and maps hold something.
+pub inside-container : (i k a : ℕ) {j m : ℕ} → Due j m ≡ insideCode i k a → isContainer k ≡ true
+unfolding insideCode members isContainer
+inside-container i k a {j} {m} e = go (eqb k 4) refl (eqb k 5) refl e
   where
-    named : names (wordOf i) (insideOf i) ≡ true
-    named = and-true (valueAt (wordOf i)) (names (wordOf i) (insideOf i)) (right i h .7) .1
+    go : (x : Bool) → eqb k 4 ≡ x → (y : Bool) → eqb k 5 ≡ y
+        → Due j m ≡ nextOf (cond x (rule (slotOf i) .inArray a) (cond y (rule (slotOf i) .inMap a) done)) → within 4 5 k ≡ true
+    go true p y q d = rw (eqb-true k 4 p)
+    go false p true q d = rw (eqb-true k 5 q)
+    go false p false q d = absurd (let z : _≡_ {A = ℕ} 0 1 = cc in omega arith)
 
-    -- the slots that the inner word names
-    to-array : insideOf i % 256 < 72
-    to-array = ltb-true _ 72 (and-true (ltb (insideOf i % 256) 72) (ltb (field (insideOf i) 16 256) 72) (and-true (ltb (field (wordOf i) 50 128) 72) _ named .1) .0)
+-- No row has a kind above 9, in one test over the slots.
+abbrev kindRow : Row → Bool
+kindRow (row k lo hi) = leb k 9
 
-    to-map : field (insideOf i) 16 256 < 72
-    to-map = ltb-true _ 72 (and-true (ltb (insideOf i % 256) 72) (ltb (field (insideOf i) 16 256) 72) (and-true (ltb (field (wordOf i) 50 128) 72) _ named .1) .1)
+pub no-kind : (i k a : ℕ) → 9 < k → fitsCode i k a ≡ false
+unfolding fitsCode rule types
+no-kind i k a h = go (fits k a (rule (slotOf i) .rows)) refl (ltb i 72) refl
+  where
+    no : (rs : List Row) → every kindRow rs ≡ true → fits k a rs ≡ true → ⊥
+    no rs e f = let g : k ≤ 9 = leb-true k 9 (fits-by kindRow k a rs e f .holds) in omega arith
 
-    in-map : (x : Bool) → Stands (cond x (manyCode (field (insideOf i) 16 256) (l .arg)) Done) (cond x (many (slotOf (field (insideOf i) 16 256)) (l .arg)) done)
-    in-map true = stands-many (field (insideOf i) 16 256) (l .arg) to-map
-    in-map false = record { level = refl; slotted = tt }
-
-    go : (x y : Bool)
-        → Stands (cond x (arrayWay (field (insideOf i) 8 16) (insideOf i % 256) (l .arg)) (cond y (cond (eqb (field (insideOf i) 24 16) 3) (manyCode (field (insideOf i) 16 256) (l .arg)) Done) Done))
-        (cond x (rule (slotOf i) .inArray (l .arg)) (cond y (rule (slotOf i) .inMap (l .arg)) done))
-    go true y =
-        rw (← ap (λ (f : ℕ → Level). f (l .arg)) (right i h .1))
-        (array-way (field (insideOf i) 8 16) (insideOf i % 256) (l .arg) to-array)
-    go false true = rw (← ap (λ (f : ℕ → Level). f (l .arg)) (right i h .2)) (in-map (eqb (field (insideOf i) 24 16) 3))
-    go false false = record { level = refl; slotted = tt }
+    go : (x : Bool) → fits k a (rule (slotOf i) .rows) ≡ x → (y : Bool) → ltb i 72 ≡ y → x ≡ false
+    go true e true l =
+        absurd (no (rule (slotOf i) .rows) (all-at 72 0 (λ j. every kindRow (rule (slotOf j) .rows)) refl i (omega arith) (let m : i < 72 = ltb-true i 72 l in omega arith)) e)
+    go true e false l = absurd (no (rule version .rows) refl (rw (← no-slot i (ltb-false i 72 l)) at e))
+    go false e y l = refl

@@ -1,10 +1,14 @@
--- The grammar's table as the code has it: slots as numbers, a word for each. That it says what document 01 says is proved in proofs/Right.antt.
-use Prim.Native.Nat.{ℕ, zero, suc, _+_, _-_, _*_, _/_, _%_, _^_}
+-- The grammar's slots as numbers, and what the functions say of them: `rule` of crate ari, by number.
+-- Interface: slots, slotOf, slotNumber, IsSlot, levelOf, nextOf, fitsCode, ownOf, spelledAs, asksOf, nextCode, insideCode. The words that the
+-- code keeps for the slots are in Words.
+use Prim.Native.Nat.{ℕ, _+_, _*_, _<_}
 use mathlib.Core.Bool.{Bool, true, false, cond}
 use mathlib.Core.List.{List, [], _∷_}
 use lib.ListN.{getD}
-use lib.Dec.{ltb, leb, eqb}
-use Rattle.ari.specs.Table.{Place, alone, message, inside, param, Slot, version, ari, type, value, namespace, objectNamespace, objectType, objectId, params, key, entry, nonce, setTime, target, report, reportTime, reportSource, Level, done, due}
+use lib.Dec.{ltb, eqb}
+use Rattle.cbor.specs.Utf8.{utf8}
+use Rattle.ari.specs.Name.{identifier, namespaceName}
+use Rattle.ari.specs.Table.{Place, alone, message, inside, param, Slot, version, ari, type, value, namespace, objectNamespace, objectType, objectId, params, key, entry, nonce, setTime, target, report, reportTime, reportSource, Own, none, one, rising, filled, Level, done, due, rule, fits, members}
 use Rattle.grammar.specs.declared.Next.{Next}
 use Rattle.grammar.specs.declared.Next.the-variants.{Done, Due}
 
@@ -31,130 +35,87 @@ slots =
     ∷ (value 18 param) ∷ (value 19 param) ∷ (value 20 param) ∷ (value 21 param)
     ∷ []
 
+-- a slot's number
+abbrev pub IsSlot : ℕ → Type 0
+IsSlot i = i < 72
+
+-- the slot of a number; another number stands for the version
 abbrev pub slotOf : ℕ → Slot
 slotOf i = getD slots i version
 
+abbrev placeNumber : Place → ℕ
+placeNumber alone = 0
+placeNumber message = 1
+placeNumber inside = 2
+placeNumber param = 3
+
+abbrev pub inParam : Place → ℕ
+inParam alone = 0
+inParam message = 0
+inParam inside = 0
+inParam param = 1
+
+abbrev flag : Bool → ℕ
+flag false = 0
+flag true = 1
+
+-- a type's number; 0 for what is none, so that a slot follows
+abbrev pub typeNumber : ℕ → ℕ
+typeNumber t = cond (ltb t 22) t 0
+
+-- the number of a slot
+unfoldable pub slotNumber : Slot → ℕ
+slotNumber version = 0
+slotNumber (ari w) = 1 + placeNumber w
+slotNumber (type w) = 5 + placeNumber w
+slotNumber namespace = 9
+slotNumber (objectNamespace p) = 10 + flag p
+slotNumber (objectType p) = 12 + flag p
+slotNumber (objectId p) = 14 + flag p
+slotNumber params = 16
+slotNumber (key w) = 17 + inParam w
+slotNumber (entry w) = 19 + inParam w
+slotNumber (nonce t) = cond (eqb t 20) 21 22
+slotNumber setTime = 23
+slotNumber target = 24
+slotNumber report = 25
+slotNumber reportTime = 26
+slotNumber reportSource = 27
+slotNumber (value t w) = 28 + inParam w * 22 + typeNumber t
+
+-- what is due, by number and by slot
 abbrev pub levelOf : Next → Level
 levelOf Done = done
 levelOf (Due s n) = due (slotOf s) n
 
-abbrev pub words : List ℕ
-words =
-    0x1200000000000001 ∷ 0x0604210980908441 ∷ 0x0608000000a00000 ∷ 0x060c210980908441
-    ∷ 0x0610210980908441 ∷ 0x087000000000000e ∷ 0x087000000000000f ∷ 0x0870000000000010
-    ∷ 0x08c8000000000011 ∷ 0x8200000000008042 ∷ 0x8030000200008042 ∷ 0x8034000200008042
-    ∷ 0x4038000000008060 ∷ 0x403c000000008060 ∷ 0x4200000000008002 ∷ 0x4040000000008002
-    ∷ 0x3200000002100000 ∷ 0x244c000000008041 ∷ 0x2450000000008041 ∷ 0x0644210980908441
-    ∷ 0x0648210980908441 ∷ 0x0660000200000402 ∷ 0x045c000200000402 ∷ 0x0664000000000042
-    ∷ 0x0660000000b00000 ∷ 0x0664000000d00000 ∷ 0x046c000000000042 ∷ 0x060c000000b00000
-    ∷ 0x0200000200000000 ∷ 0x02000001c0000000 ∷ 0x0200000000000003 ∷ 0x0200000000000000
-    ∷ 0x0200000000000084 ∷ 0x0200000000000005 ∷ 0x0200000000000042 ∷ 0x0200000000000001
-    ∷ 0x0200010800000000 ∷ 0x0200210800000000 ∷ 0x0200000000008000 ∷ 0x0200000000000400
-    ∷ 0x0200000000000042 ∷ 0x0200000000000042 ∷ 0x4200000000008000 ∷ 0x0200000000000400
-    ∷ 0x0200000000000000 ∷ 0x0200000000100000 ∷ 0x0200000002000000 ∷ 0x0200000000000000
-    ∷ 0x0200000000c00000 ∷ 0x0200000000d00000 ∷ 0x0200000200000000 ∷ 0x02000001c0000000
-    ∷ 0x0200000000000003 ∷ 0x0200000000000000 ∷ 0x0200000000000084 ∷ 0x0200000000000005
-    ∷ 0x0200000000000042 ∷ 0x0200000000000001 ∷ 0x0200010800000000 ∷ 0x0200210800000000
-    ∷ 0x0200000000008000 ∷ 0x0200000000000400 ∷ 0x0200000000000042 ∷ 0x0200000000000042
-    ∷ 0x4200000000008000 ∷ 0x0200000000000400 ∷ 0x0200000000000000 ∷ 0x0200000000100000
-    ∷ 0x0200000002000000 ∷ 0x0200000000000000 ∷ 0x0200000000c00000 ∷ 0x0200000000d00000
-    ∷ []
+abbrev pub nextOf : Level → Next
+nextOf done = Done
+nextOf (due s n) = Due (slotNumber s) n
 
-unfoldable pub wordOf : ℕ → ℕ
-wordOf i = getD words i 0
-
-abbrev pub insides : List ℕ
-insides =
-    0x00000000 ∷ 0x10000105 ∷ 0x10000106 ∷ 0x10000107 ∷ 0x10000108 ∷ 0x00000000 ∷ 0x00000000 ∷ 0x00000000
-    ∷ 0x00000000 ∷ 0x00000000 ∷ 0x00000000 ∷ 0x00000000 ∷ 0x00000000 ∷ 0x00000000 ∷ 0x00000000 ∷ 0x00000000
-    ∷ 0x03120304 ∷ 0x00000000 ∷ 0x00000000 ∷ 0x10000107 ∷ 0x10000108 ∷ 0x00000000 ∷ 0x00000000 ∷ 0x00000000
-    ∷ 0x10000200 ∷ 0x0000051a ∷ 0x00000000 ∷ 0x10000200 ∷ 0x03110303 ∷ 0x03110303 ∷ 0x03110303 ∷ 0x03110303
-    ∷ 0x03110303 ∷ 0x03110303 ∷ 0x03110303 ∷ 0x03110303 ∷ 0x03110303 ∷ 0x03110303 ∷ 0x03110303 ∷ 0x03110303
-    ∷ 0x03110303 ∷ 0x03110303 ∷ 0x03110303 ∷ 0x03110303 ∷ 0x03110303 ∷ 0x03110303 ∷ 0x03110303 ∷ 0x03110303
-    ∷ 0x03110415 ∷ 0x03110516 ∷ 0x03120304 ∷ 0x03120304 ∷ 0x03120304 ∷ 0x03120304 ∷ 0x03120304 ∷ 0x03120304
-    ∷ 0x03120304 ∷ 0x03120304 ∷ 0x03120304 ∷ 0x03120304 ∷ 0x03120304 ∷ 0x03120304 ∷ 0x03120304 ∷ 0x03120304
-    ∷ 0x03120304 ∷ 0x03120304 ∷ 0x03120304 ∷ 0x03120304 ∷ 0x03120304 ∷ 0x03120304 ∷ 0x03120415 ∷ 0x03120516
-    ∷ []
-
-unfoldable pub insideOf : ℕ → ℕ
-insideOf i = getD insides i 0
-
--- the ranges: the arguments below 32, a bit each, and the greatest argument where 32 or more are in it
-abbrev pub smalls : List ℕ
-smalls =
-    0x00000000 ∷ 0xffffffff ∷ 0xffffffff ∷ 0xffffffff ∷ 0xffffffff ∷ 0xffffffff ∷ 0x00f00000 ∷ 0x00300000 ∷ 0x00400000
-    ∷ 0x0000001e ∷ 0x00000004 ∷ 0x00000018 ∷ 0xfffffffe ∷ 0xfffffffc ∷ 0x0036bff7 ∷ 0x00300000 ∷ 0x0006bff7 ∷ 0x0006fff7
-    ∷ 0 ∷ 0 ∷ 0 ∷ 0 ∷ 0 ∷ 0 ∷ 0 ∷ 0 ∷ 0 ∷ 0 ∷ 0 ∷ 0 ∷ 0 ∷ 0
-    ∷ []
-
-abbrev pub tops : List ℕ
-tops =
-    0x0 ∷ 0xffffffffffffffff ∷ 0x7fffffffffffffff ∷ 0xff ∷ 0x7fffffff ∷ 0xffffffff
-    ∷ 0x0 ∷ 0x0 ∷ 0x0 ∷ 0x0 ∷ 0x0 ∷ 0x0
-    ∷ 0xffffffffffffffff ∷ 0xffffffffffffffff ∷ 0x0 ∷ 0x0 ∷ 0x0 ∷ 0x0
-    ∷ 0 ∷ 0 ∷ 0 ∷ 0 ∷ 0 ∷ 0 ∷ 0 ∷ 0 ∷ 0 ∷ 0 ∷ 0 ∷ 0 ∷ 0 ∷ 0
-    ∷ []
-
-unfoldable pub smallOf : ℕ → ℕ
-smallOf c = getD smalls c 1
-
-unfoldable pub topOf : ℕ → ℕ
-topOf c = getD tops c 1
-
--- bits of a word
-abbrev pub field : ℕ → ℕ → ℕ → ℕ
-field w at size = w / 2 ^ at % size
-
-unfoldable pub rangeOf : ℕ → ℕ → ℕ
-rangeOf i k = wordOf i / 2 ^ (k * 5) % 32
-
+-- test 7
 unfoldable pub fitsCode : ℕ → ℕ → ℕ → Bool
-fitsCode i k a = cond (ltb 9 k) false (cond (ltb a 32) (eqb (smallOf (rangeOf i k) / 2 ^ a % 2) 1) (leb a (topOf (rangeOf i k))))
+fitsCode i k a = fits k a (rule (slotOf i) .rows)
+
+-- a slot's own test: none, that the version is 1, that keys rise, that parameters are not empty
+abbrev pub ownNumber : Own → ℕ
+ownNumber none = 0
+ownNumber one = 1
+ownNumber rising = 2
+ownNumber filled = 3
 
 abbrev pub ownOf : ℕ → ℕ
-ownOf i = field (wordOf i) 60 4
+ownOf i = ownNumber (rule (slotOf i) .own)
 
-abbrev pub spellingOf : ℕ → ℕ
-spellingOf i = wordOf i / 2 ^ 62
+-- the spellings of a text string by number
+abbrev pub spelledAs : ℕ → List ℕ → Bool
+spelledAs n = getD (utf8 ∷ identifier ∷ namespaceName ∷ []) n utf8
 
 abbrev pub asksOf : ℕ → Bool
-asksOf i = eqb (field (insideOf i) 28 2) 1
+asksOf i = rule (slotOf i) .asks
 
-abbrev pub manyCode : ℕ → ℕ → Next
-manyCode s n = cond (eqb n 0) Done (Due s (n - 1))
-
--- a number, or 0, by a bit
-abbrev pub keptCode : ℕ → ℕ → ℕ
-keptCode b n = cond (eqb b 0) 0 n
-
--- a type's number; 0 for what is none, so that a slot follows
-abbrev pub typeCode : ℕ → ℕ
-typeCode a = cond (ltb a 22) a 0
-
--- what follows: so many are taken of those that are left, which stay or not, and the argument is added to the slot or not
-unfoldable pub nextBits : ℕ → ℕ → ℕ → ℕ → ℕ → ℕ → Next
-nextBits took stay add to a n = cond (ltb (keptCode stay n) took) Done (Due (to + keptCode add (typeCode a)) (keptCode stay n - took))
-
+-- what is due beside a head at a slot, and inside it
 unfoldable pub nextCode : ℕ → ℕ → ℕ → Next
-nextCode i a n = nextBits (field (wordOf i) 57 2) (field (wordOf i) 58 2) (field (wordOf i) 59 2) (field (wordOf i) 50 128) a n
-
-unfoldable pub inReferenceCode : ℕ → Next
-inReferenceCode a = cond (eqb a 1) (Due 9 0) (cond (eqb a 4) (Due 11 0) (Due 10 0))
-
-unfoldable pub inAriCode : ℕ → ℕ → Next
-inAriCode to a = cond (eqb a 2) (Due to 0) (inReferenceCode a)
-
-unfoldable pub arrayWay : ℕ → ℕ → ℕ → Next
-arrayWay way to a =
-    cond (ltb way 3)
-    (cond (eqb way 1) (inAriCode to a) (cond (eqb way 0) Done (inReferenceCode a)))
-    (cond (eqb way 3) (manyCode to a) (Due to (a - (way - 3))))
-
-unfoldable pub inArrayCode : ℕ → ℕ → Next
-inArrayCode w a = arrayWay (field w 8 16) (w % 256) a
-
-unfoldable pub inMapCode : ℕ → ℕ → Next
-inMapCode w a = cond (eqb (field w 24 16) 3) (manyCode (field w 16 256) a) Done
+nextCode i a n = nextOf (rule (slotOf i) .next a n)
 
 unfoldable pub insideCode : ℕ → ℕ → ℕ → Next
-insideCode i k a = cond (eqb k 4) (inArrayCode (insideOf i) a) (cond (eqb k 5) (inMapCode (insideOf i) a) Done)
+insideCode i k a = nextOf (members (slotOf i) (record { info = 0; kind = k; arg = a }))

@@ -3,10 +3,12 @@
 // A slot says what is due at a place. Its word holds, from the lowest bits: for each of the ten kinds of heads five bits, the number of the
 // range that the argument must lie in (test 7); at 50 the slot that may follow, seven bits; at 57, 58 and 59 how it follows: it takes one of
 // those that are left, those that are left stay, the argument is added to it; at 60 the slot's own test (8, 11 or 12); at 62 how a text string
-// is spelled (10).
+// is spelled (10). The words stand here alone: that they say what `rule` of the definitions says is the contract of `rule_word`.
 ghost use mathlib.Core.Path.{_≡_};
-ghost use Rattle.grammar.specs.Code.{wordOf, insideOf, smallOf, topOf, fitsCode, ownOf, spellingOf, asksOf, manyCode, keptCode, nextCode, inReferenceCode, inAriCode, inArrayCode, inMapCode, insideCode, typeCode};
-ghost use Prim.Native.Nat.{_-_, _≤_, _<_};
+ghost use Rattle.ari.specs.Table.{referenceLevel, rule};
+ghost use Rattle.grammar.specs.Code.{IsSlot, slotOf, nextOf, typeNumber, fitsCode, ownOf, spelledAs, asksOf, nextCode, insideCode};
+ghost use Rattle.grammar.specs.Words.{field, bitsOf, smallOf, topOf, keptCode, manyOf, inAriOf, inArrayOf, inMapOf, wordMeans, wordFor, innerMeans, innerFor};
+ghost use Prim.Native.Nat.{_-_, _%_, _≤_, _<_};
 ghost use mathlib.Core.Bool.{cond};
 ghost use lib.Dec.{ltb};
 ghost use lib.ListN.{length, drop};
@@ -41,8 +43,35 @@ pub const TARGET: u64 = 24;
 
 pub const REPORT: u64 = 25;
 
-pub fn rule_word(slot: u64) -> u64
-    ensures { λ r. ⌜ r ≡ wordOf slot ⌝ }
+// A slot's own test, beside those that every slot has.
+pub const NO_TEST: u64 = 0;
+
+pub const VERSION_TEST: u64 = 1; // test 8: the version is 1
+
+pub const KEY_TEST: u64 = 2; // test 11: a key is greater than the one before
+
+pub const FILLED_TEST: u64 = 3; // test 12: parameters are not empty
+
+// How a text string is spelled (test 10).
+pub const UTF8: u64 = 0;
+
+pub const IDENTIFIER: u64 = 1;
+
+pub const NAMESPACE_NAME: u64 = 2;
+
+// How the members of an array come.
+const NO_MEMBERS: u64 = 0;
+
+const AS_ARI: u64 = 1; // by its length, as an ARI's; 2 is by its length, as a reference's
+
+const AS_LIST: u64 = 3; // as many of the slot as there are members; n more: the slot once, and behind it as many as are beyond n members
+
+// The types are below this number.
+const TYPES: u64 = 22;
+
+// A value's slots, inside and in parameters, have the same word.
+fn rule_word(slot: u64) -> u64
+    ensures { λ r. ⌜ wordMeans r ≡ wordFor (rule (slotOf slot)) ⌝ }
 {
     match slot {
         0 => 0x1200000000000001, // version
@@ -73,140 +102,63 @@ pub fn rule_word(slot: u64) -> u64
         25 => 0x0664000000d00000, // report
         26 => 0x046c000000000042, // reportTime
         27 => 0x060c000000b00000, // reportSource
-        28 => 0x0200000200000000, // value 0 inside
-        29 => 0x02000001c0000000, // value 1 inside
-        30 => 0x0200000000000003, // value 2 inside
-        31 => 0x0200000000000000, // value 3 inside
-        32 => 0x0200000000000084, // value 4 inside
-        33 => 0x0200000000000005, // value 5 inside
-        34 => 0x0200000000000042, // value 6 inside
-        35 => 0x0200000000000001, // value 7 inside
-        36 => 0x0200010800000000, // value 8 inside
-        37 => 0x0200210800000000, // value 9 inside
-        38 => 0x0200000000008000, // value 10 inside
-        39 => 0x0200000000000400, // value 11 inside
-        40 => 0x0200000000000042, // value 12 inside
-        41 => 0x0200000000000042, // value 13 inside
-        42 => 0x4200000000008000, // value 14 inside
-        43 => 0x0200000000000400, // value 15 inside
-        44 => 0x0200000000000000, // value 16 inside
-        45 => 0x0200000000100000, // value 17 inside
-        46 => 0x0200000002000000, // value 18 inside
-        47 => 0x0200000000000000, // value 19 inside
-        48 => 0x0200000000c00000, // value 20 inside
-        49 => 0x0200000000d00000, // value 21 inside
-        50 => 0x0200000200000000, // value 0 param
-        51 => 0x02000001c0000000, // value 1 param
-        52 => 0x0200000000000003, // value 2 param
-        53 => 0x0200000000000000, // value 3 param
-        54 => 0x0200000000000084, // value 4 param
-        55 => 0x0200000000000005, // value 5 param
-        56 => 0x0200000000000042, // value 6 param
-        57 => 0x0200000000000001, // value 7 param
-        58 => 0x0200010800000000, // value 8 param
-        59 => 0x0200210800000000, // value 9 param
-        60 => 0x0200000000008000, // value 10 param
-        61 => 0x0200000000000400, // value 11 param
-        62 => 0x0200000000000042, // value 12 param
-        63 => 0x0200000000000042, // value 13 param
-        64 => 0x4200000000008000, // value 14 param
-        65 => 0x0200000000000400, // value 15 param
-        66 => 0x0200000000000000, // value 16 param
-        67 => 0x0200000000100000, // value 17 param
-        68 => 0x0200000002000000, // value 18 param
-        69 => 0x0200000000000000, // value 19 param
-        70 => 0x0200000000c00000, // value 20 param
-        71 => 0x0200000000d00000, // value 21 param
-        _ => 0,
+        28 | 50 => 0x0200000200000000, // value 0: NULL
+        29 | 51 => 0x02000001c0000000, // value 1: BOOL
+        30 | 52 => 0x0200000000000003, // value 2: BYTE
+        31 | 53 => 0x0200000000000000, // value 3: no type
+        32 | 54 => 0x0200000000000084, // value 4: INT
+        33 | 55 => 0x0200000000000005, // value 5: UINT
+        34 | 56 => 0x0200000000000042, // value 6: VAST
+        35 | 57 => 0x0200000000000001, // value 7: UVAST
+        36 | 58 => 0x0200010800000000, // value 8: REAL32
+        37 | 59 => 0x0200210800000000, // value 9: REAL64
+        38 | 60 => 0x0200000000008000, // value 10: TEXTSTR
+        39 | 61 => 0x0200000000000400, // value 11: BYTESTR
+        40 | 62 => 0x0200000000000042, // value 12: TP
+        41 | 63 => 0x0200000000000042, // value 13: TD
+        42 | 64 => 0x4200000000008000, // value 14: LABEL
+        43 | 65 => 0x0200000000000400, // value 15: CBOR
+        44 | 66 => 0x0200000000000000, // value 16: no type
+        45 | 67 => 0x0200000000100000, // value 17: AC
+        46 | 68 => 0x0200000002000000, // value 18: AM
+        47 | 69 => 0x0200000000000000, // value 19: no type
+        48 | 70 => 0x0200000000c00000, // value 20: EXECSET
+        49 | 71 => 0x0200000000d00000, // value 21: RPTSET
+        _ => 0x1204000000000001, // no slot: means what version's does, in other bits, so that the look-up starts at 0
     }
 }
 
 // What is due inside: for an array the slot at 0, eight bits, and at 8 how it comes; for a map the slot at 16, and 3 at 24. At 28 whether an ARI
-// or an object reference is due.
+// or an object reference is due. Neighbours with one word stand in two arms: a run of numbers in one arm would be compared, not looked up.
 fn inside_word(slot: u64) -> u64
-    ensures { λ r. ⌜ r ≡ insideOf slot ⌝ }
+    ensures { λ r. ⌜ innerMeans r ≡ innerFor (rule (slotOf slot)) ⌝ }
 {
     match slot {
-        0 => 0x00000000, // version
+        0 | 5 | 7 | 9 | 11 | 13 | 15 | 17 | 21 | 23 | 26 => 0x00000000, // what holds nothing
+        6 | 8 | 10 | 12 | 14 | 18 | 22 => 0x00000000,
         1 => 0x10000105, // ari alone
         2 => 0x10000106, // ari message
-        3 => 0x10000107, // ari inside
-        4 => 0x10000108, // ari param
-        5 => 0x00000000, // type alone
-        6 => 0x00000000, // type message
-        7 => 0x00000000, // type inside
-        8 => 0x00000000, // type param
-        9 => 0x00000000, // namespace
-        10 => 0x00000000, // objectNamespace false
-        11 => 0x00000000, // objectNamespace true
-        12 => 0x00000000, // objectType false
-        13 => 0x00000000, // objectType true
-        14 => 0x00000000, // objectId false
-        15 => 0x00000000, // objectId true
-        16 => 0x03120304, // params
-        17 => 0x00000000, // key inside
-        18 => 0x00000000, // key param
-        19 => 0x10000107, // entry inside
-        20 => 0x10000108, // entry param
-        21 => 0x00000000, // nonce 20
-        22 => 0x00000000, // nonce 21
-        23 => 0x00000000, // setTime
-        24 => 0x10000200, // target
+        3 | 19 => 0x10000107, // ari inside, entry inside
+        4 | 20 => 0x10000108, // ari param, entry param
+        24 | 27 => 0x10000200, // target, reportSource
         25 => 0x0000051a, // report
-        26 => 0x00000000, // reportTime
-        27 => 0x10000200, // reportSource
-        28 => 0x03110303, // value 0 inside
-        29 => 0x03110303, // value 1 inside
-        30 => 0x03110303, // value 2 inside
-        31 => 0x03110303, // value 3 inside
-        32 => 0x03110303, // value 4 inside
-        33 => 0x03110303, // value 5 inside
-        34 => 0x03110303, // value 6 inside
-        35 => 0x03110303, // value 7 inside
-        36 => 0x03110303, // value 8 inside
-        37 => 0x03110303, // value 9 inside
-        38 => 0x03110303, // value 10 inside
-        39 => 0x03110303, // value 11 inside
-        40 => 0x03110303, // value 12 inside
-        41 => 0x03110303, // value 13 inside
-        42 => 0x03110303, // value 14 inside
-        43 => 0x03110303, // value 15 inside
-        44 => 0x03110303, // value 16 inside
-        45 => 0x03110303, // value 17 inside
-        46 => 0x03110303, // value 18 inside
-        47 => 0x03110303, // value 19 inside
+        28 | 30 | 32 | 34 | 36 | 38 | 40 | 42 | 44 | 46 => 0x03110303, // value 0 to 19 inside
+        29 | 31 | 33 | 35 | 37 | 39 | 41 | 43 | 45 | 47 => 0x03110303,
         48 => 0x03110415, // value 20 inside
         49 => 0x03110516, // value 21 inside
-        50 => 0x03120304, // value 0 param
-        51 => 0x03120304, // value 1 param
-        52 => 0x03120304, // value 2 param
-        53 => 0x03120304, // value 3 param
-        54 => 0x03120304, // value 4 param
-        55 => 0x03120304, // value 5 param
-        56 => 0x03120304, // value 6 param
-        57 => 0x03120304, // value 7 param
-        58 => 0x03120304, // value 8 param
-        59 => 0x03120304, // value 9 param
-        60 => 0x03120304, // value 10 param
-        61 => 0x03120304, // value 11 param
-        62 => 0x03120304, // value 12 param
-        63 => 0x03120304, // value 13 param
-        64 => 0x03120304, // value 14 param
-        65 => 0x03120304, // value 15 param
-        66 => 0x03120304, // value 16 param
-        67 => 0x03120304, // value 17 param
-        68 => 0x03120304, // value 18 param
-        69 => 0x03120304, // value 19 param
+        16 | 50 | 52 | 54 | 56 | 58 | 60 | 62 | 64 | 66 | 68 => 0x03120304, // params, value 0 to 19 param
+        51 | 53 | 55 | 57 | 59 | 61 | 63 | 65 | 67 | 69 => 0x03120304,
         70 => 0x03120415, // value 20 param
         71 => 0x03120516, // value 21 param
-        _ => 0,
+        _ => 0x00000000,
     }
 }
 
 // The arguments below 32 of a range, a bit each. With an arm for every number of five bits, and none that gives what the rest gives, the look-up
 // needs no bound.
 fn small(range: u64) -> u64
-    ensures { λ r. ⌜ r ≡ smallOf range ⌝ }
+    requires { ⌜ range < 32 ⌝ }
+    ensures { λ r. ⌜ bitsOf r ≡ smallOf range ⌝ }
 {
     match range {
         0 => 0x00000000, // none
@@ -227,26 +179,15 @@ fn small(range: u64) -> u64
         15 => 0x00300000, // types in a message
         16 => 0x0006bff7, // types inside
         17 => 0x0006fff7, // types in parameters
-        18 => 0,
-        19 => 0,
-        20 => 0,
-        21 => 0,
-        22 => 0,
-        23 => 0,
-        24 => 0,
-        25 => 0,
-        26 => 0,
-        27 => 0,
-        28 => 0,
-        29 => 0,
-        30 => 0,
-        31 => 0,
+        18 | 20 | 22 | 24 | 26 | 28 | 30 => 0, // no range
+        19 | 21 | 23 | 25 | 27 | 29 | 31 => 0,
         _ => 1,
     }
 }
 
 // The greatest argument of a range, if 32 or more are in it.
 fn top(range: u64) -> u64
+    requires { ⌜ range < 32 ⌝ }
     ensures { λ r. ⌜ r ≡ topOf range ⌝ }
 {
     match range {
@@ -268,20 +209,8 @@ fn top(range: u64) -> u64
         15 => 0, // types in a message
         16 => 0, // types inside
         17 => 0, // types in parameters
-        18 => 0,
-        19 => 0,
-        20 => 0,
-        21 => 0,
-        22 => 0,
-        23 => 0,
-        24 => 0,
-        25 => 0,
-        26 => 0,
-        27 => 0,
-        28 => 0,
-        29 => 0,
-        30 => 0,
-        31 => 0,
+        18 | 20 | 22 | 24 | 26 | 28 | 30 => 0, // no range
+        19 | 21 | 23 | 25 | 27 | 29 | 31 => 0,
         _ => 1,
     }
 }
@@ -290,7 +219,7 @@ fn top(range: u64) -> u64
 pub fn fits(slot: u64, kind: u8, arg: u64) -> bool
     ensures { λ r. ⌜ r ≡ fitsCode slot kind arg ⌝ }
 {
-    if 9 < kind {
+    if cbor::DOUBLE < kind {
         return false;
     }
     let word = rule_word(slot);
@@ -302,16 +231,16 @@ pub fn fits(slot: u64, kind: u8, arg: u64) -> bool
     arg <= top(range)
 }
 
-// The slot's own test: 0 none, 1 the version (test 8), 2 a key (11), 3 parameters (12).
+// The slot's own test, as NO_TEST and the constants behind it.
 pub fn own(slot: u64) -> u64
     ensures { λ r. ⌜ r ≡ ownOf slot ⌝ }
 {
     (rule_word(slot) >> 60) % 4
 }
 
-// How a text string is spelled: 0 UTF-8, 1 an identifier, 2 a namespace name.
+// How a text string is spelled, as UTF8 and the constants behind it.
 pub fn spelling(slot: u64) -> u64
-    ensures { λ r. ⌜ r ≡ spellingOf slot ⌝ }
+    ensures { λ r. ⌜ spelledAs r ≡ rule (slotOf slot) .spelling ⌝ }
 {
     rule_word(slot) >> 62
 }
@@ -325,7 +254,8 @@ pub fn asks(slot: u64) -> bool
 
 // So many of a slot.
 fn many(slot: u64, count: u64) -> Next
-    ensures { λ r. ⌜ r ≡ manyCode slot count ⌝ }
+    requires { ⌜ IsSlot slot ⌝ }
+    ensures { λ r. ⌜ r ≡ manyOf slot count ⌝ }
 {
     if count == 0 {
         return Next::Done;
@@ -348,9 +278,9 @@ fn kept(bit: u64, n: u64) -> u64
 
 // A type's number; 0 for what is none, so that a slot follows.
 fn type_number(arg: u64) -> u64
-    ensures { λ r. ⌜ (r ≡ typeCode arg) × (r < 22) ⌝ }
+    ensures { λ r. ⌜ (r ≡ typeNumber arg) × (r < 22) ⌝ }
 {
-    if arg < 22 {
+    if arg < TYPES {
         return arg;
     }
     0
@@ -383,7 +313,8 @@ fn minus(a: u64, b: u64) -> u64
 
 // The members of an array where an ARI is due: [ns], a typed literal, an object reference, the same with parameters.
 fn in_ari(type_slot: u64, length: u64) -> Next
-    ensures { λ r. ⌜ r ≡ inAriCode «type_slot» length ⌝ }
+    requires { ⌜ IsSlot «type_slot» ⌝ }
+    ensures { λ r. ⌜ r ≡ nextOf (inAriOf «type_slot» length) ⌝ }
 {
     if length == 2 {
         return Next::Due {
@@ -395,44 +326,55 @@ fn in_ari(type_slot: u64, length: u64) -> Next
 }
 
 fn in_reference(length: u64) -> Next
-    ensures { λ r. ⌜ r ≡ inReferenceCode length ⌝ }
+    ensures { λ r. ⌜ r ≡ nextOf (referenceLevel length) ⌝ }
 {
     match length {
-        1 => Next::Due { slot: 9, more: 0 },
-        4 => Next::Due { slot: 11, more: 0 },
-        _ => Next::Due { slot: 10, more: 0 },
+        1 => Next::Due {
+            slot: NAMESPACE,
+            more: 0,
+        },
+        4 => Next::Due {
+            slot: OBJECT_NAMESPACE_PARAMS,
+            more: 0,
+        },
+        _ => Next::Due {
+            slot: OBJECT_NAMESPACE,
+            more: 0,
+        },
     }
 }
 
 fn in_array(word: u64, length: u64) -> Next
-    ensures { λ r. ⌜ r ≡ inArrayCode word length ⌝ }
+    requires { ⌜ IsSlot (word % 256) ⌝ }
+    ensures { λ r. ⌜ r ≡ nextOf (inArrayOf word length) ⌝ }
 {
     let way = (word >> 8) % 16;
     let to = word % 256;
-    if way < 3 {
-        if way == 1 {
+    if way < AS_LIST {
+        if way == AS_ARI {
             return in_ari(to, length);
         }
-        if way == 0 {
+        if way == NO_MEMBERS {
             return Next::Done;
         }
         return in_reference(length);
     }
-    if way == 3 {
+    if way == AS_LIST {
         return many(to, length);
     }
     Next::Due {
         slot: to,
-        more: minus(length, way - 3),
+        more: minus(length, way - AS_LIST),
     }
 }
 
 fn in_map(word: u64, pairs: u64) -> Next
-    ensures { λ r. ⌜ r ≡ inMapCode word pairs ⌝ }
+    requires { ⌜ IsSlot (field word 16 256) ⌝ }
+    ensures { λ r. ⌜ r ≡ nextOf (inMapOf word pairs) ⌝ }
 {
     let way = (word >> 24) % 16;
     let to = (word >> 16) % 256;
-    if way == 3 {
+    if way == AS_LIST {
         return many(to, pairs);
     }
     Next::Done
@@ -442,14 +384,14 @@ fn in_map(word: u64, pairs: u64) -> Next
 pub fn inside(slot: u64, kind: u8, arg: u64) -> Next
     ensures { λ r. ⌜ r ≡ insideCode slot kind arg ⌝ }
 {
-    if kind < 4 {
+    if kind < cbor::ARRAY {
         return Next::Done;
     }
-    if 5 < kind {
+    if cbor::MAP < kind {
         return Next::Done;
     }
     let word = inside_word(slot);
-    if kind == 4 {
+    if kind == cbor::ARRAY {
         return in_array(word, arg);
     }
     in_map(word, arg)

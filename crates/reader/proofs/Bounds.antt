@@ -20,8 +20,8 @@ use Rattle.ari.specs.Items.{Items, item, encode}
 use Rattle.ari.specs.Due.{Due as DueItems}
 use Rattle.grammar.specs.declared.Next.{Next}
 use Rattle.grammar.specs.declared.Next.the-variants.{Done, Due}
-use Rattle.grammar.specs.Code.{insideOf, slotOf, levelOf, fitsCode, insideCode, inArrayCode, inMapCode}
-use Rattle.grammar.proofs.Right.{IsSlot, Stands, inside-right}
+use Rattle.grammar.specs.Code.{slotOf, levelOf, fitsCode, insideCode}
+use Rattle.grammar.proofs.Right.{IsSlot, Stands, inside-right, inside-container}
 use Rattle.reader.specs.declared.Step.{Step}
 use Rattle.reader.specs.declared.Step.the-variants.{Taken}
 use Rattle.reader.specs.declared.Step.the-variants as step
@@ -119,19 +119,7 @@ module _ (i k a : ℕ) {x : Next} (e : x ≡ insideCode i k a) where
   inner-slot v q = rw (← e, q) at (inside-right i (record { info = 0; kind = k; arg = a }) v .slotted)
 
   pub opens : (d : ℕ) {j m : ℕ} → x ≡ Due j m → (isContainer k && eqb d 0) ≡ false → 0 < d
-  unfolding insideCode isContainer
-  opens d {j} {m} q s = go (eqb k 4) refl (eqb k 5) refl (sym q ∙ e)
-    where
-      deep : k ≡ 4 → 0 < d
-      deep z = let n : d ≡ 0 → ⊥ = eqb-false d 0 (rw z at s) in omega arith
-
-      deep′ : k ≡ 5 → 0 < d
-      deep′ z = let n : d ≡ 0 → ⊥ = eqb-false d 0 (rw z at s) in omega arith
-
-      go : (y : Bool) → eqb k 4 ≡ y → (z : Bool) → eqb k 5 ≡ z → Due j m ≡ cond y (inArrayCode (insideOf i) a) (cond z (inMapCode (insideOf i) a) Done) → 0 < d
-      go true p z r u = deep (eqb-true k 4 p)
-      go false p true r u = deep′ (eqb-true k 5 r)
-      go false p false r u = absurd (let z : _≡_ {A = ℕ} 0 1 = cc in omega arith)
+  opens d q s = let n : d ≡ 0 → ⊥ = eqb-false d 0 (rw (inside-container i k a (sym q ∙ e)) at s) in omega arith
 
 -- the measures and sums of the walk
 pub less-deep : (d t : ℕ) → 0 < d → d * 2 ≡ t → (d - 1) * 2 + 1 < t

@@ -18,7 +18,7 @@ use Rattle.buffer.proofs.ByteLaws.{and-true, not-false, not-true}
 use Rattle.ari.specs.Table.{message, Slot, version, ari, due, rule, members}
 use Rattle.ari.specs.Reader.{judge, judgeContent, judgeGot}
 use Rattle.ari.specs.Reader as reader
-use Rattle.grammar.specs.Code.{slotOf, fitsCode, smallOf, rangeOf, wordOf, nextCode, nextBits}
+use Rattle.grammar.specs.Code.{slotOf, fitsCode, nextCode}
 use Rattle.item_table.specs.Entries.{packed}
 use Rattle.reader.specs.declared.Step.the-variants.{Taken}
 use Rattle.reader.specs.declared.Walk.{Walk}
@@ -104,7 +104,7 @@ set-step b p c items d h g =
 
 pub version-read : (b : List ℕ) → all isByte b ≡ true → (items d : ℕ) {r : Bool} → r ≡ standsAt b 0 1 (items - 0) → not r ≡ false
     → (t : List ℕ) {z : List ℕ} → z ≡ set t 0 (packed 0 1 0 0) → Walked b items (due (slotOf 0) 0) [] d 0 0 0 (Read 1 1) t z
-unfolding members fitsCode smallOf rangeOf wordOf nextCode nextBits keyOf getHead
+unfolding members rule fitsCode nextCode keyOf getHead
 version-read b bs items d e u t put =
     let h = stood b 0 1 0 items e u in
     let inside = ended b items [] (pred d) 1 1 1 t (h .within) (h .spare) in
@@ -124,7 +124,7 @@ module _ (b : List ℕ) (bs : all isByte b ≡ true) (items d p c : ℕ) {r : Bo
       breaks b bs items (ari message) 0 [] d 0 p c t 2 0 0 0 p c t (omega arith) (begins b items (ari message) 0 d 0 p c t) (set-step b p c items d there g) refl inside v
 
   pub set-read : {q f : ℕ} → w ≡ Read q f → {z : List ℕ} → z ≡ set t₁ c (packed p q 0 2) → q ≤ length b → f ≤ items → Walked b items (due (slotOf 2) 0) [] d 0 p c (Read q f) t z
-  unfolding members rule fitsCode smallOf rangeOf wordOf nextCode nextBits keyOf getHead
+  unfolding members rule fitsCode nextCode keyOf getHead
   set-read v put l n =
       ends b bs items (ari message) 0 [] d 0 p c t 2 0 0 0 p c t (omega arith) (begins b items (ari message) 0 d 0 p c t) (set-step b p c items d there g) refl inside v put (omega arith) refl refl refl l n
 

@@ -19,8 +19,8 @@ use Rattle.cbor.proofs.HeadLaws.{length-lead, lead-short, getHead-forth, key-ow
 use Rattle.ari.specs.Table.{Place, Slot, version, ari, type, value, namespace, objectNamespace, objectType, objectId, params, key, entry, nonce, setTime, target, report, reportTime, reportSource, Own, none, one, rising, filled, Rule, rule, fits, max64, max63}
 use Rattle.cbor.specs.Head.{keyBytes}
 use Rattle.ari.specs.Reader.{keyAfter, wrongVersion, notGreater, isEmpty}
-use Rattle.grammar.specs.Code.{slotOf, ownOf, spellingOf}
-use Rattle.grammar.proofs.Right.{IsSlot, own-right, spelling-right}
+use Rattle.grammar.specs.Code.{slotOf, ownOf, spelledAs}
+use Rattle.grammar.proofs.Right.{IsSlot, own-right}
 use Rattle.grammar.proofs.Hits.{Rest, miss}
 use Rattle.buffer.specs.Bytes.{part}
 use Rattle.reader.specs.Steps.{keySpan}
@@ -159,12 +159,9 @@ module _ (i : ℕ) (h : IsSlot i) {x : ℕ} (e : x ≡ ownOf i) where
 pub ruleset owns = (version-one, version-other, rising-key, no-key, filled-one, filled-other)
 
 -- how a text string is spelled
-module _ (i : ℕ) (h : IsSlot i) {x : ℕ} (e : x ≡ spellingOf i) (s : List ℕ) where
-  spelling-is : rule (slotOf i) .spelling ≡ getD (utf8 ∷ identifier ∷ namespaceName ∷ []) x utf8
-  spelling-is = rw e (spelling-right i h)
-
-  pub spelled-by : (n : ℕ) → x ≡ n → {r : Bool} → r ≡ getD (utf8 ∷ identifier ∷ namespaceName ∷ []) n utf8 s → r ≡ rule (slotOf i) .spelling s
-  spelled-by n q g = g ∙ rw (spelling-is, q)
+module _ (i x : ℕ) (e : spelledAs x ≡ rule (slotOf i) .spelling) (s : List ℕ) where
+  pub spelled-by : (n : ℕ) → x ≡ n → {r : Bool} → r ≡ spelledAs n s → r ≡ rule (slotOf i) .spelling s
+  spelled-by n q g = g ∙ rw (← e, q)
 
   pub spelled-else : Rest 3 x → {r : Bool} → r ≡ utf8 s → r ≡ rule (slotOf i) .spelling s
-  spelled-else q g = g ∙ ap (λ (f : List ℕ → Bool). f s) (miss (utf8 ∷ identifier ∷ namespaceName ∷ []) utf8 3 x refl q ∙ sym spelling-is)
+  spelled-else q g = g ∙ ap (λ (f : List ℕ → Bool). f s) (miss (utf8 ∷ identifier ∷ namespaceName ∷ []) utf8 3 x refl q ∙ e)

@@ -16,8 +16,8 @@ use Rattle.ari.specs.Table.{Level, done, due, rule, members}
 use Rattle.ari.specs.Items.{Items, none, item, encode}
 use Rattle.grammar.specs.declared.Next.{Next}
 use Rattle.grammar.specs.declared.Next.the-variants.{Done, Due}
-use Rattle.grammar.specs.Code.{slotOf, levelOf, wordOf, field, nextCode, insideCode}
-use Rattle.grammar.proofs.Right.{IsSlot, Stands, Slotted, next-stands, adds-type, inside-right}
+use Rattle.grammar.specs.Code.{slotOf, levelOf, nextCode, insideCode}
+use Rattle.grammar.proofs.Right.{IsSlot, Stands, Slotted, next-stands, inside-right}
 use Rattle.reader.specs.Walks.{insideLevel}
 use Rattle.buffer.specs.Put.{Put}
 use Rattle.text_write_item.specs.Ways.{wayAt, afterBy}
@@ -104,8 +104,8 @@ module _ (t : List ℕ) (items d i n p at k : ℕ) {room room₁ : List ℕ} {x 
   abbrev l : Lead
   l = h .head .lead
 
-  small : eqb (field (wordOf i) 59 2) 0 ≡ false → x .arg ≤ 21
-  small q = rw (y .arg-is) (type-arg i (drop p t) (adds-type i v q))
+  small : within 5 8 i ≡ true → x .arg ≤ 21
+  small q = rw (y .arg-is) (type-arg i (drop p t) q)
 
   module _ {nx : Next} (nn : nx ≡ nextCode i (x .arg) n) where
     next-is : levelOf nx ≡ rule (slotOf i) .next (l .arg) n

@@ -1,6 +1,6 @@
 -- `grammar::asks` meets its contract: a bit of the inner word.
 use borrow.Author.Needs.{needs}
-use mathlib.Core.Path.{_≡_, refl, sym, _∙_, ap}
+use Rattle.grammar.proofs.Ways.{asks-said}
 use Rattle.grammar.proofs.asks.Statement.{statement}
 use Rattle.grammar.proofs.asks.Tie as tie
 
@@ -9,4 +9,4 @@ asks-spec =
     tie.close
     (tie.spec
     (λ c κs. search needs)
-    (λ c. rw (c .inside-word .ensures)))
+    (λ c. asks-said (c .before .args .slot) _ (c .inside-word .ensures)))

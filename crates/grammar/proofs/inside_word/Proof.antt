@@ -1,85 +1,62 @@
--- `grammar::inside_word` looks its number up: one law for every arm.
-use mathlib.Core.Path.{refl}
-use Rattle.grammar.specs.Code.{insides, insideOf}
-use Rattle.grammar.proofs.Hits.{hit, miss}
+-- `grammar::inside_word`: at each number the word means what the rule says, which antt computes arm by arm; beyond them all is as the version.
+use Prim.Native.Nat.{ℕ}
+use mathlib.Core.Path.{refl, ap}
+use mathlib.Core.List.{List, [], _∷_}
+use lib.ListN.{getD}
+use Rattle.ari.specs.Table.{Slot, rule}
+use Rattle.grammar.specs.Code.{slotOf}
+use Rattle.grammar.specs.Words.{Inner, innerMeans, innerFor}
+use Rattle.grammar.proofs.Hits.{arm, left-over}
+use Rattle.grammar.proofs.Right.{no-slot}
 use Rattle.grammar.proofs.inside_word.Statement.{statement}
 use Rattle.grammar.proofs.inside_word.Tie as tie
 
+abbrev word : ℕ → Inner
+word i = innerFor (rule (slotOf i))
+
+-- the arms' numbers
+abbrev keys : List (List ℕ)
+keys =
+    (0 ∷ 5 ∷ 7 ∷ 9 ∷ 11 ∷ 13 ∷ 15 ∷ 17 ∷ 21 ∷ 23 ∷ 26 ∷ [])
+    ∷ (6 ∷ 8 ∷ 10 ∷ 12 ∷ 14 ∷ 18 ∷ 22 ∷ [])
+    ∷ (1 ∷ [])
+    ∷ (2 ∷ [])
+    ∷ (3 ∷ 19 ∷ [])
+    ∷ (4 ∷ 20 ∷ [])
+    ∷ (24 ∷ 27 ∷ [])
+    ∷ (25 ∷ [])
+    ∷ (28 ∷ 30 ∷ 32 ∷ 34 ∷ 36 ∷ 38 ∷ 40 ∷ 42 ∷ 44 ∷ 46 ∷ [])
+    ∷ (29 ∷ 31 ∷ 33 ∷ 35 ∷ 37 ∷ 39 ∷ 41 ∷ 43 ∷ 45 ∷ 47 ∷ [])
+    ∷ (48 ∷ [])
+    ∷ (49 ∷ [])
+    ∷ (16 ∷ 50 ∷ 52 ∷ 54 ∷ 56 ∷ 58 ∷ 60 ∷ 62 ∷ 64 ∷ 66 ∷ 68 ∷ [])
+    ∷ (51 ∷ 53 ∷ 55 ∷ 57 ∷ 59 ∷ 61 ∷ 63 ∷ 65 ∷ 67 ∷ 69 ∷ [])
+    ∷ (70 ∷ [])
+    ∷ (71 ∷ [])
+    ∷ []
+
+abbrev key : ℕ → List ℕ
+key n = getD keys n []
+
 pub inside-word-spec : {M : Type 1} → statement M
-unfolding insideOf
+unfolding innerMeans innerFor rule
 inside-word-spec =
     tie.close
     (tie.spec
-    (λ c. hit insides 0 0 (c .match .keys1))
-    (λ c. hit insides 0 1 (c .match .keys2))
-    (λ c. hit insides 0 2 (c .match .keys3))
-    (λ c. hit insides 0 3 (c .match .keys4))
-    (λ c. hit insides 0 4 (c .match .keys5))
-    (λ c. hit insides 0 5 (c .match .keys6))
-    (λ c. hit insides 0 6 (c .match .keys7))
-    (λ c. hit insides 0 7 (c .match .keys8))
-    (λ c. hit insides 0 8 (c .match .keys9))
-    (λ c. hit insides 0 9 (c .match .keys10))
-    (λ c. hit insides 0 10 (c .match .keys11))
-    (λ c. hit insides 0 11 (c .match .keys12))
-    (λ c. hit insides 0 12 (c .match .keys13))
-    (λ c. hit insides 0 13 (c .match .keys14))
-    (λ c. hit insides 0 14 (c .match .keys15))
-    (λ c. hit insides 0 15 (c .match .keys16))
-    (λ c. hit insides 0 16 (c .match .keys17))
-    (λ c. hit insides 0 17 (c .match .keys18))
-    (λ c. hit insides 0 18 (c .match .keys19))
-    (λ c. hit insides 0 19 (c .match .keys20))
-    (λ c. hit insides 0 20 (c .match .keys21))
-    (λ c. hit insides 0 21 (c .match .keys22))
-    (λ c. hit insides 0 22 (c .match .keys23))
-    (λ c. hit insides 0 23 (c .match .keys24))
-    (λ c. hit insides 0 24 (c .match .keys25))
-    (λ c. hit insides 0 25 (c .match .keys26))
-    (λ c. hit insides 0 26 (c .match .keys27))
-    (λ c. hit insides 0 27 (c .match .keys28))
-    (λ c. hit insides 0 28 (c .match .keys29))
-    (λ c. hit insides 0 29 (c .match .keys30))
-    (λ c. hit insides 0 30 (c .match .keys31))
-    (λ c. hit insides 0 31 (c .match .keys32))
-    (λ c. hit insides 0 32 (c .match .keys33))
-    (λ c. hit insides 0 33 (c .match .keys34))
-    (λ c. hit insides 0 34 (c .match .keys35))
-    (λ c. hit insides 0 35 (c .match .keys36))
-    (λ c. hit insides 0 36 (c .match .keys37))
-    (λ c. hit insides 0 37 (c .match .keys38))
-    (λ c. hit insides 0 38 (c .match .keys39))
-    (λ c. hit insides 0 39 (c .match .keys40))
-    (λ c. hit insides 0 40 (c .match .keys41))
-    (λ c. hit insides 0 41 (c .match .keys42))
-    (λ c. hit insides 0 42 (c .match .keys43))
-    (λ c. hit insides 0 43 (c .match .keys44))
-    (λ c. hit insides 0 44 (c .match .keys45))
-    (λ c. hit insides 0 45 (c .match .keys46))
-    (λ c. hit insides 0 46 (c .match .keys47))
-    (λ c. hit insides 0 47 (c .match .keys48))
-    (λ c. hit insides 0 48 (c .match .keys49))
-    (λ c. hit insides 0 49 (c .match .keys50))
-    (λ c. hit insides 0 50 (c .match .keys51))
-    (λ c. hit insides 0 51 (c .match .keys52))
-    (λ c. hit insides 0 52 (c .match .keys53))
-    (λ c. hit insides 0 53 (c .match .keys54))
-    (λ c. hit insides 0 54 (c .match .keys55))
-    (λ c. hit insides 0 55 (c .match .keys56))
-    (λ c. hit insides 0 56 (c .match .keys57))
-    (λ c. hit insides 0 57 (c .match .keys58))
-    (λ c. hit insides 0 58 (c .match .keys59))
-    (λ c. hit insides 0 59 (c .match .keys60))
-    (λ c. hit insides 0 60 (c .match .keys61))
-    (λ c. hit insides 0 61 (c .match .keys62))
-    (λ c. hit insides 0 62 (c .match .keys63))
-    (λ c. hit insides 0 63 (c .match .keys64))
-    (λ c. hit insides 0 64 (c .match .keys65))
-    (λ c. hit insides 0 65 (c .match .keys66))
-    (λ c. hit insides 0 66 (c .match .keys67))
-    (λ c. hit insides 0 67 (c .match .keys68))
-    (λ c. hit insides 0 68 (c .match .keys69))
-    (λ c. hit insides 0 69 (c .match .keys70))
-    (λ c. hit insides 0 70 (c .match .keys71))
-    (λ c. hit insides 0 71 (c .match .keys72))
-    (λ c. miss insides 0 72 _ refl (c .match .rest)))
+    (λ c. arm word _ (key 0) _ refl (c .match .keys1))
+    (λ c. arm word _ (key 1) _ refl (c .match .keys2))
+    (λ c. arm word _ (key 2) _ refl (c .match .keys3))
+    (λ c. arm word _ (key 3) _ refl (c .match .keys4))
+    (λ c. arm word _ (key 4) _ refl (c .match .keys5))
+    (λ c. arm word _ (key 5) _ refl (c .match .keys6))
+    (λ c. arm word _ (key 6) _ refl (c .match .keys7))
+    (λ c. arm word _ (key 7) _ refl (c .match .keys8))
+    (λ c. arm word _ (key 8) _ refl (c .match .keys9))
+    (λ c. arm word _ (key 9) _ refl (c .match .keys10))
+    (λ c. arm word _ (key 10) _ refl (c .match .keys11))
+    (λ c. arm word _ (key 11) _ refl (c .match .keys12))
+    (λ c. arm word _ (key 12) _ refl (c .match .keys13))
+    (λ c. arm word _ (key 13) _ refl (c .match .keys14))
+    (λ c. arm word _ (key 14) _ refl (c .match .keys15))
+    (λ c. arm word _ (key 15) _ refl (c .match .keys16))
+    (λ c. ap (λ (s : Slot). innerFor (rule s)) (no-slot _ (left-over 72 keys _ refl (c .match .rest)))))

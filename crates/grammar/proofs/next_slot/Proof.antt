@@ -1,3 +1,4 @@
+-- `grammar::next_slot` meets its contract: the bits of the word say what follows.
 use Rattle.grammar.proofs.Ways.{none-left, next-due}
 use borrow.Author.Needs.{needs}
 use Rattle.grammar.proofs.next_slot.Statement.{statement}
@@ -13,4 +14,6 @@ next-slot-spec =
     (λ c κs. search needs)
     (λ c κs. search needs)
     (λ c. search needs)
-    (λ c. next-due (c .before .before .before .before .before .args .slot) (c .before .before .before .before .before .args .arg) (c .before .before .before .before .before .args .more) (c .before .before .before .before .rule-word .ensures) (c .before .before .before .kept .ensures) (search needs) (c .before .type-number .ensures) (c .kept2 .ensures)))
+    (λ c.
+    let start = c .before .before .before .before in
+    next-due _ _ _ _ (start .rule-word .ensures) (c .before .before .before .kept .ensures) (search needs) (c .before .type-number .ensures) (c .kept2 .ensures)))

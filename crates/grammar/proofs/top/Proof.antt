@@ -1,45 +1,46 @@
--- `grammar::top` looks its number up: one law for every arm.
+-- `grammar::top`: at each number the greatest argument is the range's, which antt computes arm by arm.
+use Prim.Native.Nat.{ℕ}
 use mathlib.Core.Path.{refl}
-use Rattle.grammar.specs.Code.{tops, topOf}
-use Rattle.grammar.proofs.Hits.{hit, miss}
+use mathlib.Core.List.{List, [], _∷_, _++_}
+use native.Mathlib.Omega.{arith}
+use Rattle.ari.specs.Table.{types}
+use Rattle.grammar.specs.Words.{ranges, topOf}
+use Rattle.grammar.proofs.Hits.{arm, arms, left-over}
 use Rattle.grammar.proofs.top.Statement.{statement}
 use Rattle.grammar.proofs.top.Tie as tie
 
+abbrev evens : List ℕ
+evens = 18 ∷ 20 ∷ 22 ∷ 24 ∷ 26 ∷ 28 ∷ 30 ∷ []
+
+abbrev odds : List ℕ
+odds = 19 ∷ 21 ∷ 23 ∷ 25 ∷ 27 ∷ 29 ∷ 31 ∷ []
+
+abbrev keys : List (List ℕ)
+keys = arms (λ k. k ∷ []) 0 18 ++ (evens ∷ odds ∷ [])
+
 pub top-spec : {M : Type 1} → statement M
-unfolding topOf
+unfolding ranges types
 top-spec =
     tie.close
     (tie.spec
-    (λ c. hit tops 1 0 (c .match .keys1))
-    (λ c. hit tops 1 1 (c .match .keys2))
-    (λ c. hit tops 1 2 (c .match .keys3))
-    (λ c. hit tops 1 3 (c .match .keys4))
-    (λ c. hit tops 1 4 (c .match .keys5))
-    (λ c. hit tops 1 5 (c .match .keys6))
-    (λ c. hit tops 1 6 (c .match .keys7))
-    (λ c. hit tops 1 7 (c .match .keys8))
-    (λ c. hit tops 1 8 (c .match .keys9))
-    (λ c. hit tops 1 9 (c .match .keys10))
-    (λ c. hit tops 1 10 (c .match .keys11))
-    (λ c. hit tops 1 11 (c .match .keys12))
-    (λ c. hit tops 1 12 (c .match .keys13))
-    (λ c. hit tops 1 13 (c .match .keys14))
-    (λ c. hit tops 1 14 (c .match .keys15))
-    (λ c. hit tops 1 15 (c .match .keys16))
-    (λ c. hit tops 1 16 (c .match .keys17))
-    (λ c. hit tops 1 17 (c .match .keys18))
-    (λ c. hit tops 1 18 (c .match .keys19))
-    (λ c. hit tops 1 19 (c .match .keys20))
-    (λ c. hit tops 1 20 (c .match .keys21))
-    (λ c. hit tops 1 21 (c .match .keys22))
-    (λ c. hit tops 1 22 (c .match .keys23))
-    (λ c. hit tops 1 23 (c .match .keys24))
-    (λ c. hit tops 1 24 (c .match .keys25))
-    (λ c. hit tops 1 25 (c .match .keys26))
-    (λ c. hit tops 1 26 (c .match .keys27))
-    (λ c. hit tops 1 27 (c .match .keys28))
-    (λ c. hit tops 1 28 (c .match .keys29))
-    (λ c. hit tops 1 29 (c .match .keys30))
-    (λ c. hit tops 1 30 (c .match .keys31))
-    (λ c. hit tops 1 31 (c .match .keys32))
-    (λ c. miss tops 1 32 _ refl (c .match .rest)))
+    (λ c. arm topOf _ (0 ∷ []) _ refl (c .match .keys1))
+    (λ c. arm topOf _ (1 ∷ []) _ refl (c .match .keys2))
+    (λ c. arm topOf _ (2 ∷ []) _ refl (c .match .keys3))
+    (λ c. arm topOf _ (3 ∷ []) _ refl (c .match .keys4))
+    (λ c. arm topOf _ (4 ∷ []) _ refl (c .match .keys5))
+    (λ c. arm topOf _ (5 ∷ []) _ refl (c .match .keys6))
+    (λ c. arm topOf _ (6 ∷ []) _ refl (c .match .keys7))
+    (λ c. arm topOf _ (7 ∷ []) _ refl (c .match .keys8))
+    (λ c. arm topOf _ (8 ∷ []) _ refl (c .match .keys9))
+    (λ c. arm topOf _ (9 ∷ []) _ refl (c .match .keys10))
+    (λ c. arm topOf _ (10 ∷ []) _ refl (c .match .keys11))
+    (λ c. arm topOf _ (11 ∷ []) _ refl (c .match .keys12))
+    (λ c. arm topOf _ (12 ∷ []) _ refl (c .match .keys13))
+    (λ c. arm topOf _ (13 ∷ []) _ refl (c .match .keys14))
+    (λ c. arm topOf _ (14 ∷ []) _ refl (c .match .keys15))
+    (λ c. arm topOf _ (15 ∷ []) _ refl (c .match .keys16))
+    (λ c. arm topOf _ (16 ∷ []) _ refl (c .match .keys17))
+    (λ c. arm topOf _ (17 ∷ []) _ refl (c .match .keys18))
+    (λ c. arm topOf _ evens _ refl (c .match .keys19))
+    (λ c. arm topOf _ odds _ refl (c .match .keys20))
+    (λ c. absurd (let h = left-over 32 keys _ refl (c .match .rest) in omega arith)))

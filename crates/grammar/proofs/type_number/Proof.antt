@@ -1,3 +1,4 @@
+-- `grammar::type_number` meets its contract: below 22 the number itself, and 0 from there on.
 use Rattle.grammar.proofs.Ways.{a-type, no-type}
 use borrow.Author.Needs.{needs}
 use Rattle.grammar.proofs.type_number.Statement.{statement}
@@ -7,5 +8,5 @@ pub type-number-spec : {M : Type 1} → statement M
 type-number-spec =
     tie.close
     (tie.spec
-    (λ c. (search (a-type, no-type, needs), search needs))
-    (λ c. (search (a-type, no-type, needs), search needs)))
+    (λ c. (search (a-type, needs), search needs))
+    (λ c. (search (no-type, needs), search needs)))
