@@ -107,7 +107,7 @@ reads = by-digits Reads one more
         first [] g k = absurd (omega arith)
         first (x ∷ u) g k = k
 
--- "no leading zero": what is written is read
+-- no leading zero: what is written is read
 pub decimal-back : (n : ℕ) → n ≤ max64 → unsignedOf (decimal n) ≡ Value n
 unfolding unsignedOf decimal
 decimal-back n h = go (reads 19 n (omega arith)) (ltb n 10) refl

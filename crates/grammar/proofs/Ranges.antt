@@ -2,7 +2,7 @@
 use Prim.Native.Nat.{ℕ, zero, suc, _/_, _%_, _^_, _<_, _≤_}
 use mathlib.Core.Path.{_≡_, refl, sym, _∙_}
 use mathlib.Core.Bool.{Bool, true, false, _&&_, _||_, cond}
-use mathlib.Core.List.{List, [], _∷_}
+use mathlib.Core.List.{List, [], _∷_, _++_}
 use native.Mathlib.Omega.{arith}
 use lib.ListN.{getD}
 use lib.Dec.{leb, eqb}
@@ -10,6 +10,7 @@ use borrow.Author.Tests.{leb-true, eqb-true, eqb-false, le-leb, lt-leb}
 use Rattle.buffer.specs.Bytes.{within}
 use Rattle.buffer.proofs.ByteLaws.{and-true}
 use Rattle.ari.specs.Table.{Row, row, types, fits}
+use Rattle.grammar.proofs.Hits.{arms}
 use Rattle.grammar.specs.Words.{each, Span, span, inSpans, spans, ranges, rangeOf, bitsOf, smallOf, topIn, topOf}
 
 pub each-at : {A : Type 0} (n : ℕ) (f g : ℕ → A) → each n f ≡ each n g → (k : ℕ) → k < n → f k ≡ g k
@@ -82,3 +83,13 @@ module _ (c a m : ℕ) where
 
   pub top-looks : 32 ≤ a → m ≡ topOf c → leb a m ≡ inSpans a (rangeOf c)
   top-looks h e = rw e (above a (rangeOf c) (simple-at ranges are-simple c) h)
+
+-- the arms of a match on a range: one for each, and two for the numbers of five bits that are none
+abbrev pub evens : List ℕ
+evens = 18 ∷ 20 ∷ 22 ∷ 24 ∷ 26 ∷ 28 ∷ 30 ∷ []
+
+abbrev pub odds : List ℕ
+odds = 19 ∷ 21 ∷ 23 ∷ 25 ∷ 27 ∷ 29 ∷ 31 ∷ []
+
+abbrev pub keys : List (List ℕ)
+keys = arms (λ k. k ∷ []) 0 18 ++ (evens ∷ odds ∷ [])

@@ -16,7 +16,7 @@ abbrev pub nameOf : List ℕ → Head → List ℕ
 nameOf s (Good k a q) = cond (leb (q + a) (length s)) (take a (drop q s)) []
 nameOf s (Bad r) = []
 
--- "A name is printed as its text, a relative one as a full stop."
+-- R82
 unfoldable pub spaceOf : List ℕ → ℕ → ℕ → List ℕ
 spaceOf s k w = cond (eqb k 1) (nameOf s (headAt s w)) (cond (eqb k 2) (46 ∷ []) (integerOf w))
 

@@ -14,7 +14,7 @@ ghost use Rattle.ari.specs.Table.{rule, due};
 ghost use Rattle.grammar.specs.Code.{fitsCode, ownOf};
 ghost use Rattle.ari.specs.Reader.{wrongVersion, notGreater, isEmpty};
 ghost use Rattle.grammar.specs.Code.{slotOf};
-ghost use Rattle.grammar.proofs.Right.{IsSlot};
+ghost use Rattle.grammar.specs.Code.{IsSlot};
 ghost use Rattle.buffer.specs.Bytes.{part};
 ghost use Rattle.reader.specs.Steps.{standsAt, stringEnd, stepAt, contentAt, ContentShown, noHead, stoppedOf, Bounded, keySpan};
 ghost use Rattle.reader.specs.Walks.{insideLevel, Walked, SetsWalked};

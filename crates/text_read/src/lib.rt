@@ -7,7 +7,7 @@ ghost use Rattle.ari.specs.Table.{due};
 ghost use Rattle.ari.specs.Limits.{firstLimits, capped};
 ghost use Rattle.ari.specs.Items.{encode};
 ghost use Rattle.grammar.specs.Code.{slotOf};
-ghost use Rattle.grammar.proofs.Right.{IsSlot};
+ghost use Rattle.grammar.specs.Code.{IsSlot};
 ghost use Rattle.reader.specs.Walks.{insideLevel};
 ghost use Rattle.buffer.specs.Put.{Put};
 ghost use Rattle.text.specs.Parse.{level, parse, candidate};

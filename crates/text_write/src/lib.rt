@@ -8,7 +8,7 @@ ghost use lib.Dec.{eqb};
 ghost use Rattle.cbor.specs.Head.{isContainer};
 ghost use Rattle.ari.specs.Table.{due};
 ghost use Rattle.grammar.specs.Code.{slotOf};
-ghost use Rattle.grammar.proofs.Right.{IsSlot};
+ghost use Rattle.grammar.specs.Code.{IsSlot};
 ghost use Rattle.buffer.specs.Bytes.{part};
 ghost use Rattle.reader.specs.Walks.{insideLevel};
 ghost use Rattle.buffer.specs.Put.{Put};

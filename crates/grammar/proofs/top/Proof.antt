@@ -1,22 +1,13 @@
 -- `grammar::top`: at each number the greatest argument is the range's, which antt computes arm by arm.
-use Prim.Native.Nat.{ℕ}
 use mathlib.Core.Path.{refl}
-use mathlib.Core.List.{List, [], _∷_, _++_}
+use mathlib.Core.List.{[], _∷_}
 use native.Mathlib.Omega.{arith}
 use Rattle.ari.specs.Table.{types}
 use Rattle.grammar.specs.Words.{ranges, topOf}
-use Rattle.grammar.proofs.Hits.{arm, arms, left-over}
+use Rattle.grammar.proofs.Hits.{arm, left-over}
+use Rattle.grammar.proofs.Ranges.{evens, odds, keys}
 use Rattle.grammar.proofs.top.Statement.{statement}
 use Rattle.grammar.proofs.top.Tie as tie
-
-abbrev evens : List ℕ
-evens = 18 ∷ 20 ∷ 22 ∷ 24 ∷ 26 ∷ 28 ∷ 30 ∷ []
-
-abbrev odds : List ℕ
-odds = 19 ∷ 21 ∷ 23 ∷ 25 ∷ 27 ∷ 29 ∷ 31 ∷ []
-
-abbrev keys : List (List ℕ)
-keys = arms (λ k. k ∷ []) 0 18 ++ (evens ∷ odds ∷ [])
 
 pub top-spec : {M : Type 1} → statement M
 unfolding ranges types

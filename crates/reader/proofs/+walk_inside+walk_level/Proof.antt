@@ -13,7 +13,7 @@ use Rattle.buffer.specs.Bytes.{all, isByte}
 use Rattle.cbor.specs.Head.{keyOf}
 use Rattle.ari.specs.Table.{rule}
 use Rattle.grammar.specs.Code.{slotOf}
-use Rattle.grammar.proofs.Right.{IsSlot}
+use Rattle.grammar.specs.Code.{IsSlot}
 use Rattle.buffer.specs.Bytes.{part}
 use Rattle.reader.proofs.Bounds.{nothing-inside, opened, bounds, taken-on, taken-in, taken-kind, taken-fits, read-in, read-few, read-on, less-deep, one-in, one-fits, falls-on, span-order, span-within}
 use Rattle.reader.proofs.Loop.{Leads, begins, halts, breaks, ends, again, next-slotted, turns}

@@ -6,7 +6,7 @@ use lib.ListN.{length, drop}
 use borrow.Author.Needs.{needs}
 use Rattle.ari.specs.Table.{due}
 use Rattle.grammar.specs.Code.{slotOf}
-use Rattle.grammar.proofs.Right.{IsSlot}
+use Rattle.grammar.specs.Code.{IsSlot}
 use Rattle.text.specs.Parse.{level, parse}
 use Rattle.text_read.proofs.Walking.{Toward, begins, again, next-slotted, inner-slot, walking}
 use borrow.Fn.Kinds.{In}
