@@ -17,7 +17,8 @@ use Rattle.ari.specs.Items.{Items, none, item, encode}
 use Rattle.grammar.specs.declared.Next.{Next}
 use Rattle.grammar.specs.declared.Next.the-variants.{Done, Due}
 use Rattle.grammar.specs.Code.{slotOf, levelOf, nextCode, insideCode}
-use Rattle.grammar.proofs.Right.{IsSlot, Stands, Slotted, next-stands, inside-right}
+use Rattle.grammar.specs.Code.{IsSlot}
+use Rattle.grammar.proofs.Right.{Stands, Slotted, next-stands, inside-right}
 use Rattle.reader.specs.Walks.{insideLevel}
 use Rattle.buffer.specs.Put.{Put}
 use Rattle.text_write_item.specs.Ways.{wayAt, afterBy}

@@ -18,7 +18,8 @@ use Rattle.ari.specs.Due as fit
 use Rattle.grammar.specs.declared.Next.{Next}
 use Rattle.grammar.specs.declared.Next.the-variants.{Done, Due}
 use Rattle.grammar.specs.Code.{slotOf, levelOf, nextCode, insideCode}
-use Rattle.grammar.proofs.Right.{IsSlot, fits-right, next-right, inside-right}
+use Rattle.grammar.specs.Code.{IsSlot}
+use Rattle.grammar.proofs.Right.{fits-right, next-right, inside-right}
 use Rattle.grammar.proofs.Right.{next-slotted as slotted}
 use Rattle.buffer.specs.Bytes.{part}
 use Rattle.reader.specs.Walks.{insideLevel}

@@ -6,7 +6,7 @@ use lib.ListN.{length}
 use borrow.Author.Needs.{needs}
 use Rattle.ari.specs.Table.{due}
 use Rattle.grammar.specs.Code.{slotOf}
-use Rattle.grammar.proofs.Right.{IsSlot}
+use Rattle.grammar.specs.Code.{IsSlot}
 use Rattle.reader.proofs.Bounds.{opens, less-deep, inner-slot}
 use Rattle.buffer.proofs.Putting.{put-size}
 use Rattle.text_write.proofs.Writing.{Leads, begins, again, next-slotted, falls-on, taken-on, taken-order, taken-in, writing}
