@@ -45,7 +45,8 @@ use Rattle.grant_structs.specs.declared.Grant.{Grant}
 use Rattle.grant_structs.specs.Structs.{grants}
 use Rattle.grant_structs.proofs.Over.{R, Own, fine, row-typed, own-word, own-int, own-bool, copies-rows, answered-κ}
 use Rattle.grant_structs.proofs.Searched.{of-all}
-use Rattle.grant_structs.proofs.Asking.{SomeRow, to, asked, gives, said}
+use Rattle.grant_structs.proofs.Asking.{SomeRow, to, asked, gives}
+use Rattle.grant_structs.proofs.some_row as some-row
 use Rattle.grant_structs.proofs.some_row.Symbol as some-row-def
 use Rattle.grant_structs.proofs.some_row.Symbol.{name as #grant-structs·some-row}
 use Rattle.grant_structs.proofs.some_row.Met as some-row-thm
@@ -94,7 +95,7 @@ module _ {M : Type 1} (𝓤 : URA M) (H : Heap 𝓤) (A : Atoms 𝓤) (W : Given
         -- [_5; …; _4; …; _3; …; _2; …; _1; …; _0; …; what is asked; Own]
         move ! (12 ∷ []) $ calls-at ! (fmOf 𝓤 H (W .laws) 𝓣) (SomeRow 𝓤 H A mem run) known (to 𝓤 H A mem run κ q a n false g)
         (and-then ! (load ! (from ! (stop !)) (look ! 9 refl)) (and-then ! (load ! (from ! (stop !)) (look ! 3 refl)) (and-then ! (false-lit !) (and-then ! (load ! (from ! (stop !)) (look ! 1 refl)) (no-more !))))) (λ u.
-        answered-κ ! tt bool u _ (λ r. r ≡ gives 𝓤 H A mem run κ q a n false g) (id⊢ 𝓤 _) (said 𝓤 H A mem run κ q a n false g) (λ r e is.
+        answered-κ ! tt bool u some-row.ended (to 𝓤 H A mem run κ q a n false g .0) (λ r. r ≡ gives 𝓤 H A mem run κ q a n false g) (id⊢ 𝓤 _) (λ r e is.
         land ! (from ! (stop !)) (init ! 11 refl (bool-lawful 𝓤 H A W .typed r _ is .0)) $ rewrite ! 11 (λ (w : Val). ‵ (fat fullShare tyBool l₀ 0 w)) (ap only is) refl $
         returns ! (look ! 11 refl) $ forget ! 1 refl $ forget ! 3 refl $ forget ! 5 refl $ forget ! 7 refl $ forget ! 9 refl $ forget ! 11 refl $
         move ! (11 ∷ 12 ∷ []) $ free1 ! $ move ! (9 ∷ 10 ∷ []) $ free1 ! $ move ! (7 ∷ 8 ∷ []) $ free1 ! $ move ! (5 ∷ 6 ∷ []) $ free1 ! $ move ! (3 ∷ 4 ∷ []) $ free1 ! $ move ! (1 ∷ 2 ∷ []) $ free1 ! $ free0 ! $
