@@ -2,6 +2,7 @@ pub mod Asking
 pub mod Deciding
 pub mod Decided
 pub mod Entries
+pub mod Leaving
 pub mod Lending
 pub mod Lent
 pub mod Over

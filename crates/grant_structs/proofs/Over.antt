@@ -27,7 +27,7 @@ use contract.Monad.{fact}
 use types.Kit.{Given, Item, Goal, Soaks, Seq, Step, step, ‵, raw, _⊛_, some, later, _$_, move, drop, use1, split, pick, fsplit, await}
 use types.Share.{arr-parts}
 use denote.RattleType.{RattleType}
-use denote.Laws.{Is, shows}
+use denote.Laws.{Is, Tells, shows}
 use denote.Memory.{cellAt, pointee, shares}
 use denote.Plain.{uint-makes, bool-makes}
 use denote.Signed.{sint-makes}
@@ -39,6 +39,9 @@ use denote.Steps.{owned, facts, heard}
 use denote.Struct.Laws as LL
 use denote.Triple.Bound.{Bound}
 use denote.Triple.Clauses.{Ended, Lasts, lasts}
+use Rattle.ari.specs.declared.Limits.{Limits}
+use Rattle.ari.proofs.Limits as L
+use Rattle.ari.proofs.Limits.Laws as L′
 use Rattle.grant_structs.specs.declared.Grant.{Grant}
 use Rattle.grant_structs.specs.Structs.{none, rowAt}
 use Rattle.grant_structs.proofs.Grant as T
@@ -60,6 +63,25 @@ Fine g = Is R g (low g ∷ [])
 pub fine : (s : ℕ) (z : ℤ) → s < 2 ^ 64 → mag z < 2 ^ hbits w64 → Fine (record { subscriber = s; namespace = z })
 fine s z gs gz = LL.owes T.the-type T′.the-laws (record { subscriber = s; namespace = z }) ((refl, gs), ((refl, gz), tt))
 
+-- the same of the limits
+abbrev pub LR : RattleType
+LR = L.the-row
+
+abbrev pub low-limits : Limits → Val
+low-limits = L′.lowered
+
+abbrev pub FineLimits : Limits → Type 0
+FineLimits m = Is LR m (low-limits m ∷ [])
+
+pub fine-limits : (m : Limits) → m .bytes < 2 ^ 64 → m .items < 2 ^ 64 → m .containers < 2 ^ 64 → m .text < 2 ^ 64 → FineLimits m
+fine-limits m gb gi gc gt = LL.owes L.the-type L′.the-laws m ((refl, gb), ((refl, gi), ((refl, gc), ((refl, gt), tt))))
+
+abbrev pub limits-vals : Limits → List Val
+limits-vals = LL.vals L.the-type L′.the-laws
+
+pub limits-tells : Tells LR (Is LR) limits-vals
+limits-tells = LL.tells L.the-type L′.the-laws
+
 abbrev pub Own : Lft → RefT (List Grant) → Fml
 Own κ a = ShrSlice (named 0) κ R .own a (sliceVal (a .ptr) (length (a .now)) ∷ [])
 
@@ -76,6 +98,9 @@ at-row o i = sym (place-is 16 o i)
 module _ {M : Type 1} {𝓤 : URA M} {H : Heap 𝓤} {A : Atoms 𝓤} (W : Given 𝓤 H A) where
   pub row-typed : (g : Grant) → Fine g → Holds (hasTy T′.mir (low g)) × WT (low g)
   row-typed g f = LL.lawful T.the-type T′.the-laws 𝓤 H A W .typed g _ f .0
+
+  pub limits-typed : (m : Limits) → FineLimits m → Holds (hasTy L′.mir (low-limits m)) × WT (low-limits m)
+  limits-typed m f = LL.lawful L.the-type L′.the-laws 𝓤 H A W .typed m _ f .0
 
 -- a contract's `ensures`: φ, beside what is said of the parameters at exit
 module _ {M : Type 1} (𝓤 : URA M) (H : Heap 𝓤) (A : Atoms 𝓤) (T : Ended) (x : Bound 𝓤 H A (T .signature)) where
@@ -94,6 +119,9 @@ module _ {M : Type 1} {𝓤 : URA M} {H : Heap 𝓤} {A : Atoms 𝓤} {K : Type 
 
   pub own-grant : K → (g : Grant) → Fine g → Step K W (‵ (R .own g (low g ∷ [])) ∷ Γ) G Γ G
   own-grant t g f = owned t R (Is R) (LL.makes T.the-type T′.the-plain 𝓤 H A) g _ f
+
+  pub own-limits : K → (m : Limits) → FineLimits m → Step K W (‵ (LR .own m (low-limits m ∷ [])) ∷ Γ) G Γ G
+  own-limits t m f = owned t LR (Is LR) (LL.makes L.the-type L′.the-plain 𝓤 H A) m _ f
 
   pub opens-rows : K → {κ : Lft} {q : Share} (a : RefT (List Grant))
       → Step K W (‵ (Shr κ (a .now) (a .ptr .0) (a .ptr .1)) ∷ ‵ (flft κ q) ∷ ‵ (Own κ a) ∷ Γ) G (‵ (Own κ a) ∷ (‵ (flft κ q) ⊛ ‵ ftrue) ∷ Γ) G

@@ -239,11 +239,9 @@ pub struct Answers {
 
 // The three of a table of four rows by value, for a caller that is covered, as a program's main: the array is lent. A shorter table repeats a row.
 pub fn ask_four(message: &[u8], t: [Grant; 4], subscriber: u64, namespace: i64) -> Answers
-    ensures { λ r. ⌜ said (r .check) ≡ check (grants t) ⌝ }
-    ensures { λ r. ⌜ r .granted ≡ granted (grants t) subscriber (number namespace) ⌝ }
-    ensures { λ r. ⌜ answerOf (r .release) ≡ release firstLimits (now (message .entry)) (grants t) subscriber ⌝ }
+    ensures { λ r. ⌜ (said (r .check) ≡ check (grants t)) × (r .granted ≡ granted (grants t) subscriber (number namespace)) × (answerOf (r .release) ≡ release firstLimits (now (message .entry)) (grants t) subscriber) ⌝ }
 {
-    let rows = &t;
+    let rows: &[Grant] = &t;
     Answers {
         check: check_grants(rows),
         granted: granted(rows, subscriber, namespace),
