@@ -45,7 +45,7 @@ length-listing (e ∷ es) = omega (arith, length-append (entryBytes e) (listingB
 number-there : (l : List ℕ) (at p : ℕ) (a : List ℕ) (n : ℕ) (y : List ℕ) → drop at l ≡ a ++ (be 8 n ++ y) → length a ≡ p → n < 2 ^ 64 → wordAt l (at + p) ≡ n
 number-there l at p a n y e f h =
     let long : length l - at ≡ p + (8 + length y) =
-        sym (length-drop at l) ∙ ap length e ∙ omega (arith, length-append a (be 8 n ++ y), length-append (be 8 n) y, length-be 8 n) in
+    sym (length-drop at l) ∙ ap length e ∙ omega (arith, length-append a (be 8 n ++ y), length-append (be 8 n) y, length-be 8 n) in
     sym (word-here l (at + p) (omega arith) (omega arith) (sym
     (ap (λ (x : List ℕ). value (take 8 x)) (sym (drop-drop p at l) ∙ ap (drop p) e ∙ drop-at a (be 8 n ++ y) p f)
     ∙ ap value (take-at (be 8 n) y 8 (length-be 8 n)) ∙ value-be 8 n (omega arith))))

@@ -85,12 +85,12 @@ pub fn granted(t: &[Grant], subscriber: u64, namespace: i64) -> bool
     )
 }
 
-// What a search over n rows tells that ended at row i.
-fn verdict(i: usize, n: usize) -> Verdict
-    ensures { λ r. ⌜ said r ≡ foundAt i n ⌝ }
+// What a search over so many rows tells that ended at a row.
+fn verdict(row: usize, rows: usize) -> Verdict
+    ensures { λ r. ⌜ said r ≡ foundAt row rows ⌝ }
 {
-    if i < n {
-        Verdict::Refused(i as u64)
+    if row < rows {
+        Verdict::Refused(row as u64)
     } else {
         Verdict::Passes
     }
@@ -129,14 +129,14 @@ const ROOM: usize = ENTRY * (ari::ITEMS / 2);
 // The kind of an entry whose namespace is a number.
 const NUMBER: u64 = 0;
 
-// The row that grants entry i of a list, if its namespace is a number.
-fn wanted(list: &[u8], i: usize, subscriber: u64) -> Grant
+// The row that grants entry i of a list to the subscriber who asks, if its namespace is a number.
+fn wanted(list: &[u8], i: usize, asker: u64) -> Grant
     requires { ⌜ i < length (now list) / 24 ⌝ }
-    ensures { λ r. ⌜ r ≡ wantedAt (now (list .entry)) i subscriber ⌝ }
+    ensures { λ r. ⌜ r ≡ wantedAt (now (list .entry)) i asker ⌝ }
 {
     let namespace = number_of(grants::word_at(list, ENTRY * i + 16));
     Grant {
-        subscriber,
+        subscriber: asker,
         namespace,
     }
 }
@@ -152,12 +152,12 @@ fn rows_for(list: &[u8], i: usize, n: usize) -> usize
     0
 }
 
-// What a search over n entries tells that ended at entry i.
-fn judged(i: usize, n: usize) -> Released
-    ensures { λ r. ⌜ answerOf r ≡ heldAt i n ⌝ }
+// What a search over so many entries tells that ended at an entry.
+fn judged(entry: usize, entries: usize) -> Released
+    ensures { λ r. ⌜ answerOf r ≡ heldAt entry entries ⌝ }
 {
-    if i < n {
-        Released::No { entry: i }
+    if entry < entries {
+        Released::No { entry }
     } else {
         Released::Yes
     }
@@ -170,7 +170,12 @@ fn release_entries(list: &[u8], n: usize, t: &[Grant], subscriber: u64) -> Relea
 {
     let mut i = 0;
     'entries: while i < n {
-        let found = some_row(t, rows_for(list, i, t.len()), false, wanted(list, i, subscriber));
+        let found = some_row(
+            t,
+            rows_for(list, i, t.len()),
+            false,
+            wanted(list, i, subscriber),
+        );
         if !found {
             break 'entries;
         }
@@ -214,7 +219,12 @@ fn answered(listed: Listed, given: Released) -> Released
 }
 
 // Whether a message within these limits, none above the gate's own, is released to a subscriber.
-pub fn release_grants_within(limits: Limits, message: &[u8], t: &[Grant], subscriber: u64) -> Released
+pub fn release_grants_within(
+    limits: Limits,
+    message: &[u8],
+    t: &[Grant],
+    subscriber: u64,
+) -> Released
     ensures { λ r. ⌜ answerOf r ≡ release (capped limits) (now (message .entry)) (grants (now (t .entry))) subscriber ⌝ }
 {
     let mut room = [0u8; ROOM];

@@ -88,7 +88,7 @@ abbrev val-r : Released → Val
 val-r = EL.val S.the-type S′.the-laws
 
 abbrev val : Answers → Val
-val = N′.lowered
+val r = only (LL.vals N.the-type N′.the-laws r)
 
 abbrev Sound : Answers → Type 0
 Sound r = Is N.the-row r (val r ∷ [])
@@ -118,7 +118,7 @@ module _ {M : Type 1} (𝓤 : URA M) (H : Heap 𝓤) (A : Atoms 𝓤) (W : Given
   at = (v ∷ [], (vals xs, (vint w64 s ∷ [], (vint w64 (ofZ w64 z) ∷ [], tt))))
 
   abbrev Post : Val → SProp 𝓤
-  Post = walkOf 𝓤 H A ask-four.ended (Gone 𝓤 H A W ask-four.ended (ask-four.clauses 𝓤 H A mem run)) (ask-four.clauses 𝓤 H A mem run) .post (((κ, tt), (q, tt), tt, (w, (xs, (s, (z, tt)))), at), tt)
+  Post = walkOf 𝓤 H A ask-four.ended (Gone ask-four.ended) (ask-four.clauses 𝓤 H A mem run) .post (((κ, tt), (q, tt), tt, (w, (xs, (s, (z, tt)))), at), tt)
 
   abbrev Checked : Verdict → Type 0
   Checked c = checkOf c ≡ check (grants xs)
@@ -202,11 +202,11 @@ module _ {M : Type 1} (𝓤 : URA M) (H : Heap 𝓤) (A : Atoms 𝓤) (W : Given
       forget ! 2 refl $ forget ! 4 refl $ forget ! 6 refl $ forget ! 8 refl $ forget ! 10 refl $ forget ! 13 refl $ forget ! 15 refl $ forget ! 17 refl $ forget ! 19 refl $ forget ! 21 refl $
       move ! (21 ∷ 22 ∷ []) $ free1 ! $ move ! (19 ∷ 20 ∷ []) $ free1 ! $ move ! (17 ∷ 18 ∷ []) $ free1 ! $ move ! (15 ∷ 16 ∷ []) $ free1 ! $ move ! (13 ∷ 14 ∷ []) $ free1 ! $ move ! (0 ∷ 12 ∷ []) $ free1 ! $
       move ! (9 ∷ 10 ∷ []) $ free1 ! $ move ! (7 ∷ 8 ∷ []) $ free1 ! $ move ! (5 ∷ 6 ∷ []) $ free1 ! $ move ! (3 ∷ 4 ∷ []) $ free1 ! $ move ! (1 ∷ 2 ∷ []) $ free1 ! $ free0 ! $
-      by ! (exits all sound (ec, (ef, er)))))))))))))))))))))
+      by ! (exits all sound (ec, ef, er))))))))))))))))))))
 
 module _ {M : Type 1} (𝓤 : URA M) (H : Heap 𝓤) (A : Atoms 𝓤) (W : Given 𝓤 H A) (mem : Memory → SProp 𝓤) (run : Routine → Fun 𝓤) (𝓣 : Tables 𝓤 H) (known : Known 𝓤 H A mem run 𝓣) where
-  meets : Meets 𝓤 H A ask-four.signature (WpFn 𝓤 H (𝓣 .C) (𝓣 .Λ) code.function) (ask-four.spec 𝓤 H A mem run)
-  meets =
+  meets-it : Meets 𝓤 H A ask-four.signature (WpFn 𝓤 H (𝓣 .C) (𝓣 .Λ) code.function) (ask-four.spec 𝓤 H A mem run)
+  meets-it =
       meets-by 𝓤 H A W ask-four.ended (ask-four.clauses 𝓤 H A mem run) ((λ κs x f. refl), ((λ κs x f. refl), ((λ κs x f. refl), ((λ κs x f. refl), tt)))) 𝓣 code.function
       (λ κs. (slice-vals, (vals, (uint-vals w64, (sint-vals w64, tt)))))
       (λ κs. (shr-slice-tells (named 0) (κs .0) u8, (array-tells R (LL.vals T.the-type T′.the-laws) (LL.tells T.the-type T′.the-laws) 4, (uint-tells w64, (sint-tells w64, tt)))))
@@ -217,7 +217,7 @@ unfolding code.routine tablesOf
 ask-four-spec 𝓤 H 𝓜 𝓖 𝓡 =
     entered 𝓤 H (tripleOf 𝓤 H (𝓖 .A) ask-four.signature (ask-four.spec 𝓤 H (𝓖 .A) (𝓜 .mem) (𝓡 .run)))
     (tables 𝓤 H 𝓜 𝓡 code.env .C) (tables 𝓤 H 𝓜 𝓡 code.env .Λ) #grant-structs·ask-four code.function (code.unfolded 𝓤 H 𝓜 𝓡)
-    (meets 𝓤 H (𝓖 .A) (givenOf 𝓤 H 𝓜 𝓖) (𝓜 .mem) (𝓡 .run) (tablesOf 𝓤 H 𝓜 (tables 𝓤 H 𝓜 𝓡 code.env)) (record {
+    (meets-it 𝓤 H (𝓖 .A) (givenOf 𝓤 H 𝓜 𝓖) (𝓜 .mem) (𝓡 .run) (tablesOf 𝓤 H 𝓜 (tables 𝓤 H 𝓜 𝓡 code.env)) (record {
       of-check = cited 𝓤 H (Checks 𝓤 H (𝓖 .A) (𝓜 .mem) (𝓡 .run)) 𝓜 𝓡 code.env #grant-structs·check-grants check-def.routine code.calls-grant-structs·check-grants (check-thm.met 𝓤 H 𝓜 𝓖 𝓡);
       of-granted = cited 𝓤 H (Granted 𝓤 H (𝓖 .A) (𝓜 .mem) (𝓡 .run)) 𝓜 𝓡 code.env #grant-structs·granted granted-def.routine code.calls-grant-structs·granted (granted-thm.met 𝓤 H 𝓜 𝓖 𝓡);
       of-release = cited 𝓤 H (Releases 𝓤 H (𝓖 .A) (𝓜 .mem) (𝓡 .run)) 𝓜 𝓡 code.env #grant-structs·release-grants release-def.routine code.calls-grant-structs·release-grants (release-thm.met 𝓤 H 𝓜 𝓖 𝓡);

@@ -18,12 +18,12 @@ use prog.Memory.{Memory}
 use prog.Routine.{Routine}
 use prog.Wp.{Heap, Out, Env, afterSeq, afterBlock, afterTurn, atReturn, Wp, WpFn, Tables}
 use ghost.Atoms.{Atoms}
-use contract.Monad.{Fun}
+use contract.Monad.{Fun, factI}
 use contract.Running.{givenOf, tables, tablesOf}
-use types.Kit.{Given, Item, Sq, ‵, raw, _⊛_, ⋆, anyQ, atRet, runs, _$_, _∵_, !, qed, by, move, drop, use0, use2, split, join, rewrite, fsplit, fjoin, suffices, frame, done}
+use types.Kit.{Given, Item, Sq, ‵, raw, _⊛_, ⋆, anyQ, atRet, runs, _$_, _∵_, !, qed, by, move, keep, drop, use0, use2, split, join, rewrite, fsplit, fjoin, suffices, frame, done}
 use types.Part.{whole, sub, look-in}
 use types.Run.{look, store, init, forget, stop, fld, from, load, lit, false-lit, of-opd, un, bin, and-then, no-more, assigns, assigns-last, land, first, blocks, returns, enter, alloc1, alloc0, params1, pass1, pass0, free1, free0, exec, Below, again, loops}
-use sound.WpLaws.{fmOf, WpFn-mono}
+use sound.WpLaws.{fmOf}
 use borrow.Author.Tests.{not-false}
 use denote.RattleType.{owns}
 use denote.Laws.{Is}
@@ -41,8 +41,7 @@ use denote.Triple.Call.{calls-at}
 use denote.Triple.Entry.{Vals, onEntry}
 use denote.Triple.Spec.{Meets, tripleOf}
 use denote.Triple.Table.{entered, cited}
-use denote.Triple.Walked.{says, needs, Stays, stay-none-slice, stay-none, walkOf, goes-none-slice, goes-none, Walks, ends-at, walked, walk-meets}
-use denote.Exit.{yes}
+use denote.Triple.Walked.{says, needs, walkOf}
 use Rattle.grants.specs.Grants.{some}
 use Rattle.release.specs.declared.Released.{Released}
 use Rattle.release.specs.Release.{answerOf}
@@ -53,6 +52,7 @@ use Rattle.grant_structs.specs.Structs.{grantOf, grants, meetsBy, wanted
 use Rattle.grant_structs.proofs.Grant as T
 use Rattle.grant_structs.proofs.Grant.Laws as T′
 use Rattle.grant_structs.proofs.Over.{R, low, slice, Own, Bytes, own-word, copies-rows, copies-bytes, answered, answered-κ}
+use Rattle.grant_structs.proofs.Leaving.{Gone, leaves, meets-by, of-κκ}
 use Rattle.grant_structs.proofs.Turn.{tests, breaks, Upto, nearer, nearer-wf, is-false}
 use Rattle.grant_structs.proofs.Entries.{few-rows, looked-through, Unjudged, at-first, passed, held, all-passed}
 use Rattle.grant_structs.proofs.Asking.{SomeRow, to, asked, gives}
@@ -77,9 +77,6 @@ use Rattle.grant_structs.proofs.release_entries as release-entries
 use Rattle.grant_structs.proofs.release_entries.Statement as stated
 use Rattle.grant_structs.proofs.release_entries.Code as code
 use Rattle.grant_structs.proofs.release_entries.Code.Mir as piece
-
-abbrev stayed : Stays (release-entries.ended .signature .params) (release-entries.ended .kept)
-stayed = (stay-none-slice (0 ∷ []) tt (plain (λ _. u8)) yes, (stay-none (λ _. usize) yes, (stay-none-slice (1 ∷ []) tt (plain (λ _. R)) yes, (stay-none (λ _. u64) yes, tt))))
 
 abbrev word : Ty
 word = tyInt w64
@@ -157,7 +154,7 @@ module _ {M : Type 1} (𝓤 : URA M) (H : Heap 𝓤) (A : Atoms 𝓤) (W : Given
   at = (v ∷ [], (vint w64 n ∷ [], (v′ ∷ [], (vint w64 s ∷ [], tt))))
 
   abbrev Post : Val → SProp 𝓤
-  Post = walkOf 𝓤 H A release-entries.ended stayed (release-entries.clauses 𝓤 H A mem run) .post (((κ, (κ′, tt)), (q, (q′, tt)), tt, (w, (n, (a, (s, tt)))), at), tt)
+  Post = walkOf 𝓤 H A release-entries.ended (Gone release-entries.ended) (release-entries.clauses 𝓤 H A mem run) .post (((κ, (κ′, tt)), (q, (q′, tt)), tt, (w, (n, (a, (s, tt)))), at), tt)
 
   abbrev ok : ℕ → Bool
   ok = grantedAt (grants ys) s ws
@@ -165,12 +162,9 @@ module _ {M : Type 1} (𝓤 : URA M) (H : Heap 𝓤) (A : Atoms 𝓤) (W : Given
   abbrev P : ℕ → Type 0
   P = Unjudged ok n
 
-  exits : (c : Released) → Sound c → answerOf c ≡ judgedFrom ok 0 n → ent 𝓤 (⋆ 𝓤 H A (‵ (flft κ q) ∷ ‵ (Bytes κ w) ∷ ‵ (flft κ′ q′) ∷ ‵ (Own κ′ a) ∷ [])) (Post (val c))
+  exits : (c : Released) → Sound c → answerOf c ≡ judgedFrom ok 0 n → ent 𝓤 (⋆ 𝓤 H A (‵ (flft κ q) ∷ ‵ (flft κ′ q′) ∷ [])) (Post (val c))
   exits c ic e =
-      qed W (‵ (flft κ q) ∷ ‵ (Bytes κ w) ∷ ‵ (flft κ′ q′) ∷ ‵ (Own κ′ a) ∷ []) ∵
-      suffices ! _ (ends-at 𝓤 H A release-entries.ended stayed (release-entries.clauses 𝓤 H A mem run) W (((κ, (κ′, tt)), (q, (q′, tt)), tt, (w, (n, (a, (s, tt)))), at), tt) (val c) c (tt, (tt, (tt, (tt, tt)))) (tt, (tt, (tt, (tt, tt))))) $ says ! e $
-      nothing ! $ move ! (3 ∷ 0 ∷ []) $ join ! $ move ! (1 ∷ 0 ∷ []) $ join ! $ nothing ! $ own-word ! s gs $ fjoin ! $ move ! (3 ∷ 0 ∷ []) $ fjoin ! $ own-word ! n few $ fjoin ! $ move ! (2 ∷ 0 ∷ []) $ fjoin ! $ move ! (1 ∷ 0 ∷ []) $ frame ! $ frame ! $
-      owned ! S.the-row (Is S.the-row) (EL.makes S.the-type S′.the-plain 𝓤 H A) c _ ic $ done !
+      leaves 𝓤 H A W release-entries.ended (release-entries.clauses 𝓤 H A mem run) (((κ, (κ′, tt)), (q, (q′, tt)), tt, (w, (n, (a, (s, tt)))), at), tt) (val c) c (tt, (tt, (tt, (tt, tt)))) _ (of-κκ 𝓤 H A W κ κ′ q q′) (EL.makes S.the-type S′.the-plain 𝓤 H A c _ ic) (factI 𝓤 _ (emp 𝓤) e)
 
   module _ (𝓣 : Tables 𝓤 H) (known : Known 𝓤 H A mem run 𝓣) (l₀ l₁ l₂ l₃ l₄ l₅ l₆ l₇ l₈ l₉ l₁₀ : ℕ) where
     abbrev En : Env 𝓤 H
@@ -195,7 +189,7 @@ module _ {M : Type 1} (𝓤 : URA M) (H : Heap 𝓤) (A : Atoms 𝓤) (W : Given
         returns ! (look ! 24 refl) $ forget ! 14 refl $ forget ! 16 refl $ forget ! 18 refl $ forget ! 20 refl $ forget ! 22 refl $ forget ! 24 refl $
         move ! (24 ∷ 25 ∷ []) $ free1 ! $ move ! (22 ∷ 23 ∷ []) $ free1 ! $ move ! (20 ∷ 21 ∷ []) $ free1 ! $ move ! (18 ∷ 19 ∷ []) $ free1 ! $ move ! (16 ∷ 17 ∷ []) $ free1 ! $ move ! (14 ∷ 15 ∷ []) $ free1 ! $
         move ! (12 ∷ 13 ∷ []) $ free1 ! $ move ! (10 ∷ 11 ∷ []) $ free1 ! $ move ! (8 ∷ 9 ∷ []) $ free1 ! $ move ! (6 ∷ 7 ∷ []) $ free1 ! $ move ! (4 ∷ 5 ∷ []) $ free1 ! $ free0 ! $
-        by ! (exits c (subst (Is S.the-row c) tells is) (e′ ∙ e))))
+        keep ! (0 ∷ 2 ∷ []) $ by ! (exits c (subst (Is S.the-row c) tells is) (e′ ∙ e))))
 
     abbrev Inv : Upto n P → List (Item 𝓤)
     Inv x = At (x .0)
@@ -234,7 +228,7 @@ module _ {M : Type 1} (𝓤 : URA M) (H : Heap 𝓤) (A : Atoms 𝓤) (W : Given
         (and-then ! (load ! (from ! (stop !)) (look ! 18 refl)) (and-then ! (load ! (from ! (stop !)) (look ! 8 refl)) (and-then ! (false-lit !) (and-then ! (load ! (from ! (stop !)) (look ! 4 refl)) (no-more !))))) (λ u₂.
         answered-κ ! tt bool u₂ some-row.ended (to 𝓤 H A mem run κ′ q′ a k false g .0) (λ r. r ≡ gives 𝓤 H A mem run κ′ q′ a k false g) (id⊢ 𝓤 _) (λ f e₂ is₂. move ! (2 ∷ 3 ∷ []) $
         let found : f ≡ ok i =
-            e₂ ∙ ap (λ (x : Grant). some (meetsBy false (grantOf x)) (grants (take k ys))) e ∙ ap (λ (j : ℕ). some (meetsBy false (grantOf (wantedAt ws i s))) (grants (take j ys))) ek ∙ looked-through ys s ws i in
+        e₂ ∙ ap (λ (x : Grant). some (meetsBy false (grantOf x)) (grants (take k ys))) e ∙ ap (λ (j : ℕ). some (meetsBy false (grantOf (wantedAt ws i s))) (grants (take j ys))) ek ∙ looked-through ys s ws i in
         land ! (from ! (stop !)) (init ! 12 refl (bool-lawful 𝓤 H A W .typed f _ is₂ .0)) $ rewrite ! 12 (λ (x : Val). ‵ (fat fullShare tyBool l₆ 0 x)) (ap only is₂) refl $
         assigns ! (un ! (load ! (from ! (stop !)) (look ! 12 refl)) tt) (from ! (stop !)) (store ! 10 refl (tt, tt)) $
         breaks ! (load ! (from ! (stop !)) (look ! 10 refl)) (λ hr.
@@ -261,22 +255,18 @@ module _ {M : Type 1} (𝓤 : URA M) (H : Heap 𝓤) (A : Atoms 𝓤) (W : Given
       begins 𝓣 known l₀ l₁ l₂ l₃ l₄ l₅ l₆ l₇ l₈ l₉ l₁₀)))))))))))
 
 module _ {M : Type 1} (𝓤 : URA M) (H : Heap 𝓤) (A : Atoms 𝓤) (W : Given 𝓤 H A) (mem : Memory → SProp 𝓤) (run : Routine → Fun 𝓤) (𝓣 : Tables 𝓤 H) (known : Known 𝓤 H A mem run 𝓣) where
-  release-walks : Walks 𝓤 H A release-entries.ended stayed (WpFn 𝓤 H (𝓣 .C) (𝓣 .Λ) code.function) (release-entries.clauses 𝓤 H A mem run)
-  release-walks = walked 𝓤 H A release-entries.ended stayed (release-entries.clauses 𝓤 H A mem run) (WpFn 𝓤 H (𝓣 .C) (𝓣 .Λ) code.function)
+  meets-it : Meets 𝓤 H A release-entries.signature (WpFn 𝓤 H (𝓣 .C) (𝓣 .Λ) code.function) (release-entries.spec 𝓤 H A mem run)
+  meets-it =
+      meets-by 𝓤 H A W release-entries.ended (release-entries.clauses 𝓤 H A mem run) ((λ κs x f. refl), ((λ κs x f. refl), ((λ κs x f. refl), ((λ κs x f. refl), tt)))) 𝓣 code.function
       (λ κs. (slice-vals, (uint-vals w64, (slice-vals, (uint-vals w64, tt))))) (λ κs. (shr-slice-tells (named 0) (κs .0) u8, (uint-tells w64, (shr-slice-tells (named 1) (κs .1 .0) R, (uint-tells w64, tt)))))
       (λ κs qs bounds a g are. needs 𝓤 _ _ (λ most. walk 𝓤 H A W mem run (κs .0) (κs .1 .0) (qs .0) (qs .1 .0) (a .0) (a .1 .0) (a .1 .1 .0) (a .1 .1 .1 .0) (are .0 .0 .1) (are .1 .0 .1) (are .1 .1 .0 .0 .1) (are .1 .1 .1 .0 .1) most 𝓣 known))
-
-  release-meets : Meets 𝓤 H A release-entries.signature (WpFn 𝓤 H (𝓣 .C) (𝓣 .Λ) code.function) (release-entries.spec 𝓤 H A mem run)
-  release-meets = walk-meets 𝓤 H A release-entries.ended stayed W
-      (goes-none-slice 𝓤 H A W 2 (0 ∷ []) tt (plain (λ _. u8)) yes, (goes-none 𝓤 H A W 2 (λ _. usize) yes (λ κs x f. refl), (goes-none-slice 𝓤 H A W 2 (1 ∷ []) tt (plain (λ _. R)) yes, (goes-none 𝓤 H A W 2 (λ _. u64) yes (λ κs x f. refl), tt))))
-      (release-entries.clauses 𝓤 H A mem run) (WpFn 𝓤 H (𝓣 .C) (𝓣 .Λ) code.function) (WpFn-mono 𝓤 H (W .laws) 𝓣 code.function) release-walks
 
 pub release-entries-spec : {M : Type 1} → stated.statement M
 unfolding code.routine tablesOf
 release-entries-spec 𝓤 H 𝓜 𝓖 𝓡 =
     entered 𝓤 H (tripleOf 𝓤 H (𝓖 .A) release-entries.signature (release-entries.spec 𝓤 H (𝓖 .A) (𝓜 .mem) (𝓡 .run)))
     (tables 𝓤 H 𝓜 𝓡 code.env .C) (tables 𝓤 H 𝓜 𝓡 code.env .Λ) #grant-structs·release-entries code.function (code.unfolded 𝓤 H 𝓜 𝓡)
-    (release-meets 𝓤 H (𝓖 .A) (givenOf 𝓤 H 𝓜 𝓖) (𝓜 .mem) (𝓡 .run) (tablesOf 𝓤 H 𝓜 (tables 𝓤 H 𝓜 𝓡 code.env)) (record {
+    (meets-it 𝓤 H (𝓖 .A) (givenOf 𝓤 H 𝓜 𝓖) (𝓜 .mem) (𝓡 .run) (tablesOf 𝓤 H 𝓜 (tables 𝓤 H 𝓜 𝓡 code.env)) (record {
       of-wanted = cited 𝓤 H (Wanted 𝓤 H (𝓖 .A) (𝓜 .mem) (𝓡 .run)) 𝓜 𝓡 code.env #grant-structs·wanted wanted-def.routine code.calls-grant-structs·wanted (wanted-thm.met 𝓤 H 𝓜 𝓖 𝓡);
       of-row = cited 𝓤 H (SomeRow 𝓤 H (𝓖 .A) (𝓜 .mem) (𝓡 .run)) 𝓜 𝓡 code.env #grant-structs·some-row some-row-def.routine code.calls-grant-structs·some-row (some-row-thm.met 𝓤 H 𝓜 𝓖 𝓡);
       of-rows = cited 𝓤 H (RowsFor 𝓤 H (𝓖 .A) (𝓜 .mem) (𝓡 .run)) 𝓜 𝓡 code.env #grant-structs·rows-for rows-for-def.routine code.calls-grant-structs·rows-for (rows-for-thm.met 𝓤 H 𝓜 𝓖 𝓡);

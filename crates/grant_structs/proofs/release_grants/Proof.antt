@@ -79,7 +79,7 @@ module _ {M : Type 1} (𝓤 : URA M) (H : Heap 𝓤) (A : Atoms 𝓤) (W : Given
   at = (v ∷ [], (v′ ∷ [], (vint w64 s ∷ [], tt)))
 
   abbrev Post : Val → SProp 𝓤
-  Post = walkOf 𝓤 H A release-grants.ended (Gone 𝓤 H A W release-grants.ended (release-grants.clauses 𝓤 H A mem run)) (release-grants.clauses 𝓤 H A mem run) .post (((κ, (κ′, tt)), (q, (q′, tt)), tt, (b, (a, (s, tt))), at), tt)
+  Post = walkOf 𝓤 H A release-grants.ended (Gone release-grants.ended) (release-grants.clauses 𝓤 H A mem run) .post (((κ, (κ′, tt)), (q, (q′, tt)), tt, (b, (a, (s, tt))), at), tt)
 
   exits : (c : Released) → Is S.the-row c (val c ∷ []) → answerOf c ≡ answer → ent 𝓤 (⋆ 𝓤 H A (‵ (flft κ q) ∷ ‵ (flft κ′ q′) ∷ [])) (Post (val c))
   exits c ic e =
@@ -114,8 +114,8 @@ module _ {M : Type 1} (𝓤 : URA M) (H : Heap 𝓤) (A : Atoms 𝓤) (W : Given
       by ! (exits c (subst (Is S.the-row c) tells is) e))))))))
 
 module _ {M : Type 1} (𝓤 : URA M) (H : Heap 𝓤) (A : Atoms 𝓤) (W : Given 𝓤 H A) (mem : Memory → SProp 𝓤) (run : Routine → Fun 𝓤) (𝓣 : Tables 𝓤 H) (known : Triple 𝓤 (𝓣 .C #grant-structs·release-grants-within) (Within 𝓤 H A mem run)) where
-  meets : Meets 𝓤 H A release-grants.signature (WpFn 𝓤 H (𝓣 .C) (𝓣 .Λ) code.function) (release-grants.spec 𝓤 H A mem run)
-  meets =
+  meets-it : Meets 𝓤 H A release-grants.signature (WpFn 𝓤 H (𝓣 .C) (𝓣 .Λ) code.function) (release-grants.spec 𝓤 H A mem run)
+  meets-it =
       meets-by 𝓤 H A W release-grants.ended (release-grants.clauses 𝓤 H A mem run) ((λ κs x f. refl), ((λ κs x f. refl), ((λ κs x f. refl), tt))) 𝓣 code.function
       (λ κs. (slice-vals, (slice-vals, (uint-vals w64, tt)))) (λ κs. (shr-slice-tells (named 0) (κs .0) u8, (shr-slice-tells (named 1) (κs .1 .0) R, (uint-tells w64, tt))))
       (λ κs qs bounds a g are. via 𝓤 _ (fst∗ 𝓤 _ (emp 𝓤)) (walk 𝓤 H A W mem run (κs .0) (κs .1 .0) (qs .0) (qs .1 .0) (a .0) (a .1 .0) (a .1 .1 .0) (are .0 .0 .1) (are .1 .0 .0 .1) (are .1 .1 .0 .1) 𝓣 known))
@@ -125,5 +125,5 @@ unfolding code.routine tablesOf
 release-grants-spec 𝓤 H 𝓜 𝓖 𝓡 =
     entered 𝓤 H (tripleOf 𝓤 H (𝓖 .A) release-grants.signature (release-grants.spec 𝓤 H (𝓖 .A) (𝓜 .mem) (𝓡 .run)))
     (tables 𝓤 H 𝓜 𝓡 code.env .C) (tables 𝓤 H 𝓜 𝓡 code.env .Λ) #grant-structs·release-grants code.function (code.unfolded 𝓤 H 𝓜 𝓡)
-    (meets 𝓤 H (𝓖 .A) (givenOf 𝓤 H 𝓜 𝓖) (𝓜 .mem) (𝓡 .run) (tablesOf 𝓤 H 𝓜 (tables 𝓤 H 𝓜 𝓡 code.env))
+    (meets-it 𝓤 H (𝓖 .A) (givenOf 𝓤 H 𝓜 𝓖) (𝓜 .mem) (𝓡 .run) (tablesOf 𝓤 H 𝓜 (tables 𝓤 H 𝓜 𝓡 code.env))
     (cited 𝓤 H (Within 𝓤 H (𝓖 .A) (𝓜 .mem) (𝓡 .run)) 𝓜 𝓡 code.env #grant-structs·release-grants-within within-def.routine code.calls-grant-structs·release-grants-within (within-thm.met 𝓤 H 𝓜 𝓖 𝓡)))

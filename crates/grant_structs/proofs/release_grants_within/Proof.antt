@@ -15,12 +15,12 @@ use prog.Memory.{Memory}
 use prog.Routine.{Routine}
 use prog.Wp.{Heap, WpFn, Tables}
 use ghost.Atoms.{Atoms, sem}
-use contract.Monad.{Fun, fact}
+use contract.Monad.{Fun, fact, factI}
 use contract.Running.{givenOf, tables, tablesOf}
-use types.Kit.{Given, Item, Goal, Soaks, Seq, ‵, raw, _⊛_, some, later, ⋆, _$_, _∵_, !, qed, by, move, drop, use0, use1, use3, split, pick, join, rewrite, fsplit, fjoin, feqL, suffices, frame, await, done}
+use types.Kit.{Given, Item, Goal, Soaks, Seq, ‵, raw, _⊛_, some, later, ⋆, _$_, _∵_, !, qed, by, move, keep, drop, use0, use1, use3, split, pick, join, rewrite, fsplit, fjoin, feqL, suffices, frame, await, done}
 use types.Part.{agg}
 use types.Run.{look, init, forget, stop, from, load, addr, and-then, no-more, assigns, land, returns, enter, alloc1, alloc0, params1, pass1, pass0, free1, free0}
-use sound.WpLaws.{fmOf, WpFn-mono}
+use sound.WpLaws.{fmOf}
 use denote.RattleType.{owns}
 use denote.Laws.{Is, shows}
 use denote.Plain.{uint-vals, uint-tells, uint-lawful}
@@ -35,9 +35,8 @@ use denote.Triple.Call.{calls-at}
 use denote.Triple.Entry.{Vals, onEntry}
 use denote.Triple.Spec.{Meets, tripleOf}
 use denote.Triple.Table.{entered, cited}
-use denote.Triple.Walked.{says, Stays, stay-none-slice, stay-none, walkOf, goes-none-slice, goes-none, Walks, ends-at, walked, walk-meets}
+use denote.Triple.Walked.{says, walkOf}
 use denote.Triple.Clauses.{ensured, lasts}
-use denote.Exit.{yes}
 use Rattle.ari.specs.declared.Limits.{Limits}
 use Rattle.ari.specs.Limits.{capped}
 use Rattle.listing.specs.declared.Listed.{Listed}
@@ -50,6 +49,7 @@ use Rattle.release.proofs.Released as S
 use Rattle.release.proofs.Released.Laws as S′
 use Rattle.grant_structs.specs.Structs.{grants, grantedAt, judgedFrom, entriesOf, answerBy, Decides}
 use Rattle.grant_structs.proofs.Over.{R, Own, Bytes, LR, low-limits, FineLimits, limits-vals, limits-tells, own-word, own-limits, limits-typed, copies-rows, copies-bytes, answered, answered-κκ}
+use Rattle.grant_structs.proofs.Leaving.{Gone, leaves, meets-by, of-κκ}
 use Rattle.grant_structs.proofs.Lending.{array, ref, back, lends-shared, ends-shared, lends-mut, ends-mut, zeros, length-zeros, fills, big-lit}
 use Rattle.grant_structs.proofs.listed_in as listed-in
 use Rattle.grant_structs.proofs.listed_in.Symbol as listed-in-def
@@ -71,9 +71,6 @@ use Rattle.grant_structs.proofs.release_grants_within.Key.{name as #gra
 use Rattle.grant_structs.proofs.release_grants_within as release-within
 use Rattle.grant_structs.proofs.release_grants_within.Statement as stated
 use Rattle.grant_structs.proofs.release_grants_within.Code as code
-
-abbrev stayed : Stays (release-within.ended .signature .params) (release-within.ended .kept)
-stayed = (stay-none (λ _. LR) yes, (stay-none-slice (0 ∷ []) tt (plain (λ _. u8)) yes, (stay-none-slice (1 ∷ []) tt (plain (λ _. R)) yes, (stay-none (λ _. u64) yes, tt))))
 
 abbrev byte : Ty
 byte = tyInt w8
@@ -189,14 +186,11 @@ module _ {M : Type 1} (𝓤 : URA M) (H : Heap 𝓤) (A : Atoms 𝓤) (W : Given
   answer = release (capped m) (b .now) (grants (a .now)) s
 
   abbrev Post : Val → SProp 𝓤
-  Post = walkOf 𝓤 H A release-within.ended stayed (release-within.clauses 𝓤 H A mem run) .post (((κ, (κ′, tt)), (q, (q′, tt)), tt, (m, (b, (a, (s, tt)))), at), tt)
+  Post = walkOf 𝓤 H A release-within.ended (Gone release-within.ended) (release-within.clauses 𝓤 H A mem run) .post (((κ, (κ′, tt)), (q, (q′, tt)), tt, (m, (b, (a, (s, tt)))), at), tt)
 
-  exits : (c : Released) → Sound c → answerOf c ≡ answer → ent 𝓤 (⋆ 𝓤 H A (‵ (flft κ q) ∷ ‵ (Bytes κ b) ∷ ‵ (flft κ′ q′) ∷ ‵ (Own κ′ a) ∷ [])) (Post (val c))
+  exits : (c : Released) → Sound c → answerOf c ≡ answer → ent 𝓤 (⋆ 𝓤 H A (‵ (flft κ q) ∷ ‵ (flft κ′ q′) ∷ [])) (Post (val c))
   exits c ic e =
-      qed W (‵ (flft κ q) ∷ ‵ (Bytes κ b) ∷ ‵ (flft κ′ q′) ∷ ‵ (Own κ′ a) ∷ []) ∵
-      suffices ! _ (ends-at 𝓤 H A release-within.ended stayed (release-within.clauses 𝓤 H A mem run) W (((κ, (κ′, tt)), (q, (q′, tt)), tt, (m, (b, (a, (s, tt)))), at), tt) (val c) c (tt, (tt, (tt, (tt, tt)))) (tt, (tt, (tt, (tt, tt))))) $ says ! e $
-      nothing ! $ move ! (3 ∷ 0 ∷ []) $ join ! $ move ! (1 ∷ 0 ∷ []) $ join ! $ nothing ! $ own-word ! s gs $ fjoin ! $ move ! (3 ∷ 0 ∷ []) $ fjoin ! $ move ! (2 ∷ 0 ∷ []) $ fjoin ! $ own-limits ! m im $ fjoin ! $ move ! (1 ∷ 0 ∷ []) $ frame ! $ frame ! $
-      owned ! S.the-row (Is S.the-row) (EL.makes S.the-type S′.the-plain 𝓤 H A) c _ ic $ done !
+      leaves 𝓤 H A W release-within.ended (release-within.clauses 𝓤 H A mem run) (((κ, (κ′, tt)), (q, (q′, tt)), tt, (m, (b, (a, (s, tt)))), at), tt) (val c) c (tt, (tt, (tt, (tt, tt)))) _ (of-κκ 𝓤 H A W κ κ′ q q′) (EL.makes S.the-type S′.the-plain 𝓤 H A c _ ic) (factI 𝓤 _ (emp 𝓤) e)
 
   many : length (zeros room) ≡ room
   many = length-zeros room
@@ -255,26 +249,22 @@ module _ {M : Type 1} (𝓤 : URA M) (H : Heap 𝓤) (A : Atoms 𝓤) (W : Given
       land ! (from ! (stop !)) (init ! 28 refl (EL.lawful S.the-type S′.the-laws 𝓤 H A W tt .typed r _ is₄ .0)) $ rewrite ! 28 (λ (x : Val). ‵ (fat fullShare S′.mir l₀ 0 x)) (ap only tells-r) refl $
       returns ! (look ! 28 refl) $ forget ! 5 refl $ forget ! 7 refl $ forget ! 9 refl $ forget ! 11 refl $ forget ! 13 refl $ forget ! 15 refl $ forget ! 17 refl $ forget ! 20 refl $ forget ! 22 refl $ forget ! 24 refl $ forget ! 26 refl $ forget ! 28 refl $
       move ! (28 ∷ 29 ∷ []) $ free1 ! $ move ! (26 ∷ 27 ∷ []) $ free1 ! $ move ! (24 ∷ 25 ∷ []) $ free1 ! $ move ! (22 ∷ 23 ∷ []) $ free1 ! $ move ! (20 ∷ 21 ∷ []) $ free1 ! $ move ! (0 ∷ 19 ∷ []) $ free1 ! $ move ! (16 ∷ 17 ∷ []) $ free1 ! $ move ! (14 ∷ 15 ∷ []) $ free1 ! $
-      move ! (12 ∷ 13 ∷ []) $ free1 ! $ move ! (10 ∷ 11 ∷ []) $ free1 ! $ move ! (8 ∷ 9 ∷ []) $ free1 ! $ move ! (6 ∷ 7 ∷ []) $ free1 ! $ move ! (4 ∷ 5 ∷ []) $ free1 ! $ free0 ! $ move ! (2 ∷ 3 ∷ 0 ∷ 1 ∷ []) $
+      move ! (12 ∷ 13 ∷ []) $ free1 ! $ move ! (10 ∷ 11 ∷ []) $ free1 ! $ move ! (8 ∷ 9 ∷ []) $ free1 ! $ move ! (6 ∷ 7 ∷ []) $ free1 ! $ move ! (4 ∷ 5 ∷ []) $ free1 ! $ free0 ! $ keep ! (2 ∷ 0 ∷ []) $
       by ! (exits r (subst (Is S.the-row r) tells-r is₄) (together c zs d n en g r eg er)))))))))))))))))))))))))
 
 module _ {M : Type 1} (𝓤 : URA M) (H : Heap 𝓤) (A : Atoms 𝓤) (W : Given 𝓤 H A) (mem : Memory → SProp 𝓤) (run : Routine → Fun 𝓤) (𝓣 : Tables 𝓤 H) (known : Known 𝓤 H A mem run 𝓣) where
-  release-walks : Walks 𝓤 H A release-within.ended stayed (WpFn 𝓤 H (𝓣 .C) (𝓣 .Λ) code.function) (release-within.clauses 𝓤 H A mem run)
-  release-walks = walked 𝓤 H A release-within.ended stayed (release-within.clauses 𝓤 H A mem run) (WpFn 𝓤 H (𝓣 .C) (𝓣 .Λ) code.function)
+  meets-it : Meets 𝓤 H A release-within.signature (WpFn 𝓤 H (𝓣 .C) (𝓣 .Λ) code.function) (release-within.spec 𝓤 H A mem run)
+  meets-it =
+      meets-by 𝓤 H A W release-within.ended (release-within.clauses 𝓤 H A mem run) ((λ κs x f. refl), ((λ κs x f. refl), ((λ κs x f. refl), ((λ κs x f. refl), tt)))) 𝓣 code.function
       (λ κs. (limits-vals, (slice-vals, (slice-vals, (uint-vals w64, tt))))) (λ κs. (limits-tells, (shr-slice-tells (named 0) (κs .0) u8, (shr-slice-tells (named 1) (κs .1 .0) R, (uint-tells w64, tt)))))
       (λ κs qs bounds a g are. via 𝓤 _ (fst∗ 𝓤 _ (emp 𝓤)) (walk 𝓤 H A W mem run (κs .0) (κs .1 .0) (qs .0) (qs .1 .0) (a .0) (a .1 .0) (a .1 .1 .0) (a .1 .1 .1 .0) (are .0) (are .1 .0 .0 .1) (are .1 .1 .0 .0 .1) (are .1 .1 .1 .0 .1) 𝓣 known))
-
-  release-meets : Meets 𝓤 H A release-within.signature (WpFn 𝓤 H (𝓣 .C) (𝓣 .Λ) code.function) (release-within.spec 𝓤 H A mem run)
-  release-meets = walk-meets 𝓤 H A release-within.ended stayed W
-      (goes-none 𝓤 H A W 2 (λ _. LR) yes (λ κs x f. refl), (goes-none-slice 𝓤 H A W 2 (0 ∷ []) tt (plain (λ _. u8)) yes, (goes-none-slice 𝓤 H A W 2 (1 ∷ []) tt (plain (λ _. R)) yes, (goes-none 𝓤 H A W 2 (λ _. u64) yes (λ κs x f. refl), tt))))
-      (release-within.clauses 𝓤 H A mem run) (WpFn 𝓤 H (𝓣 .C) (𝓣 .Λ) code.function) (WpFn-mono 𝓤 H (W .laws) 𝓣 code.function) release-walks
 
 pub release-grants-within-spec : {M : Type 1} → stated.statement M
 unfolding code.routine tablesOf
 release-grants-within-spec 𝓤 H 𝓜 𝓖 𝓡 =
     entered 𝓤 H (tripleOf 𝓤 H (𝓖 .A) release-within.signature (release-within.spec 𝓤 H (𝓖 .A) (𝓜 .mem) (𝓡 .run)))
     (tables 𝓤 H 𝓜 𝓡 code.env .C) (tables 𝓤 H 𝓜 𝓡 code.env .Λ) #grant-structs·release-grants-within code.function (code.unfolded 𝓤 H 𝓜 𝓡)
-    (release-meets 𝓤 H (𝓖 .A) (givenOf 𝓤 H 𝓜 𝓖) (𝓜 .mem) (𝓡 .run) (tablesOf 𝓤 H 𝓜 (tables 𝓤 H 𝓜 𝓡 code.env)) (record {
+    (meets-it 𝓤 H (𝓖 .A) (givenOf 𝓤 H 𝓜 𝓖) (𝓜 .mem) (𝓡 .run) (tablesOf 𝓤 H 𝓜 (tables 𝓤 H 𝓜 𝓡 code.env)) (record {
       of-listed = cited 𝓤 H (ListedIn 𝓤 H (𝓖 .A) (𝓜 .mem) (𝓡 .run)) 𝓜 𝓡 code.env #grant-structs·listed-in listed-in-def.routine code.calls-grant-structs·listed-in (listed-in-thm.met 𝓤 H 𝓜 𝓖 𝓡);
       of-entries = cited 𝓤 H (EntriesOf 𝓤 H (𝓖 .A) (𝓜 .mem) (𝓡 .run)) 𝓜 𝓡 code.env #grant-structs·entries-of entries-of-def.routine code.calls-grant-structs·entries-of (entries-of-thm.met 𝓤 H 𝓜 𝓖 𝓡);
       of-entries′ = cited 𝓤 H (ReleaseEntries 𝓤 H (𝓖 .A) (𝓜 .mem) (𝓡 .run)) 𝓜 𝓡 code.env #grant-structs·release-entries entries-def.routine code.calls-grant-structs·release-entries (entries-thm.met 𝓤 H 𝓜 𝓖 𝓡);
