@@ -1,15 +1,18 @@
--- What the functions on plain numbers decide, way by way. The borrow checker's tests on an i64 go by its bits.
-use Prim.Native.Nat.{ℕ}
-use mathlib.Core.Path.{_≡_, refl, sym, _∙_, ap}
+-- What the functions on plain numbers decide, way by way. The idea: the borrow checker's tests on an i64 go by its bits, and the bits of a number tell it.
+use Prim.Native.Nat.{ℕ, zero, suc, _-_, _<_, _≤_, _^_}
+use mathlib.Core.Path.{_≡_, refl, sym, _∙_, ap, subst}
 use mathlib.Core.Bool.{Bool, true, false, not, and-false, and-true}
-use lib.IntN.{ℤ, pos, negsuc}
+use lib.IntN.{ℤ, pos, negsuc, _-ℤ_}
 use lib.Dec.{eqb}
 use lib.Signed.{ltZ}
 use mir.Syntax.{w64}
 use mir.Val.{ofZ, toZ, SFits}
-use mir.ValLaws.{toZ-ofZ}
+use mir.ValLaws.{toZ-pos, toZ-ofZ}
+use native.Mathlib.Nat.{zero-add}
 use native.Mathlib.Omega.{arith}
-use borrow.Author.Tests.{eq-eqb, ne-eqb, eqb-true, eqb-false, le-ltb}
+use borrow.Author.Tests.{eq-eqb, ne-eqb, eqb-true, eqb-false, le-ltb, le-leb, lt-leb}
+use Rattle.ari.specs.Signed.{signed}
+use Rattle.ari.specs.Table.{max63, max64}
 use Rattle.grants.specs.Grants.{same, below0, clash, holds}
 use Rattle.grant_structs.specs.declared.Grant.{Grant as Row}
 use Rattle.grant_structs.specs.Structs.{rowBy, grantOf, meetsBy}
@@ -66,3 +69,24 @@ module _ (row g : Row) {z w : ℤ} {r : Bool} (e : z ≡ row .namespace) (f : w 
 
   pub meets-holds : (t : Bool) → t ≡ false → r ≡ holds (g .subscriber) w (rowBy (row .subscriber) z) → r ≡ meetsBy t (grantOf g) (grantOf row)
   meets-holds t h q = rw (h, ← e, ← f) q
+
+-- a word as a number: the code's casts and its difference
+minus-one : (k : ℕ) → negsuc 0 -ℤ pos k ≡ negsuc k
+minus-one zero = refl
+minus-one (suc k) = rw zero-add
+
+module _ (w : ℕ) where
+  pub low-word : w < 2 ^ 63 → toZ w64 w ≡ signed w
+  unfolding signed
+  low-word h = toZ-pos w64 w h ∙ sym (rw (le-leb w max63 (omega arith)))
+
+  module _ (h : 2 ^ 63 ≤ w) (k : w < 2 ^ 64) where
+    negated : negsuc 0 -ℤ toZ w64 (max64 - w) ≡ negsuc (max64 - w)
+    negated = ap (λ (z : ℤ). negsuc 0 -ℤ z) (toZ-pos w64 (max64 - w) (omega arith)) ∙ minus-one (max64 - w)
+
+    pub high-fits : SFits w64 (negsuc 0 -ℤ toZ w64 (max64 - w))
+    high-fits = subst (SFits w64) (sym negated) (record { sfits = omega arith })
+
+    pub high-word : toZ w64 (ofZ w64 (negsuc 0 -ℤ toZ w64 (max64 - w))) ≡ signed w
+    unfolding signed
+    high-word = toZ-ofZ w64 _ high-fits ∙ negated ∙ sym (rw (lt-leb w max63 (omega arith)))

@@ -1,10 +1,11 @@
 pub mod Asking
+pub mod Deciding
 pub mod Decided
+pub mod Entries
+pub mod Leaving
 pub mod Lending
 pub mod Lent
-pub mod Listed
 pub mod Over
 pub mod Same
 pub mod Searched
 pub mod Turn
-pub mod Words

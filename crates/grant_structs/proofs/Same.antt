@@ -1,4 +1,4 @@
--- The byte form and the struct form of a table give the same answers.
+-- The byte form and the struct form of a table give the same answers (R93). The idea: the rows of the bytes are the structs.
 use Prim.Native.Nat.{ℕ, _+_, _*_, _/_, _%_, _^_, _<_}
 use mathlib.Core.Path.{_≡_, refl, sym, _∙_, ap}
 use mathlib.Core.Bool.{false}
@@ -10,24 +10,21 @@ use lib.IntN.{ℤ, pos, negsuc}
 use borrow.Author.Tests.{eq-eqb}
 use Rattle.buffer.specs.Bytes.{be, value}
 use Rattle.buffer.proofs.ByteLaws.{length-be, value-be}
-use Rattle.ari.specs.Limits.{firstLimits}
 use Rattle.ari.specs.declared.Limits.{Limits}
 use Rattle.ari.specs.declared.Input.the-variants.{Message}
 use Rattle.ari.specs.Reader.{Answer, accept, refuse, read}
 use Rattle.ari.specs.Listing.{Space, number, listing}
 use Rattle.ari.proofs.Named.{InRange}
-use Rattle.grants.specs.Grants.{Grant, granted, check, judge, release}
+use Rattle.grants.specs.Grants.{Grant, granted, check}
 use Rattle.ari.specs.Signed.{word}
-use Rattle.grants.specs.Bytes.{rowBy, rowOf, rowsOf, rows, ragged, checkBytes, whole, releaseBytes}
-use Rattle.grants.specs.Verdict.{said}
+use Rattle.grants.specs.Bytes.{rowBy, rowOf, rowsOf, rows, ragged, checkBytes}
+use Rattle.grants.specs.Verdict.{said as checkOf}
 use Rattle.grants.specs.declared.Verdict.{Verdict}
 use Rattle.grants.specs.declared.Verdict.the-variants.{Passes, Refused}
 use Rattle.grants.proofs.Signed.{signed-word}
-use Rattle.listing.specs.declared.Released.{Released}
-use Rattle.listing.specs.Answers.{said as saidOf}
+use Rattle.release.specs.declared.Released.{Released}
+use Rattle.release.specs.Release.{judge, release, whole, releaseBytes, answerOf}
 use Rattle.grant_structs.specs.declared.Grant.{Grant as Row}
-use Rattle.grant_structs.specs.declared.Release.{Release}
-use Rattle.grant_structs.specs.Told.{told}
 use Rattle.grant_structs.specs.Structs.{grantOf, grants}
 use Rattle.grant_structs.specs.Bytes.{tableBytes}
 
@@ -36,7 +33,7 @@ abbrev pub Fit : List Row → Type 0
 Fit [] = Unit {0}
 Fit (r ∷ rs) = (r .subscriber < 2 ^ 64) × InRange (number (r .namespace)) × Fit rs
 
-word-fits : (z : ℤ) → InRange (number z) → word z < 256 ^ 8
+pub word-fits : (z : ℤ) → InRange (number z) → word z < 256 ^ 8
 word-fits (pos a) h = omega arith
 word-fits (negsuc a) h = omega arith
 
@@ -103,16 +100,16 @@ module _ (t : List Row) (f : Fit t) where
       go (refuse r p) = refl
       go (accept n) = rw (not-ragged t)
 
-  -- so what `listing::release` answers of the bytes, in document 01's terms, is what `release_grants` answers of the structs
-  pub same-answer : (b : List ℕ) (s : ℕ) (r : Released) (r′ : Release) → saidOf r ≡ releaseBytes firstLimits b (tableBytes t) s → told r′ ≡ release firstLimits b (grants t) s → saidOf r ≡ told r′
-  same-answer b s r r′ e e′ = e ∙ same-release firstLimits b s ∙ sym e′
+  -- so what `release::release_within` answers of the bytes is what `release_grants_within` answers of the structs
+  pub same-answer : (m : Limits) (b : List ℕ) (s : ℕ) (r r′ : Released) → answerOf r ≡ releaseBytes m b (tableBytes t) s → answerOf r′ ≡ release m b (grants t) s → answerOf r ≡ answerOf r′
+  same-answer m b s r r′ e e′ = e ∙ same-release m b s ∙ sym e′
 
   -- and what `check_table` answers of the bytes is what `check_grants` answers of the structs
-  pub same-verdict : (r r′ : Verdict) → said r ≡ checkBytes (tableBytes t) → said r′ ≡ check (grants t) → r ≡ r′
-  same-verdict r r′ e e′ = told-apart r r′ (e ∙ same-check ∙ sym e′)
+  pub same-verdict : (r r′ : Verdict) → checkOf r ≡ checkBytes (tableBytes t) → checkOf r′ ≡ check (grants t) → r ≡ r′
+  same-verdict r r′ e e′ = apart r r′ (e ∙ same-check ∙ sym e′)
     where
-      told-apart : (r r′ : Verdict) → said r ≡ said r′ → r ≡ r′
-      told-apart Passes Passes q = refl
-      told-apart Passes (Refused i) q = absurd (let z : _≡_ {A = ℕ} 0 1 = cc in omega arith)
-      told-apart (Refused i) Passes q = absurd (let z : _≡_ {A = ℕ} 0 1 = cc in omega arith)
-      told-apart (Refused i) (Refused j) q = ap Refused (let z : i ≡ j = cc in z)
+      apart : (r r′ : Verdict) → checkOf r ≡ checkOf r′ → r ≡ r′
+      apart Passes Passes q = refl
+      apart Passes (Refused i) q = absurd (let z : _≡_ {A = ℕ} 0 1 = cc in omega arith)
+      apart (Refused i) Passes q = absurd (let z : _≡_ {A = ℕ} 0 1 = cc in omega arith)
+      apart (Refused i) (Refused j) q = ap Refused (let z : i ≡ j = cc in z)

@@ -1,17 +1,18 @@
--- Grant structs as document 01's grants, and what the functions on plain numbers decide.
+-- Grant structs as the rows of a table: R83, R87, R88, R90. Interface: rowBy, grantOf, grants. Private to src/: all else.
 use Prim.Native.Nat.{ℕ, zero, suc, _+_, _*_, _/_, _≤_}
 use mathlib.Core.Path.{_≡_}
-use mathlib.Core.Bool.{Bool, true, false, not, cond}
-use mathlib.Core.List.{List, [], _∷_, map}
+use mathlib.Core.Bool.{Bool, true, false, _&&_, cond}
+use mathlib.Core.List.{List, map}
 use lib.IntN.{ℤ, pos}
 use lib.ListN.{length, getD}
 use lib.Dec.{eqb, ltb}
-use Rattle.ari.specs.Listing.{Space, number, name, relative, Entry}
-use Rattle.ari.specs.Limits.{firstLimits}
-use Rattle.grants.specs.Grants.{Grant, clash, holds, granted, Check, passes, refused, Release, yes, no, judgeFrom, release}
+use Rattle.ari.specs.declared.Limits.{Limits}
 use Rattle.ari.specs.Signed.{signed}
+use Rattle.grants.specs.Grants.{Grant, some, clash, holds, Check, passes, refused}
+use Rattle.buffer.specs.Bytes.{loadAt}
 use Rattle.listing.specs.declared.Listed.{Listed}
 use Rattle.listing.specs.declared.Listed.the-variants.{Entries, Refused}
+use Rattle.release.specs.Release.{Release, yes, no, release}
 use Rattle.grant_structs.specs.declared.Grant.{Grant as Row}
 
 abbrev pub rowBy : ℕ → ℤ → Grant
@@ -42,33 +43,31 @@ foundAt i n = cond (ltb i n) (refused 18 i) passes
 abbrev pub heldAt : ℕ → ℕ → Release
 heldAt i n = cond (ltb i n) (no i) yes
 
--- Listed entries in words, two an entry: kind (0 number, 1 name, 2 relative), and namespace number in two's complement or place of the name
-abbrev pub spaceBy : ℕ → ℕ → Space
-spaceBy k w = cond (eqb k 0) (number (signed w)) (cond (eqb k 1) (name w []) relative)
+-- entry i of a listing as bytes (R94): is its namespace a number, and which
+abbrev pub numberKind : ℕ
+numberKind = 0
 
-abbrev pub kindAt : List ℕ → ℕ → ℕ
-kindAt l i = getD l (2 * i) 0
+abbrev pub isNumber : List ℕ → ℕ → Bool
+isNumber l i = eqb (loadAt 8 l (24 * i + 8)) numberKind
 
-abbrev pub wordAt : List ℕ → ℕ → ℕ
-wordAt l i = getD l (2 * i + 1) 0
-
-abbrev pub entryBy : ℕ → ℕ → Entry
-entryBy k w = record { first = 0; after = 0; space = spaceBy k w }
-
-abbrev pub entryAt : List ℕ → ℕ → Entry
-entryAt l i = entryBy (kindAt l i) (wordAt l i)
-
-abbrev pub entriesFrom : List ℕ → ℕ → ℕ → List Entry
-entriesFrom l i zero = []
-entriesFrom l i (suc n) = entryAt l i ∷ entriesFrom l (suc i) n
+abbrev pub numberAt : List ℕ → ℕ → ℤ
+numberAt l i = signed (loadAt 8 l (24 * i + 16))
 
 -- the row that grants entry i to s, if its namespace is a number
 abbrev pub wantedAt : List ℕ → ℕ → ℕ → Row
-wantedAt l i s = record { subscriber = s; namespace = signed (wordAt l i) }
+wantedAt l i s = record { subscriber = s; namespace = numberAt l i }
 
--- entry i isn't granted, where `found` says whether that row stands in the table
-abbrev pub heldBack : List ℕ → ℕ → Bool → Bool
-heldBack l i found = cond (eqb (kindAt l i) 0) (not found) true
+-- how many of n rows may grant entry i
+abbrev pub rowsFor : List ℕ → ℕ → ℕ → ℕ
+rowsFor l i n = cond (isNumber l i) n 0
+
+abbrev pub grantedAt : List Grant → ℕ → List ℕ → ℕ → Bool
+grantedAt t s l i = isNumber l i && some (holds s (numberAt l i)) t
+
+-- n entries from i on: the first that is not granted
+abbrev pub judgedFrom : (ℕ → Bool) → ℕ → ℕ → Release
+judgedFrom ok i zero = yes
+judgedFrom ok i (suc n) = let r = judgedFrom ok (suc i) n in cond (ok i) r (no i)
 
 -- how many entries are judged, and the answer from what they gave
 abbrev pub entriesOf : Listed → ℕ
@@ -79,7 +78,7 @@ abbrev pub answerBy : Listed → Release → Release
 answerBy (Entries k n) x = x
 answerBy (Refused r p) x = Release.refused r p
 
--- The listing's answer and its words decide as the message does, whatever the table.
-pub record Decides (b : List ℕ) (l : Listed) (ws : List ℕ) : Type 0 where
-  pub most : entriesOf l ≤ length ws / 2
-  pub decides : (t : List Grant) (s : ℕ) → answerBy l (judgeFrom (granted t s) 0 (entriesFrom ws 0 (entriesOf l))) ≡ release firstLimits b t s
+-- The listing's answer and its bytes decide as the message does, whatever the table.
+pub record Decides (m : Limits) (b : List ℕ) (l : Listed) (x : List ℕ) : Type 0 where
+  pub most : entriesOf l ≤ length x / 24
+  pub decides : (t : List Grant) (s : ℕ) → answerBy l (judgedFrom (grantedAt t s x) 0 (entriesOf l)) ≡ release m b t s

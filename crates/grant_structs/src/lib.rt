@@ -1,29 +1,24 @@
 // The grant table as a lent slice of grant structs: what it grants, its check, and release.
-// A function over a slice of structs is proved by a walk by hand, so each is thin: what is decided is decided on plain numbers.
+// A function over a slice of structs is proved by a walk by hand, so each is thin: what is decided is decided by functions on plain numbers.
 ghost use mathlib.Core.Path.{_≡_};
-ghost use Prim.Native.Nat.{_/_, _<_, _≤_};
+ghost use Prim.Native.Nat.{_*_, _/_, _<_, _≤_};
 ghost use lib.ListN.{length, take};
-ghost use Rattle.ari.specs.Limits.{firstLimits};
+ghost use Rattle.ari.specs.Limits.{firstLimits, capped};
 ghost use Rattle.ari.specs.Listing.{number};
-ghost use Rattle.grants.specs.Grants.{some, clash, holds, granted, check, judgeFrom, release};
 ghost use Rattle.ari.specs.Signed.{signed};
+ghost use Rattle.grants.specs.Grants.{some, clash, holds, granted, check};
 ghost use Rattle.grants.specs.Verdict.{said};
-ghost use Rattle.grant_structs.specs.Structs.{rowBy, grantOf, grants, meetsBy, foundAt, heldAt, entriesFrom, wantedAt, heldBack, entriesOf, answerBy, Decides};
-ghost use Rattle.grant_structs.specs.Told.{told};
+ghost use Rattle.release.specs.Release.{release, answerOf};
+ghost use Rattle.grant_structs.specs.Structs.{rowBy, grantOf, grants, meetsBy, foundAt, wantedAt, rowsFor, grantedAt, judgedFrom, heldAt, entriesOf, answerBy, Decides};
+use ari::Limits;
 use grants::Verdict;
 use listing::Listed;
+use release::Released;
 
 // A grant: a subscriber and a namespace number.
 pub struct Grant {
     pub subscriber: u64,
     pub namespace: i64,
-}
-
-// Release's answer: the message's refusal, or yes, or no with the first entry that isn't granted.
-pub enum Release {
-    Yes,
-    No(u64),
-    Refused { number: u64, place: usize },
 }
 
 // The row (a, b) holds both numbers.
@@ -90,12 +85,12 @@ pub fn granted(t: &[Grant], subscriber: u64, namespace: i64) -> bool
     )
 }
 
-// What a search over n rows tells that ended at row i.
-fn verdict(i: usize, n: usize) -> Verdict
-    ensures { λ r. ⌜ said r ≡ foundAt i n ⌝ }
+// What a search over so many rows tells that ended at a row.
+fn verdict(row: usize, rows: usize) -> Verdict
+    ensures { λ r. ⌜ said r ≡ foundAt row rows ⌝ }
 {
-    if i < n {
-        Verdict::Refused(i as u64)
+    if row < rows {
+        Verdict::Refused(row as u64)
     } else {
         Verdict::Passes
     }
@@ -126,51 +121,62 @@ fn number_of(w: u64) -> i64
     -1 - (18446744073709551615 - w) as i64
 }
 
-// A list of entries is as `listing::list_words` writes it: kind (0 number, 1 name, 2 relative) and word, the number in two's complement.
-// Here is the row that grants entry i, if its namespace is a number.
-fn wanted(list: &[u64], i: usize, subscriber: u64) -> Grant
-    requires { ⌜ i < length (now list) / 2 ⌝ }
-    ensures { λ r. ⌜ r ≡ wantedAt (now (list .entry)) i subscriber ⌝ }
+// Each entry of a listing is 24 bytes (R94), and a message has at most half as many entries as items.
+const ENTRY: usize = 24;
+
+const ROOM: usize = ENTRY * (ari::ITEMS / 2);
+
+// The kind of an entry whose namespace is a number.
+const NUMBER: u64 = 0;
+
+// The row that grants entry i of a list to the subscriber who asks, if its namespace is a number.
+fn wanted(list: &[u8], i: usize, asker: u64) -> Grant
+    requires { ⌜ i < length (now list) / 24 ⌝ }
+    ensures { λ r. ⌜ r ≡ wantedAt (now (list .entry)) i asker ⌝ }
 {
-    let namespace = number_of(list[2 * i + 1]);
+    let namespace = number_of(buffer::load8(list, ENTRY * i + 16));
     Grant {
-        subscriber,
+        subscriber: asker,
         namespace,
     }
 }
 
-// Entry i isn't granted, where `found` says whether that row stands in the table.
-fn held_back(list: &[u64], i: usize, found: bool) -> bool
-    requires { ⌜ i < length (now list) / 2 ⌝ }
-    ensures { λ r. ⌜ r ≡ heldBack (now (list .entry)) i found ⌝ }
+// How many of n rows are looked through for entry i: a name or a relative reference is granted by none.
+fn rows_for(list: &[u8], i: usize, n: usize) -> usize
+    requires { ⌜ i < length (now list) / 24 ⌝ }
+    ensures { λ r. ⌜ r ≡ rowsFor (now (list .entry)) i n ⌝ }
 {
-    if list[2 * i] == 0 {
-        return !found;
+    if buffer::load8(list, ENTRY * i + 8) == NUMBER {
+        return n;
     }
-    true
+    0
 }
 
-// What a search over n entries tells that ended at entry i.
-fn judged(i: usize, n: usize) -> Release
-    ensures { λ r. ⌜ told r ≡ heldAt i n ⌝ }
+// What a search over so many entries tells that ended at an entry.
+fn judged(entry: usize, entries: usize) -> Released
+    ensures { λ r. ⌜ answerOf r ≡ heldAt entry entries ⌝ }
 {
-    if i < n {
-        Release::No(i as u64)
+    if entry < entries {
+        Released::No { entry }
     } else {
-        Release::Yes
+        Released::Yes
     }
 }
 
-// The first n entries by rows: the search is left at the first that isn't granted.
-fn release_words(list: &[u64], n: usize, t: &[Grant], subscriber: u64) -> Release
-    requires { ⌜ n ≤ length (now list) / 2 ⌝ }
-    ensures { λ r. ⌜ told r ≡ judgeFrom (granted (grants (now (t .entry))) subscriber) 0 (entriesFrom (now (list .entry)) 0 n) ⌝ }
+// The first n entries by rows: the search is left at the first that is not granted.
+fn release_entries(list: &[u8], n: usize, t: &[Grant], subscriber: u64) -> Released
+    requires { ⌜ n ≤ length (now list) / 24 ⌝ }
+    ensures { λ r. ⌜ answerOf r ≡ judgedFrom (grantedAt (grants (now (t .entry))) subscriber (now (list .entry))) 0 n ⌝ }
 {
-    let rows = t.len();
     let mut i = 0;
     'entries: while i < n {
-        let found = some_row(t, rows, false, wanted(list, i, subscriber));
-        if held_back(list, i, found) {
+        let found = some_row(
+            t,
+            rows_for(list, i, t.len()),
+            false,
+            wanted(list, i, subscriber),
+        );
+        if !found {
             break 'entries;
         }
         i += 1;
@@ -178,12 +184,12 @@ fn release_words(list: &[u64], n: usize, t: &[Grant], subscriber: u64) -> Releas
     judged(i, n)
 }
 
-// The words of a message's listing, and what is known of them: they decide as the message does.
-fn listed_in(message: &[u8], words: &mut [u64]) -> Listed
-    requires { ⌜ 2048 ≤ length (now words) ⌝ }
-    ensures { λ r. ⌜ Decides (now (message .entry)) r (now (words .exit)) ⌝ }
+// A message's listing in lent room, and what is known of it: it decides as the message does.
+fn listed_in(limits: Limits, message: &[u8], room: &mut [u8]) -> Listed
+    requires { ⌜ 24 * 512 ≤ length (now room) ⌝ }
+    ensures { λ r. ⌜ Decides (capped limits) (now (message .entry)) r (now (room .exit)) ⌝ }
 {
-    listing::list_words(message, words)
+    listing::list_within(limits, message, room)
 }
 
 // How many entries a listing has: of a refused message none.
@@ -200,43 +206,55 @@ fn entries_of(listed: Listed) -> usize
 }
 
 // The message's refusal, or what its entries gave.
-fn answered(listed: Listed, given: Release) -> Release
-    ensures { λ r. ⌜ told r ≡ answerBy listed (told given) ⌝ }
+fn answered(listed: Listed, given: Released) -> Released
+    ensures { λ r. ⌜ answerOf r ≡ answerBy listed (answerOf given) ⌝ }
 {
     match listed {
         Listed::Entries {
             listed: _,
             count: _,
         } => given,
-        Listed::Refused { number, place } => Release::Refused { number, place },
+        Listed::Refused { number, place } => Released::Refused { number, place },
     }
 }
 
-// Release. 2,048 words have room for the entries of every message: it has at most 1,024 items.
-pub fn release_grants(message: &[u8], t: &[Grant], subscriber: u64) -> Release
-    ensures { λ r. ⌜ told r ≡ release firstLimits (now (message .entry)) (grants (now (t .entry))) subscriber ⌝ }
+// Whether a message within these limits, none above the gate's own, is released to a subscriber.
+pub fn release_grants_within(
+    limits: Limits,
+    message: &[u8],
+    t: &[Grant],
+    subscriber: u64,
+) -> Released
+    ensures { λ r. ⌜ answerOf r ≡ release (capped limits) (now (message .entry)) (grants (now (t .entry))) subscriber ⌝ }
 {
-    let mut words = [0u64; 2048];
-    let listed = listed_in(message, &mut words);
-    let given = release_words(&words, entries_of(listed), t, subscriber);
+    let mut room = [0u8; ROOM];
+    let listed = listed_in(limits, message, &mut room);
+    let given = release_entries(&room, entries_of(listed), t, subscriber);
     answered(listed, given)
 }
 
-// A table of four rows by value, for a caller that is covered, as a program's main: the array is lent. A shorter table repeats a row.
-pub fn granted_four(t: [Grant; 4], subscriber: u64, namespace: i64) -> bool
-    ensures { λ r. ⌜ r ≡ granted (grants t) subscriber (number namespace) ⌝ }
+// Whether a message is released to a subscriber.
+pub fn release_grants(message: &[u8], t: &[Grant], subscriber: u64) -> Released
+    ensures { λ r. ⌜ answerOf r ≡ release firstLimits (now (message .entry)) (grants (now (t .entry))) subscriber ⌝ }
 {
-    granted(&t, subscriber, namespace)
+    release_grants_within(ari::LIMITS, message, t, subscriber)
 }
 
-pub fn check_four(t: [Grant; 4]) -> Verdict
-    ensures { λ r. ⌜ said r ≡ check (grants t) ⌝ }
-{
-    check_grants(&t)
+// What a table answers to the three questions.
+pub struct Answers {
+    pub check: Verdict,
+    pub granted: bool,
+    pub release: Released,
 }
 
-pub fn release_grants_four(message: &[u8], t: [Grant; 4], subscriber: u64) -> Release
-    ensures { λ r. ⌜ told r ≡ release firstLimits (now (message .entry)) (grants t) subscriber ⌝ }
+// The three of a table of four rows by value, for a caller that is covered, as a program's main: the array is lent. A shorter table repeats a row.
+pub fn ask_four(message: &[u8], t: [Grant; 4], subscriber: u64, namespace: i64) -> Answers
+    ensures { λ r. ⌜ (said (r .check) ≡ check (grants t)) × (r .granted ≡ granted (grants t) subscriber (number namespace)) × (answerOf (r .release) ≡ release firstLimits (now (message .entry)) (grants t) subscriber) ⌝ }
 {
-    release_grants(message, &t, subscriber)
+    let rows: &[Grant] = &t;
+    Answers {
+        check: check_grants(rows),
+        granted: granted(rows, subscriber, namespace),
+        release: release_grants(message, rows, subscriber),
+    }
 }

@@ -1,9 +1,9 @@
-// Document 01's grants, asked of both forms of a table: as bytes and as structs. Each line has the bytes' answer, then the structs'.
-// C is document 01's message of that name, whose entries are 65536 and -20; `02` is refused.
+// Both forms of a grant table are asked, bytes and structs. Each line has the bytes' answer, then the structs'.
+// C is message C of the rules' examples (docs/RULES.md), whose entries are 65536 and -20; `02` is refused.
+use grant_structs::Answers;
 use grant_structs::Grant;
-use grant_structs::Release;
 use grants::Verdict;
-use listing::Released;
+use release::Released;
 
 fn text(b: &[u8]) {
     io::write_all(1, b);
@@ -29,71 +29,64 @@ fn yes_or_no(y: bool) {
     }
 }
 
-fn no(entry: u64) {
-    text(b" no ");
-    io::print_decimal(1, entry);
-}
-
-fn refused(number: u64, place: u64) {
-    text(b" refused ");
-    io::print_decimal(1, number);
-    text(b" ");
-    io::print_decimal(1, place);
-}
-
-fn of_bytes(r: Released) {
+fn released(r: Released) {
     match r {
         Released::Yes => {
             text(b" yes");
         }
-        Released::No(entry) => {
-            no(entry as u64);
+        Released::No { entry } => {
+            text(b" no ");
+            io::print_decimal(1, entry as u64);
         }
         Released::Refused { number, place } => {
-            refused(number, place as u64);
+            text(b" refused ");
+            io::print_decimal(1, number as u64);
+            text(b" ");
+            io::print_decimal(1, place as u64);
         }
     }
 }
 
-fn of_structs(r: Release) {
-    match r {
-        Release::Yes => {
-            text(b" yes");
-        }
-        Release::No(entry) => {
-            no(entry);
-        }
-        Release::Refused { number, place } => {
-            refused(number, place as u64);
-        }
-    }
+// The table's check.
+fn checks(bytes: &[u8], a: Answers) {
+    text(b"check");
+    verdict(grants::check_table(bytes));
+    let check = a.check;
+    verdict(check);
 }
 
-fn releases(message: &[u8], bytes: &[u8], t: [Grant; 4], subscriber: u64) {
-    of_bytes(listing::release(message, bytes, subscriber));
-    of_structs(grant_structs::release_grants_four(message, t, subscriber));
+// Whether the subscriber has a namespace number, given in two's complement.
+fn has(bytes: &[u8], subscriber: u64, word: u64, a: Answers) {
+    yes_or_no(grants::granted(bytes, subscriber, word));
+    yes_or_no(a.granted);
+}
+
+// Whether a message is released to the subscriber.
+fn releases(message: &[u8], bytes: &[u8], subscriber: u64, a: Answers) {
+    released(release::release_message(message, bytes, subscriber));
+    let release = a.release;
+    released(release);
 }
 
 fn asks(bytes: &[u8], t: [Grant; 4]) {
-    text(b"check");
-    verdict(grants::check_table(bytes));
-    verdict(grant_structs::check_four(t));
-    text(b"; 7 has 65536");
-    yes_or_no(grants::granted(bytes, 7, 65536));
-    yes_or_no(grant_structs::granted_four(t, 7, 65536));
-    text(b"; 7 has -20");
-    yes_or_no(grants::granted(bytes, 7, 18446744073709551596));
-    yes_or_no(grant_structs::granted_four(t, 7, -20));
-    text(b"; 9 has -20");
-    yes_or_no(grants::granted(bytes, 9, 18446744073709551596));
-    yes_or_no(grant_structs::granted_four(t, 9, -20));
-    text(b"; C to 7");
     let c = b"\x01\x82\x14\x82\xf6\x84\x1a\0\x01\0\0\x22\0\x81\x83\x33\x2a\x05";
-    releases(c, bytes, t, 7);
+    let refused = b"\x02";
+    let first = grant_structs::ask_four(c, t, 7, 65536);
+    let second = grant_structs::ask_four(refused, t, 7, -20);
+    let third = grant_structs::ask_four(c, t, 9, -20);
+    checks(bytes, first);
+    text(b"; 7 has 65536");
+    has(bytes, 7, 65536, first);
+    text(b"; 7 has -20");
+    has(bytes, 7, 18446744073709551596, second);
+    text(b"; 9 has -20");
+    has(bytes, 9, 18446744073709551596, third);
+    text(b"; C to 7");
+    releases(c, bytes, 7, first);
     text(b"; C to 9");
-    releases(c, bytes, t, 9);
+    releases(c, bytes, 9, third);
     text(b"; 02 to 7");
-    releases(b"\x02", bytes, t, 7);
+    releases(refused, bytes, 7, second);
     text(b"\n");
 }
 

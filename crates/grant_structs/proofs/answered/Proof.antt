@@ -1,5 +1,5 @@
 use borrow.Author.Needs.{needs}
-use Rattle.grant_structs.proofs.Words.{answers}
+use Rattle.grant_structs.proofs.Deciding.{answers}
 use Rattle.grant_structs.proofs.answered.Statement.{statement}
 use Rattle.grant_structs.proofs.answered.Tie as tie
 

@@ -18,14 +18,14 @@ use prog.Memory.{Memory}
 use prog.Routine.{Routine}
 use prog.Wp.{Heap, WpFn, Tables}
 use ghost.Atoms.{Atoms}
-use contract.Monad.{Fun}
+use contract.Monad.{Fun, factI}
 use contract.Running.{givenOf, tables, tablesOf}
 use types.Kit.{Given, ‵, raw, _⊛_, ⋆, _$_, _∵_, !, qed, by, move, drop, use2, split, join, rewrite, fsplit, fjoin, suffices, frame, done}
 use types.Part.{agg, whole, sub, look-in}
 use types.Run.{look, init, forget, stop, fld, from, load, false-lit, of-opd, and-then, no-more, assigns, land, returns, enter, alloc1, alloc0, params1, pass1, pass0, free1, free0}
-use sound.WpLaws.{fmOf, WpFn-mono}
+use sound.WpLaws.{fmOf}
 use denote.RattleType.{owns}
-use denote.Plain.{uint-vals, uint-tells, bool-lawful}
+use denote.Plain.{uint-vals, uint-tells, bool-lawful, bool-makes}
 use denote.Signed.{sint-vals, sint-tells}
 use denote.Builtin.{u64, i64, bool}
 use denote.Ref.{RefT}
@@ -37,15 +37,16 @@ use denote.Triple.Call.{calls-at}
 use denote.Triple.Entry.{Vals, onEntry}
 use denote.Triple.Spec.{Meets, tripleOf}
 use denote.Triple.Table.{entered, cited}
-use denote.Triple.Walked.{says, Stays, stay-none-slice, stay-none, walkOf, goes-none-slice, goes-none, Walks, ends-at, walked, walk-meets}
-use denote.Exit.{yes}
+use denote.Triple.Walked.{says, walkOf}
 use Rattle.ari.specs.Listing.{number}
 use Rattle.grants.specs.Grants.{holds, granted as grantedBy}
 use Rattle.grant_structs.specs.declared.Grant.{Grant}
 use Rattle.grant_structs.specs.Structs.{grants}
 use Rattle.grant_structs.proofs.Over.{R, Own, fine, row-typed, own-word, own-int, own-bool, copies-rows, answered-κ}
+use Rattle.grant_structs.proofs.Leaving.{Gone, leaves, meets-by, of-κ}
 use Rattle.grant_structs.proofs.Searched.{of-all}
-use Rattle.grant_structs.proofs.Asking.{SomeRow, to, asked, gives, said}
+use Rattle.grant_structs.proofs.Asking.{SomeRow, to, asked, gives}
+use Rattle.grant_structs.proofs.some_row as some-row
 use Rattle.grant_structs.proofs.some_row.Symbol as some-row-def
 use Rattle.grant_structs.proofs.some_row.Symbol.{name as #grant-structs·some-row}
 use Rattle.grant_structs.proofs.some_row.Met as some-row-thm
@@ -53,9 +54,6 @@ use Rattle.grant_structs.proofs.granted.Key.{name as #grant-structs·gr
 use Rattle.grant_structs.proofs.granted as granted
 use Rattle.grant_structs.proofs.granted.Statement as stated
 use Rattle.grant_structs.proofs.granted.Code as code
-
-abbrev stayed : Stays (granted.ended .signature .params) (granted.ended .kept)
-stayed = (stay-none-slice (0 ∷ []) tt (plain (λ _. R)) yes, (stay-none (λ _. u64) yes, (stay-none (λ _. i64) yes, tt)))
 
 module _ {M : Type 1} (𝓤 : URA M) (H : Heap 𝓤) (A : Atoms 𝓤) (W : Given 𝓤 H A) (mem : Memory → SProp 𝓤) (run : Routine → Fun 𝓤) (κ : Lft) (q : Share) (a : RefT (List Grant)) (s : ℕ) (z : ℤ)
     (gn : Room R (length (a .now))) (gs : s < 2 ^ 64) (gz : mag z < 2 ^ hbits w64) where
@@ -72,48 +70,43 @@ module _ {M : Type 1} (𝓤 : URA M) (H : Heap 𝓤) (A : Atoms 𝓤) (W : Given
   at = (v ∷ [], (vint w64 s ∷ [], (vint w64 (ofZ w64 z) ∷ [], tt)))
 
   abbrev Post : Val → SProp 𝓤
-  Post = walkOf 𝓤 H A granted.ended stayed (granted.clauses 𝓤 H A mem run) .post (((κ, tt), (q, tt), tt, (a, (s, (z, tt))), at), tt)
+  Post = walkOf 𝓤 H A granted.ended (Gone granted.ended) (granted.clauses 𝓤 H A mem run) .post (((κ, tt), (q, tt), tt, (a, (s, (z, tt))), at), tt)
 
-  exits : (w : Bool) → w ≡ grantedBy (grants (a .now)) s (number z) → ent 𝓤 (⋆ 𝓤 H A (‵ (flft κ q) ∷ ‵ (Own κ a) ∷ [])) (Post (vbool w))
+  exits : (w : Bool) → w ≡ grantedBy (grants (a .now)) s (number z) → ent 𝓤 (⋆ 𝓤 H A (‵ (flft κ q) ∷ [])) (Post (vbool w))
   exits w e =
-      qed W (‵ (flft κ q) ∷ ‵ (Own κ a) ∷ []) ∵
-      suffices ! _ (ends-at 𝓤 H A granted.ended stayed (granted.clauses 𝓤 H A mem run) W (((κ, tt), (q, tt), tt, (a, (s, (z, tt))), at), tt) (vbool w) w (tt, (tt, (tt, tt))) (tt, (tt, (tt, tt)))) $ says ! e $
-      nothing ! $ move ! (1 ∷ 0 ∷ []) $ join ! $ nothing ! $ own-int ! z gz $ fjoin ! $ own-word ! s gs $ fjoin ! $ move ! (2 ∷ 0 ∷ []) $ fjoin ! $ move ! (1 ∷ 0 ∷ []) $ frame ! $ frame ! $ own-bool ! w $ done !
+      leaves 𝓤 H A W granted.ended (granted.clauses 𝓤 H A mem run) (((κ, tt), (q, tt), tt, (a, (s, (z, tt))), at), tt) (vbool w) w (tt, (tt, (tt, tt))) _ (of-κ 𝓤 H A W κ q) (bool-makes 𝓤 H A W w _ refl) (factI 𝓤 _ (emp 𝓤) e)
 
   module _ (𝓣 : Tables 𝓤 H) (known : Triple 𝓤 (𝓣 .C #grant-structs·some-row) (SomeRow 𝓤 H A mem run)) where
     walk : ent 𝓤 (onEntry 𝓤 H A granted.signature (κ, tt) (q, tt) (a, (s, (z, tt))) at) (WpFn 𝓤 H (𝓣 .C) (𝓣 .Λ) code.function (v ∷ vint w64 s ∷ vint w64 (ofZ w64 z) ∷ []) Post)
     walk =
-        qed W ((‵ (flft κ q) ⊛ ‵ ftrue) ∷ ‵ (owns (ShrSlice (named 0) κ R ∷ u64 ∷ i64 ∷ []) (a, (s, (z, tt))) at) ∷ []) ∵ move ! (1 ∷ []) $ fsplit ! $ move ! (1 ∷ []) $ drop ! $ copies-rows ! a $
-        move ! (2 ∷ []) $ split ! $ move ! (1 ∷ []) $ drop ! $
+        qed W ((‵ (flft κ q) ⊛ ‵ ftrue) ∷ ‵ (owns (ShrSlice (named 0) κ R ∷ u64 ∷ i64 ∷ []) (a, (s, (z, tt))) at) ∷ []) ∵ move ! (1 ∷ []) $ fsplit ! $ move ! (1 ∷ []) $ drop ! $
+        move ! (1 ∷ []) $ split ! $ move ! (1 ∷ []) $ drop ! $
         use2 W (raw (SomeRow 𝓤 H A mem run .pre (to 𝓤 H A mem run κ q a n false g))) (asked 𝓤 H A mem run κ q a n false g W (fine s z gs gz) (gn .0) (omega arith)) $
         enter ! (𝓣 .C) (𝓣 .Λ) code.function (v ∷ vint w64 s ∷ vint w64 (ofZ w64 z) ∷ []) _ $
         alloc1 ! (λ l₀. alloc1 ! (λ l₁. alloc1 ! (λ l₂. alloc1 ! (λ l₃. alloc1 ! (λ l₄. alloc1 ! (λ l₅. alloc0 ! $ params1 ! $
         pass1 ! (init ! 8 refl (tt, (tt, (record { fits = gn .0 }, tt)))) $ pass1 ! (init ! 6 refl (tt, record { fits = gs })) $ pass1 ! (init ! 4 refl (tt, ofZ-fits w64 z (record { sfits = gz }))) $ pass0 ! $
         assigns ! (of-opd ! (load ! (from ! (fld ! refl (stop !))) (look-in ! 8 (sub ! 1 refl (whole !))))) (from ! (stop !)) (init ! 2 refl (tt, record { fits = gn .0 })) $
         assigns ! (agg ! (and-then ! (load ! (from ! (stop !)) (look ! 6 refl)) (and-then ! (load ! (from ! (stop !)) (look ! 4 refl)) (no-more !)))) (from ! (stop !)) (init ! 0 refl (row-typed W g (fine s z gs gz))) $
-        -- [_5; …; _4; …; _3; …; _2; …; _1; …; _0; …; what is asked; Own]
+        -- [_5; …; _4; …; _3; …; _2; …; _1; …; _0; …; what is asked]
         move ! (12 ∷ []) $ calls-at ! (fmOf 𝓤 H (W .laws) 𝓣) (SomeRow 𝓤 H A mem run) known (to 𝓤 H A mem run κ q a n false g)
         (and-then ! (load ! (from ! (stop !)) (look ! 9 refl)) (and-then ! (load ! (from ! (stop !)) (look ! 3 refl)) (and-then ! (false-lit !) (and-then ! (load ! (from ! (stop !)) (look ! 1 refl)) (no-more !))))) (λ u.
-        answered-κ ! tt bool u _ (λ r. r ≡ gives 𝓤 H A mem run κ q a n false g) (id⊢ 𝓤 _) (said 𝓤 H A mem run κ q a n false g) (λ r e is.
+        answered-κ ! tt bool u some-row.ended (to 𝓤 H A mem run κ q a n false g .0) (λ r. r ≡ gives 𝓤 H A mem run κ q a n false g) (id⊢ 𝓤 _) (λ r e is.
         land ! (from ! (stop !)) (init ! 11 refl (bool-lawful 𝓤 H A W .typed r _ is .0)) $ rewrite ! 11 (λ (w : Val). ‵ (fat fullShare tyBool l₀ 0 w)) (ap only is) refl $
         returns ! (look ! 11 refl) $ forget ! 1 refl $ forget ! 3 refl $ forget ! 5 refl $ forget ! 7 refl $ forget ! 9 refl $ forget ! 11 refl $
         move ! (11 ∷ 12 ∷ []) $ free1 ! $ move ! (9 ∷ 10 ∷ []) $ free1 ! $ move ! (7 ∷ 8 ∷ []) $ free1 ! $ move ! (5 ∷ 6 ∷ []) $ free1 ! $ move ! (3 ∷ 4 ∷ []) $ free1 ! $ move ! (1 ∷ 2 ∷ []) $ free1 ! $ free0 ! $
         by ! (exits r (e ∙ of-all (holds s z) (a .now)))))))))))
 
 module _ {M : Type 1} (𝓤 : URA M) (H : Heap 𝓤) (A : Atoms 𝓤) (W : Given 𝓤 H A) (mem : Memory → SProp 𝓤) (run : Routine → Fun 𝓤) (𝓣 : Tables 𝓤 H) (known : Triple 𝓤 (𝓣 .C #grant-structs·some-row) (SomeRow 𝓤 H A mem run)) where
-  granted-walks : Walks 𝓤 H A granted.ended stayed (WpFn 𝓤 H (𝓣 .C) (𝓣 .Λ) code.function) (granted.clauses 𝓤 H A mem run)
-  granted-walks = walked 𝓤 H A granted.ended stayed (granted.clauses 𝓤 H A mem run) (WpFn 𝓤 H (𝓣 .C) (𝓣 .Λ) code.function)
+  meets-it : Meets 𝓤 H A granted.signature (WpFn 𝓤 H (𝓣 .C) (𝓣 .Λ) code.function) (granted.spec 𝓤 H A mem run)
+  meets-it =
+      meets-by 𝓤 H A W granted.ended (granted.clauses 𝓤 H A mem run) ((λ κs x f. refl), ((λ κs x f. refl), ((λ κs x f. refl), tt))) 𝓣 code.function
       (λ κs. (slice-vals, (uint-vals w64, (sint-vals w64, tt)))) (λ κs. (shr-slice-tells (named 0) (κs .0) R, (uint-tells w64, (sint-tells w64, tt))))
       (λ κs qs bounds a g are. via 𝓤 _ (fst∗ 𝓤 _ (emp 𝓤)) (walk 𝓤 H A W mem run (κs .0) (qs .0) (a .0) (a .1 .0) (a .1 .1 .0) (are .0 .0 .1) (are .1 .0 .1) (are .1 .1 .0 .1) 𝓣 known))
-
-  granted-meets : Meets 𝓤 H A granted.signature (WpFn 𝓤 H (𝓣 .C) (𝓣 .Λ) code.function) (granted.spec 𝓤 H A mem run)
-  granted-meets = walk-meets 𝓤 H A granted.ended stayed W (goes-none-slice 𝓤 H A W 1 (0 ∷ []) tt (plain (λ _. R)) yes, (goes-none 𝓤 H A W 1 (λ _. u64) yes (λ κs x f. refl), (goes-none 𝓤 H A W 1 (λ _. i64) yes (λ κs x f. refl), tt)))
-      (granted.clauses 𝓤 H A mem run) (WpFn 𝓤 H (𝓣 .C) (𝓣 .Λ) code.function) (WpFn-mono 𝓤 H (W .laws) 𝓣 code.function) granted-walks
 
 pub granted-spec : {M : Type 1} → stated.statement M
 unfolding code.routine tablesOf
 granted-spec 𝓤 H 𝓜 𝓖 𝓡 =
     entered 𝓤 H (tripleOf 𝓤 H (𝓖 .A) granted.signature (granted.spec 𝓤 H (𝓖 .A) (𝓜 .mem) (𝓡 .run)))
     (tables 𝓤 H 𝓜 𝓡 code.env .C) (tables 𝓤 H 𝓜 𝓡 code.env .Λ) #grant-structs·granted code.function (code.unfolded 𝓤 H 𝓜 𝓡)
-    (granted-meets 𝓤 H (𝓖 .A) (givenOf 𝓤 H 𝓜 𝓖) (𝓜 .mem) (𝓡 .run) (tablesOf 𝓤 H 𝓜 (tables 𝓤 H 𝓜 𝓡 code.env))
+    (meets-it 𝓤 H (𝓖 .A) (givenOf 𝓤 H 𝓜 𝓖) (𝓜 .mem) (𝓡 .run) (tablesOf 𝓤 H 𝓜 (tables 𝓤 H 𝓜 𝓡 code.env))
     (cited 𝓤 H (SomeRow 𝓤 H (𝓖 .A) (𝓜 .mem) (𝓡 .run)) 𝓜 𝓡 code.env #grant-structs·some-row some-row-def.routine code.calls-grant-structs·some-row (some-row-thm.met 𝓤 H 𝓜 𝓖 𝓡)))

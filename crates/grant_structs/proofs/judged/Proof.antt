@@ -1,5 +1,5 @@
 use borrow.Author.Needs.{needs}
-use Rattle.grant_structs.proofs.Listed.{held-below, held-none}
+use Rattle.grant_structs.proofs.Entries.{held-below, held-none}
 use Rattle.grant_structs.proofs.judged.Statement.{statement}
 use Rattle.grant_structs.proofs.judged.Tie as tie
 

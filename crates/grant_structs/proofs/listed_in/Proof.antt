@@ -1,6 +1,8 @@
+use native.Mathlib.Omega.{arith}
 use Rattle.reader.proofs.Whole.{all-bytes}
+use Rattle.ari.specs.Limits.{capped}
 use borrow.Author.Needs.{needs}
-use Rattle.grant_structs.proofs.Words.{words-decide}
+use Rattle.grant_structs.proofs.Deciding.{bytes-decide}
 use Rattle.grant_structs.proofs.listed_in.Statement.{statement}
 use Rattle.grant_structs.proofs.listed_in.Tie as tie
 
@@ -9,7 +11,7 @@ returns c =
     let listed = c .before .before in
     let known = listed .before .before .before in
     let a = known .before .args in
-    words-decide (a .message .now) (all-bytes (a .message .now) (known .shared-slice-known .given)) (a .words .now) (known .before .pre) (listed .list-words .ensures .0) (listed .list-words .ensures .1)
+    bytes-decide (capped (a .limits)) (a .message .now) (omega arith) (all-bytes (a .message .now) (known .shared-slice-known .given)) (a .room .now) (known .before .pre) (listed .list-within .ensures .0) (listed .list-within .ensures .1)
 
 pub listed-in-spec : {M : Type 1} → statement M
 listed-in-spec = tie.close (tie.spec (λ c κs. search needs) (λ c. search needs) returns)

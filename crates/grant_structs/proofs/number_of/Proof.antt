@@ -1,6 +1,6 @@
 use borrow.Author.Needs.{needs}
 use native.Mathlib.Omega.{arith}
-use Rattle.grant_structs.proofs.Listed.{low-word, high-fits, high-word}
+use Rattle.grant_structs.proofs.Decided.{low-word, high-fits, high-word}
 use Rattle.grant_structs.proofs.number_of.Statement.{statement}
 use Rattle.grant_structs.proofs.number_of.Tie as tie
 

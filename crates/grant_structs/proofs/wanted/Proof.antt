@@ -1,5 +1,5 @@
 use borrow.Author.Needs.{needs}
-use Rattle.grant_structs.proofs.Listed.{wanted-row}
+use Rattle.grant_structs.proofs.Entries.{wanted-row}
 use Rattle.grant_structs.proofs.wanted.Statement.{statement}
 use Rattle.grant_structs.proofs.wanted.Tie as tie
 
@@ -9,7 +9,6 @@ wanted-spec =
     (tie.spec
     (λ c. search needs)
     (λ c. search needs)
-    (λ c. search needs)
-    (λ c. search needs)
+    (λ c κs. search needs)
     (λ c κs. search needs)
     (λ c. search (wanted-row, needs)))
