@@ -7,8 +7,7 @@ use native.Mathlib.Nat.{mod-eq-of-lt}
 use lib.Dec.{eqb}
 use lib.Pow.{pow-pos, pow-lt}
 use borrow.Author.Tests.{le-leb, lt-leb, eq-eqb, ne-eqb}
-use Rattle.cbor.specs.Head.{divides, badHalf, badSingle, badDouble, badFloat}
-use Rattle.cbor.specs.Answer.{tooLong}
+use Rattle.cbor.specs.Head.{divides, tooLong, badHalf, badSingle, badDouble, badFloat}
 
 module _ (a : ℕ) where
   pub half-finite : (a / 1024 % 32 ≡ 31 → ⊥) → false ≡ badHalf a
@@ -80,12 +79,12 @@ module _ (k a : ℕ) {r : Bool} where
   by-half h q = simp (h, or-false) q
 
   pub by-single : k ≡ 8 → r ≡ tooLong 255 103 113 142 13 (a / 8388608 % 256) (a % 8388608) → r ≡ badFloat k a
-  unfolding badFloat badSingle tooLong
+  unfolding badFloat badSingle
   by-single h q = simp (h, or-false) q
 
   pub by-double : (k ≡ 7 → ⊥) → (k ≡ 8 → ⊥) → 7 ≤ k → k ≤ 9
       → r ≡ tooLong 2047 874 897 1150 29 (a / 4503599627370496 % 2048) (a % 4503599627370496) → r ≡ badFloat k a
-  unfolding badFloat badDouble tooLong
+  unfolding badFloat badDouble
   by-double n m l g q = let h : k ≡ 9 = omega arith in simp h q
 
 pub ruleset floats = (half-finite, half-infinite, half-nan, shifted-pos, multiple, endless, zero-only, too-small, small, in-range, too-large, by-half, by-single, by-double)

@@ -9,7 +9,7 @@ use Rattle.cbor.specs.declared.Head.{Head}
 use Rattle.cbor.specs.declared.Head.the-variants.{Bad, Good}
 use Rattle.buffer.specs.Bytes.{within}
 use Rattle.cbor.specs.Utf8.{utf8From, utf8}
-use Rattle.cbor.specs.Head.{divides, double, kindOf, Lead, size, unused, notShortest, Got, bad, got, getHead}
+use Rattle.cbor.specs.Head.{double, kindOf, Lead, size, unused, notShortest, Got, bad, got, getHead}
 
 -- a head that starts at `at`
 abbrev pub answer : ℕ → Got → Head
@@ -26,13 +26,6 @@ judged m i a n = cond (unused m i) (Bad 3) (cond (notShortest i (kindOf m i) a) 
 -- the same of a number or length, where l is the least argument of its size
 unfoldable pub counted : ℕ → ℕ → ℕ → ℕ → Head
 counted m a l n = cond (ltb a l) (Bad 4) (Good m a n)
-
--- badSingle and badDouble in one: e and m are the exponent and the fraction, top the exponent of infinities and NaNs; the next shorter size
--- has normal numbers for the exponents from normal to high, subnormal ones from low on, and spare bits less
-unfoldable pub tooLong : ℕ → ℕ → ℕ → ℕ → ℕ → ℕ → ℕ → Bool
-tooLong top low normal high spare e m =
-    (eqb e 0 && eqb m 0)
-    || (eqb e top || ((within normal high e && divides spare m) || (within low (normal - 1) e && divides (normal + spare - e) m)))
 
 -- what a head that was read has shown
 abbrev pub Passed : List ℕ → ℕ → Head → Type 0

@@ -90,13 +90,20 @@ keyBytes l str = shortBytes (l .kind) (l .arg) ++ str
 abbrev pub divides : ℕ → ℕ → Bool
 divides p m = eqb (m % 2 ^ p) 0
 
--- R18, of exponent e and fraction m; and with exponent 255 the others are NaNs
-unfoldable pub badSingle : ℕ → ℕ → Bool
-badSingle e m = (eqb e 0 && eqb m 0) || (eqb e 255 || ((within 113 142 e && divides 13 m) || (within 103 112 e && divides (126 - e) m)))
+-- R16, of exponent e and fraction m: a zero; exponent top, an infinity or another NaN; or a number that the next shorter size holds, which has normal
+-- numbers for the exponents from normal to high, subnormal ones from low on, and spare bits less
+unfoldable pub tooLong : ℕ → ℕ → ℕ → ℕ → ℕ → ℕ → ℕ → Bool
+tooLong top low normal high spare e m =
+    (eqb e 0 && eqb m 0)
+    || (eqb e top || ((within normal high e && divides spare m) || (within low (normal - 1) e && divides (normal + spare - e) m)))
 
--- R19; and with exponent 2047 the others are NaNs
+-- R18: 2^13, and from 103 to 112 on 2^(126 - e)
+unfoldable pub badSingle : ℕ → ℕ → Bool
+badSingle = tooLong 255 103 113 142 13
+
+-- R19: 2^29, and from 874 to 896 on 2^(926 - e)
 unfoldable pub badDouble : ℕ → ℕ → Bool
-badDouble e m = (eqb e 0 && eqb m 0) || (eqb e 2047 || ((within 897 1150 e && divides 29 m) || (within 874 896 e && divides (926 - e) m)))
+badDouble = tooLong 2047 874 897 1150 29
 
 -- R17
 unfoldable pub badHalf : ℕ → Bool

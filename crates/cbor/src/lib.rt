@@ -5,8 +5,8 @@ ghost use lib.ListN.{length, drop, getD};
 ghost use Rattle.buffer.specs.Put.{Put};
 ghost use Rattle.buffer.specs.Runs.{RunTo};
 ghost use Rattle.cbor.specs.Byte.{below};
-ghost use Rattle.cbor.specs.Head.{divides, badHalf, badFloat, getFrom, headBytes, keyOf};
-ghost use Rattle.cbor.specs.Answer.{answer, counted, headAt, judged, Passed, tooLong, follows, Tail, Sequence};
+ghost use Rattle.cbor.specs.Head.{divides, tooLong, badHalf, badFloat, getFrom, headBytes, keyOf};
+ghost use Rattle.cbor.specs.Answer.{answer, counted, headAt, judged, Passed, follows, Tail, Sequence};
 ghost use Rattle.cbor.specs.Utf8.{utf8, isAscii};
 
 // The kinds of heads (specs/Head.antt).
