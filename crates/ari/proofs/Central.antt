@@ -252,7 +252,7 @@ back (suc left) m (item l str ms rs) (frame s n prev d ds) p f c =
     rw (← encode-join ms rs)
     (step-back left (run left) s n prev d ds p l str (encode (join ms rs)) (f .0) (f .1) ∙ back left m (join ms rs) _ _ j (omega (arith, heads-join ms rs)))
 
--- Demand 2's "exactly if", over what is due.
+-- The 'exactly if' of R47, over what is due.
 abbrev pub start : Limits → Input → Dues
 start m i = frame (firstSlot i) 0 [] (m .containers) (bottom i (m .containers))
 

@@ -1,4 +1,4 @@
--- Demand 2: accepted exactly if document 01 makes it one, in these bytes, with this count, within the limits.
+-- R47: accepted exactly if the rules make it one, in these bytes, with this count, within the limits.
 use Prim.Native.Nat.{ℕ}
 use mathlib.Core.Logic.{_↔_}
 use mathlib.Core.Path.{_≡_, refl, sym, _∙_, ap, subst}
@@ -30,7 +30,7 @@ use Rattle.ari.proofs.FitRules.{here, of-plain, of-ari, of-array}
 abbrev pub Grammar : Input → Items → Type 0
 Grammar i g = Fit g (openEnded i) (due (firstSlot i) 0) []
 
--- "the unsigned 1"
+-- the unsigned 1
 one-row : (k a : ℕ) → fits k a (row unsigned 1 1 ∷ []) ≡ true → (k ≡ unsigned) × (a ≡ 1)
 one-row k a e =
     let (p, q) = and-true (eqb k unsigned) (within 1 1 a) (or-nil _ e) in
@@ -84,7 +84,7 @@ module _ (m : Limits) (i : Input) (b : List ℕ) where
   pub unique : {g : Items} {n : ℕ} → Is m i b g n → g ≡ decode b
   unique {g} c = sym (decode-encode g (well-fit g (openEnded i) (due (firstSlot i) 0) [] (stands-fit (c .stands)))) ∙ ap decode (c .bytes)
 
-  -- what document 01 makes one is accepted, whatever its bytes are
+  -- what the rules make one is accepted, whatever its bytes are
   pub is-read : {g : Items} {n : ℕ} → Is m i b g n → read m i b ≡ accept n
   is-read {g} {n} c =
       to-read m i b n

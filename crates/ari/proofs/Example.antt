@@ -1,4 +1,4 @@
--- The examples that document 01 marks P, as one statement over one table, at its own limits.
+-- The worked examples that are proved, as one statement over one table, at the gate's own limits.
 use Prim.Native.Nat.{ℕ}
 use mathlib.Core.Path.{_≡_, refl}
 use mathlib.Core.List.{List, [], _∷_}

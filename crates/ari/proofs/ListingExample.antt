@@ -1,4 +1,4 @@
--- Message C, which document 01 marks P: its program's `5 18 65536` and `14 18 -20`.
+-- Message C of the worked examples: its program's `5 18 65536` and `14 18 -20`.
 use mathlib.Core.Path.{_≡_, refl}
 use mathlib.Core.List.{[], _∷_}
 use lib.IntN.{pos, negsuc}

@@ -1,4 +1,4 @@
--- Demand 3, the namespaces: each reference's first member is one, a listed number is one of document 01's.
+-- The namespaces of R79: each reference's first member is one, a listed number is in range (R23).
 use Prim.Native.Nat.{ℕ, _≤_}
 use mathlib.Core.Path.{_≡_, refl}
 use mathlib.Core.Bool.{Bool, true, false, not, _||_, cond}
@@ -92,7 +92,7 @@ mem-named : {r : Placed} {rs : List Placed} → AllNamed rs → List·Memᴰ r r
 mem-named (one-too n a) (List·Memᴰ·head e) = rw e n
 mem-named (one-too n a) (List·Memᴰ·tail m) = mem-named a m
 
--- "ns is an integer from -2^63 to 2^63 - 1": negsuc a is -1 - a
+-- R23: negsuc a is -1 - a
 abbrev pub InRange : Space → Type 0
 InRange (number (pos a)) = a ≤ max63
 InRange (number (negsuc a)) = a ≤ max63
@@ -129,7 +129,7 @@ module _ {m : Limits} {b : List ℕ} {g : Items} {n : ℕ} (c : Is m Message b g
   pub own-namespace : (r : Placed) → List·Memᴰ r (references (c .stands)) → Named (r .inside)
   own-namespace r k = mem-named (named-all (c .stands)) k
 
-  -- A listed number is one of document 01's.
+  -- A listed number is in range.
   pub numbers-in-range : (e : Entry) → List·Memᴰ e (listing b) → InRange (e .space)
   numbers-in-range e k =
       let f = nothing-else-is-listed c e k in

@@ -20,7 +20,7 @@ unsignedRows w = uintTo (2 ^ w - 1) ∷ []
 abbrev pub signedRows : ℕ → List Row
 signedRows w = uintTo (2 ^ pred w - 1) ∷ nintTo (2 ^ pred w - 1) ∷ []
 
--- a number as a head has it: "In a negative head the argument n means -1 - n"
+-- a number as a head has it: R15
 pub data Number : Type 0 where
   number : ℕ → ℕ → Number
 

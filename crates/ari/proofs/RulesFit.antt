@@ -1,4 +1,4 @@
--- The rules of document 01 and the slots say the same: what stands by the rules fits its slot.
+-- The rules and the slots say the same: what stands by the rules fits its slot.
 use Prim.Native.Nat.{ℕ, suc, _-_, _≤_}
 use mathlib.Core.Path.{_≡_, refl, sym}
 use mathlib.Core.Bool.{Bool, true, false, _&&_, _||_, true≢false}

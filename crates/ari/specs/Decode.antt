@@ -1,4 +1,5 @@
--- The tree of any bytes, by RFC 8949 alone: heads one after the other, then members by count. No rule of document 01 but the heads' is in it.
+-- The tree of any bytes, by RFC 8949 alone: heads one after the other, then members by count. No rule but the heads' (R9 to R19) is in it.
+-- Interface: decode; the others are its parts, and Headed is the text reader's too.
 use Prim.Native.Nat.{ℕ, zero, suc, _+_}
 use mathlib.Core.Path.{_≡_}
 use mathlib.Core.List.{List, [], _∷_}

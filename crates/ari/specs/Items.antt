@@ -1,4 +1,5 @@
--- Items as trees, their bytes, their heads, the containers open at once, and every item with its place.
+-- Items as trees, their bytes, their heads, the containers open at once, and every item with its place. Interface: Items, encode, heads, depth, Spot,
+-- spotsOf.
 use Prim.Native.Nat.{ℕ, suc, _+_, max}
 use mathlib.Core.Bool.{Bool, true, false, cond}
 use mathlib.Core.List.{List, [], _∷_, _++_}
@@ -18,12 +19,12 @@ abbrev pub encode : Items → List ℕ
 encode none = []
 encode (item l s ms rs) = leadBytes l ++ (s ++ (encode ms ++ encode rs))
 
--- "one item is one head"
+-- R5: one head, one item
 abbrev pub heads : Items → ℕ
 heads none = 0
 heads (item l s ms rs) = suc (heads ms + heads rs)
 
--- "containers (arrays and maps, empty ones counted) open at once; one stays open until its last member has ended"
+-- R6: the most containers that are open together
 abbrev pub depth : Items → ℕ
 depth none = 0
 depth (item l s ms rs) = max (cond (isContainer (l .kind)) (suc (depth ms)) 0) (depth rs)
@@ -43,7 +44,7 @@ pub record Spot : Type 0 where
 abbrev pub insideAt : ℕ → Lead → List ℕ → ℕ
 insideAt p l s = p + (size l + length s)
 
--- "A container ends where its last member ends, an empty one after its head."
+-- R74: where an item ends
 abbrev pub spotAt : Slot → ℕ → ℕ → Lead → List ℕ → Items → Spot
 spotAt s p d l str ms = record { slot = s; first = p; after = insideAt p l str + length (encode ms); around = d; lead = l; str = str; inside = ms }
 

@@ -1,5 +1,4 @@
--- The limits' numbers: "at most 4,096 bytes, at most 1,024 items (one item is one head), at most 12 containers", "A text has at most
--- 32,768 bytes". Every other definition and theorem is for any limits.
+-- The limits' numbers: R4, R7. Every other definition and theorem is for any limits. Interface: firstLimits, capped.
 use Prim.Native.Nat.{min}
 use Rattle.ari.specs.declared.Limits.{Limits}
 

@@ -1,4 +1,4 @@
--- The listing: document 01, 'Item records and the listing'. It is read off the tree of the message's bytes, not off any walk over them.
+-- The listing: R76 to R80. It is read off the tree of the message's bytes, not off any walk over them. Interface: Space, Entry, listing.
 use Prim.Native.Nat.{ℕ}
 use mathlib.Core.Bool.{true, cond}
 use mathlib.Core.List.{List, [], _∷_, map}
@@ -9,19 +9,19 @@ use Rattle.ari.specs.Table.{version, due, isReference}
 use Rattle.ari.specs.Items.{Items, none, item, Spot, insideAt, spots}
 use Rattle.ari.specs.Decode.{decode}
 
--- "namespace (number, name or relative)"; a name is the place of its head and its bytes
+-- R76: a namespace; a name is the place of its head and its bytes
 pub data Space : Type 0 where
   number : ℤ → Space
   name : ℕ → List ℕ → Space
   relative : Space
 
--- "The listing has one entry for each reference: first byte, byte after, namespace"
+-- R76: an entry
 pub record Entry : Type 0 where
   pub first : ℕ
   pub after : ℕ
   pub space : Space
 
--- The namespace that a head at p is, with its string: an integer ("In a negative head the argument n means -1 - n"), a name, or null.
+-- The namespace that a head at p is, with its string: an integer (R15), a name, or null.
 abbrev pub spaceAt : ℕ → Lead → List ℕ → Space
 spaceAt p l s =
     cond (eqb (l .kind) unsigned) (number (pos (l .arg)))
@@ -36,7 +36,7 @@ spaceIn p (item l s ms rs) = spaceAt p l s
 abbrev pub entryOf : Spot → Entry
 entryOf x = record { first = x .first; after = x .after; space = spaceIn (insideAt (x .first) (x .lead) (x .str)) (x .inside) }
 
--- "A reference is an array of length 1, 3 or 4 where the rules above ask for an ARI or an object reference, at any depth"
+-- R77: the references among the items
 abbrev pub referring : List Spot → List Spot
 referring [] = []
 referring (x ∷ xs) = let r = referring xs in cond (isReference (x .slot) (x .lead)) (x ∷ r) r

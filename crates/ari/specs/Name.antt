@@ -1,4 +1,4 @@
--- Identifiers and namespace names: document 01, 'What may stand as an ARI'.
+-- Identifiers and namespace names: R27, R28. Interface: identifier, namespaceName.
 use Prim.Native.Nat.{ℕ}
 use mathlib.Core.Bool.{Bool, false, _&&_, _||_}
 use mathlib.Core.List.{List, [], _∷_}
@@ -6,20 +6,20 @@ use lib.ListN.{length}
 use lib.Dec.{ltb, eqb}
 use Rattle.buffer.specs.Bytes.{all, within}
 
--- "a letter or underscore"
+-- R27: the first byte
 unfoldable pub startsName : ℕ → Bool
 startsName b = within 65 90 b || (within 97 122 b || eqb b 95)
 
--- "then letters, digits, underscore, hyphen, full stop"
+-- R27: the bytes behind it
 unfoldable pub continuesName : ℕ → Bool
 continuesName b = startsName b || (within 48 57 b || within 45 46 b)
 
--- "An identifier is a text string of 1 to 64 bytes"
+-- R27
 unfoldable pub identifier : List ℕ → Bool
 identifier [] = false
 identifier (b ∷ bs) = startsName b && (all continuesName bs && ltb (length bs) 64)
 
--- "A namespace name is an identifier, or "!" and an identifier"
+-- R28
 unfoldable pub namespaceName : List ℕ → Bool
 namespaceName [] = false
 namespaceName (b ∷ bs) = identifier (b ∷ bs) || (eqb b 33 && identifier bs)

@@ -1,4 +1,5 @@
--- The order of the tests: document 01. The reader takes heads from the front, one a step.
+-- The order of the tests: R50 to R63. The reader takes heads from the front, one a step. Interface: Answer, read; Step, Dues, judge and run serve the
+-- contracts of the walk.
 use Prim.Native.Nat.{ℕ, zero, suc, pred, _+_, _-_}
 use mathlib.Core.Bool.{Bool, true, false, not, _&&_, _||_, cond}
 use mathlib.Core.List.{List, [], _∷_, _++_}
@@ -87,7 +88,7 @@ pub data Answer : Type 0 where
 abbrev pub Go : Type 0
 Go = Dues → ℕ → List ℕ → Answer
 
--- "the first that applies is the answer, with the head's first byte as place"
+-- R50: the first test that applies answers, at the head's first byte
 unfoldable pub takeStep : Go → Slot → ℕ → List ℕ → ℕ → Dues → ℕ → List ℕ → Step → Answer
 takeStep go s n prev d ds p b (no r) = refuse r p
 takeStep go s n prev d ds p b (yes l str) =
@@ -96,7 +97,7 @@ takeStep go s n prev d ds p b (yes l str) =
 abbrev pub visitFrame : ℕ → Go → Slot → ℕ → List ℕ → ℕ → Dues → ℕ → List ℕ → Answer
 visitFrame left go s n prev d ds p b = takeStep go s n prev d ds p b (judgeGot left d s prev (getHead b) b)
 
--- bytes after a single ARI are 13; "any number of ARIs, none included" in a message
+-- R63: bytes after a single ARI are 13; R45: a message may end here
 unfoldable pub visit : ℕ → Go → Dues → ℕ → List ℕ → Answer
 visit left go end p [] = accept left
 visit left go end p (x ∷ b) = refuse 13 p
@@ -122,7 +123,7 @@ abbrev pub bottom : Input → ℕ → Dues
 bottom Single d = end
 bottom Message d = sets d
 
--- "Test 1 comes first."
+-- R51 before all others
 unfoldable pub read : Limits → Input → List ℕ → Answer
 read l i b =
     cond (ltb (l .bytes) (length b)) (refuse 1 0)

@@ -1,6 +1,6 @@
 -- The references of an input, rule by rule as they stand in Rules, with no slot and no listing in it: the three rules 'namespace reference',
--- 'object reference' and 'the same with parameters' make one each, and every other rule only hands on those of its parts. So "a set's inner
--- array, a report, AC's array and a parameter list are none", and nothing is looked for in a string.
+-- 'object reference' and 'the same with parameters' make one each, and every other rule only hands on those of its parts. So what R78
+-- names is none, and nothing is looked for in a string. Interface: Placed, references, entryFor.
 use Prim.Native.Nat.{ℕ, _+_}
 use mathlib.Core.List.{List, [], _∷_, _++_}
 use lib.ListN.{length}

@@ -1,4 +1,5 @@
--- Document 01, 'What may stand as an ARI', row by row, over trees and with no reader in it. An item is its head, its string and its members.
+-- What may stand as an ARI (R21 to R46), row by row, over trees and with no reader in it. An item is its head, its string and its members. Interface: all
+-- of it.
 use Prim.Native.Nat.{ℕ, suc, _≤_}
 use mathlib.Core.Path.{_≡_}
 use mathlib.Core.Bool.{Bool, true, false, not, _&&_}
@@ -96,24 +97,24 @@ mutual
     no-aris : {w : Place} → Aris w 0 none
     aris : {w : Place} {n : ℕ} {l : Lead} {s : List ℕ} {ms rs : Items} → Ari w l s ms → Aris w n rs → Aris w (suc n) (item l s ms rs)
 
-  -- so many pairs, each key above the one before: "each key's bytes are greater, in byte order, than those of the key before"
+  -- so many pairs, each key above the one before: R32
   pub data Pairs : List ℕ → Place → ℕ → Items → Type 0 where
     no-pairs : {prev : List ℕ} {w : Place} → Pairs prev w 0 none
     pairs : {prev : List ℕ} {w : Place} {n : ℕ} {l l₁ : Lead} {s s₁ : List ℕ} {ms m₁ rs : Items} → Key l s ms → below prev (keyBytes l s) ≡ true
         → Ari w l₁ s₁ m₁ → Pairs (keyBytes l s) w n rs → Pairs prev w (suc n) (item l s ms (item l₁ s₁ m₁ rs))
 
-  -- "then object references"
+  -- R39: so many targets
   pub data Targets : ℕ → Items → Type 0 where
     no-targets : Targets 0 none
     targets : {n : ℕ} {l : Lead} {s : List ℕ} {ms rs : Items} → Object l s ms → Targets n rs → Targets (suc n) (item l s ms rs)
 
-  -- "A report is an array: integer, object reference, then ARIs."
+  -- R42: so many reports
   pub data Reports : ℕ → Items → Type 0 where
     no-reports : Reports 0 none
     reports : {n m : ℕ} {l l₁ l₂ : Lead} {s s₁ s₂ : List ℕ} {m₁ m₂ r rs : Items} → Holds array (suc (suc n)) l s → Vast l₁ s₁ m₁ → Object l₂ s₂ m₂
         → Aris inside n r → Reports m rs → Reports (suc m) (item l s (item l₁ s₁ m₁ (item l₂ s₂ m₂ r)) rs)
 
--- "A message is a run of items: the unsigned 1, then any number of ARIs, none included, each of type 20 or 21."
+-- R45, R46: a message
 pub data Sets : Items → Type 0 where
   no-more : Sets none
   set : {l : Lead} {s : List ℕ} {ms rs : Items} → Ari message l s ms → Sets rs → Sets (item l s ms rs)
@@ -122,7 +123,7 @@ pub data Stands : Input → Items → Type 0 where
   an-ari : {l : Lead} {s : List ℕ} {ms : Items} → Ari alone l s ms → Stands Single (item l s ms none)
   a-message : {l : Lead} {s : List ℕ} {ms rs : Items} → Plain (row unsigned 1 1 ∷ []) utf8 l s ms → Sets rs → Stands Message (item l s ms rs)
 
--- Demand 2: accepted exactly if document 01 makes it one, in these bytes, with this count of heads, within the limits.
+-- R47: an input is one, in these bytes, with this count of heads, within the limits.
 pub record Is (m : Limits) (i : Input) (b : List ℕ) (g : Items) (n : ℕ) : Type 0 where
   pub stands : Stands i g
   pub bytes : encode g ≡ b

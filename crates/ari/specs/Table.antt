@@ -1,4 +1,5 @@
--- What may stand where: document 01, 'What may stand as an ARI', as one table over slots. A slot says what is due at a place.
+-- What may stand where (R21 to R46), as one table over slots. A slot says what is due at a place. Interface: the rows, types, Slot, Rule, rule, isReference;
+-- Level, members and the like serve the reader.
 use Prim.Native.Nat.{ℕ, zero, suc, _-_}
 use mathlib.Core.Bool.{Bool, true, false, not, _&&_, _||_, cond}
 use mathlib.Core.List.{List, [], _∷_, _++_}
@@ -50,7 +51,7 @@ max31 = 2147483647
 abbrev pub uintTo : ℕ → Row
 uintTo n = row unsigned 0 n
 
--- "In a negative head the argument n means -1 - n"
+-- R15: the argument n of a negative head means -1 - n
 abbrev pub nintTo : ℕ → Row
 nintTo n = row negative 0 n
 
@@ -81,42 +82,42 @@ anySingle = row single 0 max64
 abbrev pub anyDouble : Row
 anyDouble = row double 0 max64
 
--- "integer as VAST"
+-- R34
 abbrev pub vast : List Row
 vast = uintTo max63 ∷ nintTo max63 ∷ []
 
 abbrev pub floats : List Row
 floats = anyHalf ∷ anySingle ∷ anyDouble ∷ []
 
--- "An untyped literal: false, true, null, undefined, integer, float, text string, byte string."
+-- R21
 abbrev pub literals : List Row
 literals = row simple 20 23 ∷ uintTo max64 ∷ nintTo max63 ∷ anyHalf ∷ anySingle ∷ anyDouble ∷ anyText ∷ anyBytes ∷ []
 
--- "ns is an integer from -2^63 to 2^63 - 1 or a name."
+-- R23
 abbrev pub namespaces : List Row
 namespaces = uintTo max63 ∷ nintTo max63 ∷ anyText ∷ []
 
--- "In an object reference only, it may be null (a relative reference)."
+-- R24
 abbrev pub objectNamespaces : List Row
 objectNamespaces = uintTo max63 ∷ nintTo max63 ∷ anyText ∷ isNull ∷ []
 
--- "Object type: -256 to -1 or an identifier."
+-- R25
 abbrev pub objectTypes : List Row
 objectTypes = nintTo 255 ∷ anyText ∷ []
 
--- "Object id: 0 to 2^63 - 1 or an identifier."
+-- R26
 abbrev pub objectIds : List Row
 objectIds = uintTo max63 ∷ anyText ∷ []
 
--- "Map keys are integers or text strings"
+-- R31
 abbrev pub keys : List Row
 keys = uintTo max64 ∷ nintTo max63 ∷ anyText ∷ []
 
--- "A nonce is null, an unsigned integer or a byte string." "Integers here are as VAST."
+-- R41
 abbrev pub nonces : List Row
 nonces = isNull ∷ uintTo max63 ∷ anyBytes ∷ []
 
--- "Otherwise an array, told by its length": 1 to 4. In a message "each of type 20 or 21": an array of 2.
+-- R22: an array of 1 to 4; R46: in a message, of 2
 abbrev pub ariRows : Place → List Row
 ariRows alone = literals ++ (arrays 1 4 ∷ [])
 ariRows message = arrays 2 2 ∷ []
@@ -134,14 +135,14 @@ anywhere message = false
 anywhere inside = true
 anywhere param = true
 
--- "Types 20 and 21 stand outermost only."
+-- R44
 abbrev pub outermost : Place → Bool
 outermost alone = true
 outermost message = true
 outermost inside = false
 outermost param = false
 
--- LABEL: "only within an object reference's parameters, at any depth"
+-- R35: LABEL
 abbrev pub inParams : Place → Bool
 inParams alone = false
 inParams message = false
@@ -205,7 +206,7 @@ referenceLevel a = cond (eqb a 1) (due namespace 0) (due (objectNamespace (eqb a
 abbrev pub ariLevel : Place → ℕ → Level
 ariLevel w a = cond (eqb a 2) (due (type w) 0) (referenceLevel a)
 
--- AC: "array of ARIs"; EXECSET: "array: nonce, then object references"; RPTSET: "array: nonce, integer, then reports"
+-- R37, R39, R40: the members of AC, EXECSET and RPTSET
 abbrev pub valueLevel : ℕ → Place → ℕ → Level
 valueLevel t w a = cond (eqb t 20) (due (nonce 20) (a - 1)) (cond (eqb t 21) (due (nonce 21) (a - 2)) (many (ari w) a))
 
@@ -233,7 +234,7 @@ asking rs f g = record { rows = rs; spelling = utf8; own = none; asks = true; in
 
 unfoldable pub rule : Slot → Rule
 unfolding types
--- "the unsigned 1": another unsigned is 8
+-- R45: 1; another unsigned is 8 (R58)
 rule version = record { rows = uintTo max64 ∷ []; spelling = utf8; own = one; asks = false; inArray = λ a. done; inMap = λ a. done; next = λ a n. done }
 rule (ari w) = asking (ariRows w) (ariLevel w) (many (ari w))
 rule (type w) = record {
@@ -258,7 +259,7 @@ rule namespace = leaf namespaces namespaceName done
 rule (objectNamespace p) = leaf objectNamespaces namespaceName (due (objectType p) 0)
 rule (objectType p) = leaf objectTypes identifier (due (objectId p) 0)
 rule (objectId p) = leaf objectIds identifier (cond p (due params 0) done)
--- "Parameters: a non-empty array of ARIs or a non-empty map."
+-- R29
 rule params = record {
   rows = arrays 0 max64 ∷ anyMap ∷ [];
   spelling = utf8;
@@ -268,7 +269,7 @@ rule params = record {
   inMap = many (key param);
   next = λ a n. done;
 }
--- each key greater than the one before; "Map values are ARIs."
+-- R31, R32
 rule (key w) = record {
   rows = keys;
   spelling = utf8;
@@ -282,7 +283,7 @@ rule (entry w) = asking (ariRows w) (ariLevel w) (many (key w))
 rule (nonce t) = counting nonces utf8 (λ n. cond (eqb t 21) (due setTime n) (many target n))
 rule setTime = counting vast utf8 (many report)
 rule target = asking (arrays 3 4 ∷ []) referenceLevel (many target)
--- "A report is an array: integer, object reference, then ARIs."
+-- R42
 rule report = record {
   rows = arrays 2 max64 ∷ [];
   spelling = utf8;
@@ -307,6 +308,6 @@ fits k a (r ∷ rs) = fitsRow k a r || fits k a rs
 unfoldable pub members : Slot → Lead → Level
 members s l = cond (eqb (l .kind) array) (rule s .inArray (l .arg)) (cond (eqb (l .kind) map) (rule s .inMap (l .arg)) done)
 
--- "A reference is an array of length 1, 3 or 4 where the rules above ask for an ARI or an object reference"
+-- R77
 unfoldable pub isReference : Slot → Lead → Bool
 isReference s l = rule s .asks && (eqb (l .kind) array && not (eqb (l .arg) 2))

@@ -1,6 +1,6 @@
 -- Numbers in plain decimal, written and read again, once over the width: what holds of one digit, and of a tenth's digits and one more, holds of all.
 use Prim.Native.Nat.{ℕ, zero, suc, _+_, _-_, _*_, _/_, _%_, _^_, _≤_, _<_}
-use mathlib.Core.Path.{_≡_, refl, sym, _∙_, ap}
+use mathlib.Core.Path.{_≡_, refl, ap}
 use mathlib.Core.Bool.{Bool, true, false, _&&_, _||_, cond}
 use mathlib.Core.List.{List, [], _∷_, _++_}
 use native.Mathlib.Omega.{arith}
@@ -107,7 +107,7 @@ reads = by-digits Reads one more
         first [] g k = absurd (omega arith)
         first (x ∷ u) g k = k
 
--- "no leading zero": what is written is read
+-- no leading zero: what is written is read
 pub decimal-back : (n : ℕ) → n ≤ max64 → unsignedOf (decimal n) ≡ Value n
 unfolding unsignedOf decimal
 decimal-back n h = go (reads 19 n (omega arith)) (ltb n 10) refl

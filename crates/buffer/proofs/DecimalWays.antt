@@ -1,11 +1,10 @@
 -- The ways through the functions that write and read decimals; the premises are the facts that the code leaves.
 use Prim.Native.Nat.{ℕ, zero, suc, _+_, _-_, _*_, _/_, _%_, _^_, _≤_, _<_}
-use mathlib.Core.Path.{_≡_, refl, sym, _∙_, ap}
+use mathlib.Core.Path.{_≡_, refl, ap}
 use mathlib.Core.List.{List, [], _∷_}
 use native.Mathlib.Omega.{arith}
 use native.Mathlib.Numerals.{add-one}
-use lib.ListN.{length, drop, getD, length-drop}
-use lib.Seq.{take-all}
+use lib.ListN.{length, drop, getD}
 use borrow.Author.Tests.{lt-ltb, le-ltb, le-leb, lt-leb, ne-eqb}
 use Rattle.buffer.specs.declared.Number.{Number}
 use Rattle.buffer.specs.declared.Number.the-variants.{Value, Bad}
@@ -13,7 +12,7 @@ use Rattle.buffer.specs.Put.{Put}
 use Rattle.buffer.specs.Bytes.{part}
 use Rattle.buffer.specs.Decimal.{digits, decimal, pushOf, onward, digitsOf, unsignedOf, positiveOf, negativeOf, signedOf}
 use Rattle.buffer.proofs.Putting.{put-size, put-both}
-use Rattle.buffer.proofs.RunLaws.{here, beyond}
+use Rattle.buffer.proofs.RunLaws.{here, beyond, part-all}
 use Rattle.buffer.proofs.DecimalLaws.{tenth-lt}
 
 -- a number's digits are put
@@ -138,11 +137,8 @@ module _ (t : List ℕ) where
   signed-cons : 0 < length t → signedOf t ≡ signedOf (getD t 0 0 ∷ drop 1 t)
   signed-cons h = ap signedOf (here t 0 h)
 
-  part-all : part t 1 (length t) ≡ drop 1 t
-  part-all = take-all (length t - 1) (drop 1 t) (rw (length-drop 1 t) (omega arith))
-
   pub signed-minus : {n r : Number} → (length t ≡ 0 → ⊥) → getD t 0 0 ≡ 45 → n ≡ unsignedOf (part t 1 (length t)) → r ≡ negativeOf n → r ≡ signedOf t
-  signed-minus h e f g = rw (signed-cons (omega arith), e, ← part-all, ← f) g
+  signed-minus h e f g = rw (signed-cons (omega arith), e, ← part-all t 1, ← f) g
 
   pub signed-plain : {n r : Number} → (length t ≡ 0 → ⊥) → (getD t 0 0 ≡ 45 → ⊥) → n ≡ unsignedOf t → r ≡ positiveOf n → r ≡ signedOf t
   signed-plain h e f g = rw (signed-cons (omega arith), ne-eqb (getD t 0 0) 45 e, ← here t 0 (omega arith), ← f) g

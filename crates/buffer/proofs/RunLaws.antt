@@ -5,8 +5,8 @@ use mathlib.Core.Bool.{Bool, true, false, cond}
 use mathlib.Core.List.{List, [], _∷_, _++_}
 use native.Mathlib.Omega.{arith}
 use native.Mathlib.Numerals.{add-one}
-use lib.ListN.{length, drop, getD, drop-of-length-le}
-use lib.Seq.{drop-cons}
+use lib.ListN.{length, drop, getD, drop-of-length-le, length-drop}
+use lib.Seq.{drop-cons, take-all}
 use Rattle.buffer.specs.Bytes.{part, all}
 use Rattle.buffer.specs.Runs.{front, past, RunTo}
 use Rattle.buffer.proofs.ByteLaws.{and-true}
@@ -25,6 +25,9 @@ pub part-cons : (t : List ℕ) (i e : ℕ) → i < e → e ≤ length t → part
 part-cons t i e h g =
     let q : e - i ≡ suc (e - (i + 1)) = omega arith in
     rw (here t i (omega arith), q)
+
+pub part-all : (t : List ℕ) (from : ℕ) → part t from (length t) ≡ drop from t
+part-all t from = take-all (length t - from) (drop from t) (rw (length-drop from t) (omega arith))
 
 module _ (p : ℕ → Bool) where
   module _ (x : ℕ) (u : List ℕ) where

@@ -260,17 +260,13 @@ key-own b e = go (getHead b) refl
     go (bad r) q = refl
     go (got l) q = counts q (leb (l .kind) 5) refl
 
--- Heads in their shortest form.
-pub record Small (k a : ℕ) : Type 0 where
-  pub kinds : k ≤ simple
-  pub values : k ≡ simple → a < 24
-
-pub head-bytes : {k a : ℕ} → Small k a → headBytes k a ≡ leadBytes (leadOf k a)
+-- A number, a length or a simple value has a head in its shortest form.
+pub head-bytes : {k a : ℕ} → k ≤ simple → (k ≡ simple → a < 24) → headBytes k a ≡ leadBytes (leadOf k a)
 unfolding headBytes
-head-bytes {k} {a} s = go (leb k 5) refl
+head-bytes {k} {a} h v = go (leb k 5) refl
   where
     go : (t : Bool) → leb k 5 ≡ t → cond (t || (eqb k 6 && ltb a 24)) (leadBytes (leadOf k a)) [] ≡ leadBytes (leadOf k a)
     go true e = refl
     go false e =
-        let q : k ≡ 6 = omega (arith, leb-false k 5 e, s .kinds) in
-        rw (eq-eqb k 6 q, lt-ltb a 24 (s .values q))
+        let q : k ≡ 6 = omega (arith, leb-false k 5 e) in
+        rw (eq-eqb k 6 q, lt-ltb a 24 (v q))

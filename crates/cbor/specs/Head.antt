@@ -1,4 +1,4 @@
--- Item heads: document 01, 'Heads', and the tests 2, 3 and 4. Interface: the kinds, Lead, size, leadBytes, shortBytes, headBytes, keyBytes, keyOf, getHead, Sound,
+-- Item heads: R9 to R19, and the tests 2, 3 and 4 (R52 to R54). Interface: the kinds, Lead, size, leadBytes, shortBytes, headBytes, keyBytes, keyOf, getHead, Sound,
 -- stringSize, isContainer, arity; the others are the parts of these.
 use Prim.Native.Nat.{ℕ, suc, _+_, _-_, _*_, _/_, _%_, _^_, _<_, _≤_}
 use mathlib.Core.Path.{_≡_}
@@ -50,7 +50,7 @@ pub record Lead : Type 0 where
 unfoldable pub width : ℕ → ℕ
 width i = cond (eqb i 24) 1 (cond (eqb i 25) 2 (cond (eqb i 26) 4 (cond (eqb i 27) 8 0)))
 
--- "A length or number uses the shortest head that holds it": its info
+-- R13: the info of the shortest head
 unfoldable pub shortest : ℕ → ℕ
 shortest a = cond (ltb a 24) a (cond (ltb a 256) 24 (cond (ltb a 65536) 25 (cond (ltb a 4294967296) 26 27)))
 
@@ -90,31 +90,29 @@ keyBytes l str = shortBytes (l .kind) (l .arg) ++ str
 abbrev pub divides : ℕ → ℕ → Bool
 divides p m = eqb (m % 2 ^ p) 0
 
--- "fa (exponent e, fraction m) is too long if it is a zero or an infinity; if 113 <= e <= 142 and 2^13 divides m; or if 103 <= e <= 112 and
--- 2^(126-e) divides m"; and with exponent 255 the others are NaNs
+-- R18, of exponent e and fraction m; and with exponent 255 the others are NaNs
 unfoldable pub badSingle : ℕ → ℕ → Bool
 badSingle e m = (eqb e 0 && eqb m 0) || (eqb e 255 || ((within 113 142 e && divides 13 m) || (within 103 112 e && divides (126 - e) m)))
 
--- "fb is too long if it is a zero or an infinity; if 897 <= e <= 1150 and 2^29 divides m; or if 874 <= e <= 896 and 2^(926-e) divides m";
--- and with exponent 2047 the others are NaNs
+-- R19; and with exponent 2047 the others are NaNs
 unfoldable pub badDouble : ℕ → ℕ → Bool
 badDouble e m = (eqb e 0 && eqb m 0) || (eqb e 2047 || ((within 897 1150 e && divides 29 m) || (within 874 896 e && divides (926 - e) m)))
 
--- "The only NaN is f97e00"
+-- R17
 unfoldable pub badHalf : ℕ → Bool
 badHalf a = eqb (a / 2 ^ 10 % 32) 31 && (not (eqb (a % 2 ^ 10) 0) && not (eqb a 0x7e00))
 
--- "A float has the shortest of its three sizes that keeps the number": this one has not, or it is another NaN
+-- R16: not the shortest of its sizes, or another NaN
 unfoldable pub badFloat : ℕ → ℕ → Bool
 badFloat k a =
     (eqb k half && badHalf a)
     || ((eqb k single && badSingle (a / 2 ^ 23 % 256) (a % 2 ^ 23)) || (eqb k double && badDouble (a / 2 ^ 52 % 2048) (a % 2 ^ 52)))
 
--- test 3: "head not in use: info 28 to 31, a tag, another simple value (f8 too)"
+-- test 3: R53
 unfoldable pub unused : ℕ → ℕ → Bool
 unused m i = leb 28 i || (eqb m 6 || (leb 8 m || (eqb m 7 && (ltb i 20 || eqb i 24))))
 
--- test 4: "head or float not shortest, or another NaN"
+-- test 4: R54
 unfoldable pub notShortest : ℕ → ℕ → ℕ → Bool
 notShortest i k a = (leb k map && not (eqb (shortest a) i)) || badFloat k a
 
@@ -130,7 +128,7 @@ getFrom m i bs =
     (cond (notShortest i (kindOf m i) (argument i bs)) (bad 4)
     (got (record { info = i; kind = kindOf m i; arg = argument i bs }))))
 
--- "the input ends where a head is due, or inside its argument" is 2
+-- test 2: R52
 unfoldable pub getHead : List ℕ → Got
 getHead [] = bad 2
 getHead (b ∷ bs) = getFrom (b / 32) (b % 32) bs
@@ -143,13 +141,13 @@ keyBy (bad r) b = b
 unfoldable pub keyOf : List ℕ → List ℕ
 keyOf b = keyBy (getHead b) b
 
--- the heads that may be written: document 01, 'Heads', with no reading in it
+-- the heads that may be written: R9 to R19, with no reading in it
 pub data Sound (l : Lead) : Type 0 where
-  -- "Major types 0 to 5", "Unsigned numbers go to 2^64 - 1"; the range of negative numbers is test 7's
+  -- R10, R13, R14; the range of negative numbers is test 7's
   counted : l .kind ≤ map → l .arg < 2 ^ 64 → l .info ≡ shortest (l .arg) → Sound l
-  -- "simple values 20 to 23"
+  -- R11
   a-simple : l .kind ≡ simple → 20 ≤ l .arg → l .arg ≤ 23 → l .info ≡ l .arg → Sound l
-  -- "floats f9, fa, fb"
+  -- R12, R16
   a-float : half ≤ l .kind → l .kind ≤ double → l .info ≡ l .kind + 18 → l .arg < 256 ^ width (l .info) → badFloat (l .kind) (l .arg) ≡ false → Sound l
 
 -- the bytes that follow a head as its string

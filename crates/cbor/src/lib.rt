@@ -1,4 +1,4 @@
-// CBOR item heads and UTF-8, as document 01 narrows RFC 8949 and RFC 3629.
+// CBOR item heads (RFC 8949, narrowed by R9 to R19), keys, and UTF-8 (RFC 3629).
 ghost use mathlib.Core.Path.{_≡_};
 ghost use Prim.Native.Nat.{_+_, _^_, _<_, _≤_, _%_, _/_};
 ghost use lib.ListN.{length, drop, getD};

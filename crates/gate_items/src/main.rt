@@ -1,6 +1,8 @@
 // Reads a message from standard input, or with the argument `single` a single ARI, and writes a line for each item, or the
 // input's refusal.
 
+use ari::Input;
+
 // What the arguments ask for.
 enum Choice {
     Message,
@@ -24,12 +26,15 @@ fn asked() -> Choice {
     Choice::Unknown
 }
 
-fn show_input(s: &[u8], single: bool, out: &mut [u8]) {
-    let a = print::check(s, single);
+// The items of an accepted input, by the words of its table, or its refusal.
+fn show_input(s: &[u8], input: Input, entries: &mut [u64], out: &mut [u8]) {
+    let a = reader::keep(input, ari::LIMITS, s, entries);
     match a {
         reader::Answer::Accepted(count) => {
-            let p = print::items(out, 0, s, single, count, b"  ");
-            print::flush(out, p);
+            if count <= entries.len() {
+                let p = print::items(out, 0, s, &entries[0..count], b"  ");
+                print::flush(out, p);
+            }
         }
         reader::Answer::Refused { number, place } => {
             let p = print::refused(out, 0, number, place);
@@ -39,17 +44,18 @@ fn show_input(s: &[u8], single: bool, out: &mut [u8]) {
 }
 
 // At most one byte past the limit is read.
-fn show_all(single: bool) {
-    let mut input = [0u8; 4097];
+fn show_all(kind: Input) {
+    let mut input = [0u8; ari::BYTES + 1];
     let n = io::read_full(0, &mut input);
+    let mut entries = [0u64; ari::ITEMS];
     let mut out = io::buffer();
-    show_input(&input[..n], single, &mut out);
+    show_input(&input[..n], kind, &mut entries, &mut out);
 }
 
 fn main() {
     match asked() {
-        Choice::Message => show_all(false),
-        Choice::Single => show_all(true),
+        Choice::Message => show_all(Input::Message),
+        Choice::Single => show_all(Input::Single),
         Choice::Unknown => {
             io::write_all(2, b"usage: gate items [single]\n");
         }

@@ -1,10 +1,9 @@
-// Reads a message from standard input and writes its references as document 01 has them, or the message's refusal.
+// Reads a message from standard input and writes its references (R82), or the message's refusal.
 
-// No message has more than 1,024 references.
 fn lines(out: &mut [u8], at: usize, s: &[u8], room: &[u8], listed: usize) -> usize {
     let mut p = at;
     let mut k = 0;
-    while k < listed && k < 1024 {
+    while k < listed && k < listing::ENTRIES {
         p = print::fresh_line(out, p);
         p = print::entry(out, p, s, room, k * 24);
         k += 1;
@@ -34,9 +33,9 @@ fn show_listing(s: &[u8], out: &mut [u8], room: &mut [u8]) {
 }
 
 fn main() {
-    let mut input = [0u8; 4097];
+    let mut input = [0u8; ari::BYTES + 1];
     let n = io::read_full(0, &mut input);
-    let mut room = [0u8; 24576];
+    let mut room = [0u8; listing::ROOM];
     let mut out = io::buffer();
     show_listing(&input[..n], &mut out, &mut room);
 }

@@ -2,16 +2,16 @@
 // under the grant table whose text is in the file TABLE: `yes`, `no` with the number and the line of the first entry that isn't
 // granted, or the message's refusal.
 
-fn show_no(s: &[u8], k: usize, listing: &mut [u8], out: &mut [u8]) {
+fn show_no(s: &[u8], k: usize, room: &mut [u8], out: &mut [u8]) {
     let a = buffer::put_all(out, 0, b"no ");
     let b = print::field(out, a, k as u64);
-    match listing::list_message(s, listing) {
+    match listing::list_message(s, room) {
         listing::Listed::Entries {
             listed: _,
             count: _,
         } => {
-            if k < 1024 {
-                let c = print::entry(out, b, s, listing, k * 24);
+            if k < listing::ENTRIES {
+                let c = print::entry(out, b, s, room, k * 24);
                 print::flush(out, c);
             }
         }
@@ -22,14 +22,14 @@ fn show_no(s: &[u8], k: usize, listing: &mut [u8], out: &mut [u8]) {
     }
 }
 
-fn judge(s: &[u8], table: &[u8], subscriber: u64, listing: &mut [u8], out: &mut [u8]) {
-    match listing::release(s, table, subscriber) {
-        listing::Released::Yes => {
+fn judge(s: &[u8], grants: &[u8], subscriber: u64, room: &mut [u8], out: &mut [u8]) {
+    match release::release_message(s, grants, subscriber) {
+        release::Released::Yes => {
             let a = buffer::put_all(out, 0, b"yes\n");
             print::flush(out, a);
         }
-        listing::Released::No(k) => show_no(s, k, listing, out),
-        listing::Released::Refused { number, place } => {
+        release::Released::No { entry } => show_no(s, entry, room, out),
+        release::Released::Refused { number, place } => {
             let a = print::refused(out, 0, number, place);
             print::flush(out, a);
         }
@@ -37,12 +37,12 @@ fn judge(s: &[u8], table: &[u8], subscriber: u64, listing: &mut [u8], out: &mut 
 }
 
 // At most one byte past the limit is read.
-fn judge_input(table: &[u8], subscriber: u64) {
-    let mut input = [0u8; 4097];
+fn judge_input(grants: &[u8], subscriber: u64) {
+    let mut input = [0u8; ari::BYTES + 1];
     let n = io::read_full(0, &mut input);
-    let mut listing = [0u8; 24576];
+    let mut room = [0u8; listing::ROOM];
     let mut out = io::buffer();
-    judge(&input[..n], table, subscriber, &mut listing, &mut out);
+    judge(&input[..n], grants, subscriber, &mut room, &mut out);
 }
 
 fn judge_rows(room: &[u8], rows: usize, subscriber: u64) {
@@ -72,15 +72,15 @@ fn judge_under(path: &[u8], subscriber: u64) {
 }
 
 // The second argument: a number as in a table.
-fn subscriber() -> grant_text::Number {
+fn subscriber() -> buffer::Number {
     let mut word = [0u8; 32];
     let n = os::arg(2, &mut word);
-    grant_text::unsigned(&word[..n])
+    buffer::unsigned(&word[..n])
 }
 
 fn run() {
     match subscriber() {
-        grant_text::Number::Value(s) => {
+        buffer::Number::Value(s) => {
             let mut path = io::buffer();
             let n = os::arg(1, &mut path);
             if os::errno() != 0 {
@@ -89,7 +89,7 @@ fn run() {
             }
             judge_under(&path[..n], s);
         }
-        grant_text::Number::Bad => {
+        buffer::Number::Bad => {
             io::write_all(
                 2,
                 b"SUBSCRIBER is no number from 0 to 18446744073709551615\n",

@@ -8,6 +8,9 @@ enum Choice {
     Unknown,
 }
 
+// Room for the argument: more than `read` has, so that no longer word passes for it.
+const WORD: usize = 8;
+
 fn asked() -> Choice {
     let count = os::arg_count();
     if count < 2 {
@@ -16,7 +19,7 @@ fn asked() -> Choice {
     if 2 < count {
         return Choice::Unknown;
     }
-    let mut word = [0u8; 8];
+    let mut word = [0u8; WORD];
     let n = os::arg(1, &mut word);
     if check::same(&word[..n], b"read") {
         return Choice::Read;
@@ -50,17 +53,17 @@ fn read_ari(text: &[u8], room: &mut [u8]) {
 
 // At most one byte past the limit of a binary form is read.
 fn write_input() {
-    let mut input = [0u8; 4097];
+    let mut input = [0u8; ari::BYTES + 1];
     let n = io::read_full(0, &mut input);
-    let mut room = [0u8; 32768];
+    let mut room = [0u8; ari::TEXT];
     write_ari(&input[..n], &mut room);
 }
 
 // At most one byte past the limit of a text is read.
 fn read_input() {
-    let mut input = [0u8; 32769];
+    let mut input = [0u8; ari::TEXT + 1];
     let n = io::read_full(0, &mut input);
-    let mut room = [0u8; 4096];
+    let mut room = [0u8; ari::BYTES];
     read_ari(&input[..n], &mut room);
 }
 

@@ -4,11 +4,12 @@
 ghost use Prim.Native.Nat.{_+_, _≤_};
 ghost use lib.ListN.{length};
 ghost use Rattle.gate_vectors.specs.Within.{Roomy};
+use ari::Input;
 
 // What a line asks for: the check or the items, of a single ARI or of a message; an ARI's text; a text's ARI.
 enum Call {
-    Check { single: bool },
-    Items { single: bool },
+    Check { input: Input },
+    Items { input: Input },
     Write,
     Read,
     Unknown,
@@ -16,16 +17,24 @@ enum Call {
 
 fn call_of(word: &[u8]) -> Call {
     if check::same(word, b"single") {
-        return Call::Check { single: true };
+        return Call::Check {
+            input: Input::Single,
+        };
     }
     if check::same(word, b"message") {
-        return Call::Check { single: false };
+        return Call::Check {
+            input: Input::Message,
+        };
     }
     if check::same(word, b"items-single") {
-        return Call::Items { single: true };
+        return Call::Items {
+            input: Input::Single,
+        };
     }
     if check::same(word, b"items-message") {
-        return Call::Items { single: false };
+        return Call::Items {
+            input: Input::Message,
+        };
     }
     if check::same(word, b"write") {
         return Call::Write;
@@ -79,21 +88,29 @@ fn unhex(digits: &[u8], buffer: &mut [u8]) -> Bytes
     Bytes::Count(count)
 }
 
-fn check_input(s: &[u8], single: bool, out: &mut [u8], at: usize) -> usize {
-    let a = print::check(s, single);
+fn check_input(s: &[u8], input: Input, out: &mut [u8], at: usize) -> usize {
+    let a = reader::check(input, ari::LIMITS, s);
     print::answer(out, at, a)
 }
 
-fn list_input(s: &[u8], single: bool, out: &mut [u8], at: usize) -> usize {
-    let a = print::check(s, single);
+fn list_in(s: &[u8], input: Input, entries: &mut [u64], out: &mut [u8], at: usize) -> usize {
+    let a = reader::keep(input, ari::LIMITS, s, entries);
     let reader::Answer::Accepted(count) = a else {
         return print::answer(out, at, a);
     };
-    let p = print::items(out, at, s, single, count, b"");
+    if entries.len() < count {
+        return at;
+    }
+    let p = print::items(out, at, s, &entries[0..count], b"");
     print::answer(out, p, a)
 }
 
-fn refused_line(out: &mut [u8], at: usize, number: u64, place: usize) -> usize {
+fn list_input(s: &[u8], input: Input, out: &mut [u8], at: usize) -> usize {
+    let mut entries = [0u64; ari::ITEMS];
+    list_in(s, input, &mut entries, out, at)
+}
+
+fn refused_line(out: &mut [u8], at: usize, number: u8, place: usize) -> usize {
     let p = print::fresh_line(out, at);
     print::refused(out, p, number, place)
 }
@@ -146,12 +163,12 @@ fn read_in(t: &[u8], room: &mut [u8], out: &mut [u8], at: usize) -> usize {
 }
 
 fn write_input(s: &[u8], out: &mut [u8], at: usize) -> usize {
-    let mut room = [0u8; 32768];
+    let mut room = [0u8; ari::TEXT];
     write_in(s, &mut room, out, at)
 }
 
 fn read_input(t: &[u8], out: &mut [u8], at: usize) -> usize {
-    let mut room = [0u8; 4096];
+    let mut room = [0u8; ari::BYTES];
     read_in(t, &mut room, out, at)
 }
 
@@ -163,8 +180,8 @@ fn bad_line(out: &mut [u8], at: usize, line: u64) -> usize {
 
 fn answer_call(call: Call, s: &[u8], line: u64, out: &mut [u8], at: usize) -> usize {
     match call {
-        Call::Check { single } => check_input(s, single, out, at),
-        Call::Items { single } => list_input(s, single, out, at),
+        Call::Check { input } => check_input(s, input, out, at),
+        Call::Items { input } => list_input(s, input, out, at),
         Call::Write => write_input(s, out, at),
         Call::Read => read_input(s, out, at),
         Call::Unknown => bad_line(out, at, line),

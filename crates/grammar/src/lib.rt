@@ -1,4 +1,4 @@
-// The slots of document 01's grammar as numbers, and the grammar as one table: a word for each slot.
+// The slots of the grammar (R21 to R46) as numbers, and the grammar as one table: a word for each slot.
 //
 // A slot says what is due at a place. Its word holds, from the lowest bits: for each of the ten kinds of heads five bits, the number of the
 // range that the argument must lie in (test 7); at 50 the slot that may follow, seven bits; at 57, 58 and 59 how it follows: it takes one of

@@ -4,30 +4,22 @@ use mathlib.Core.Path.{_≡_, refl, sym, _∙_, ap}
 use mathlib.Core.Bool.{Bool, true, false, not, cond}
 use mathlib.Core.List.{List, [], _∷_, _++_, map}
 use native.Mathlib.Omega.{arith}
-use native.Mathlib.Numerals.{add-one}
-use lib.ListN.{length, take, drop, getD, drop-of-length-le, length-drop}
-use lib.Seq.{drop-cons, sets, length-sets}
+use lib.ListN.{length, take, drop, length-drop}
+use lib.Seq.{sets, length-sets}
 use lib.Dec.{leb, eqb}
 use borrow.Author.Tests.{le-leb, lt-leb}
-use Rattle.buffer.specs.Bytes.{be}
-use Rattle.buffer.proofs.ByteLaws.{length-be}
+use Rattle.buffer.specs.Bytes.{be, part, storeAt}
 use Rattle.buffer.proofs.Putting.{sets-append}
-use Rattle.listing.specs.Answers.{wordPut}
-use Rattle.listing.proofs.Stored.{joined, word-roomy}
+use Rattle.buffer.specs.Runs.{front, past, RunTo}
+use Rattle.buffer.proofs.Numbers.{joined, store-room}
+use Rattle.buffer.proofs.RunLaws.{here, beyond}
 use Rattle.grant_text.specs.declared.Line.{Line}
 use Rattle.grant_text.specs.declared.Line.the-variants.{Blank, Grant, Bad}
 use Rattle.grant_text.specs.declared.Taken.{Taken}
 use Rattle.grant_text.specs.declared.Table.{Table}
 use Rattle.grant_text.specs.declared.Table.the-variants as table
-use Rattle.reader.specs.Steps.{part}
-use Rattle.grant_text.specs.Rows.{isOf, front, past, RunTo, rowOf}
+use Rattle.grant_text.specs.Rows.{isOf, rowOf}
 use Rattle.grant_text.specs.Table.{onto, lines, contents, gather, tableOf, packed, roomAfter, Turned, TakenAt}
-
-here : (t : List ℕ) (i : ℕ) → i < length t → drop i t ≡ getD t i 0 ∷ drop (i + 1) t
-here t i h = rw (add-one i) (drop-cons t i 0 h)
-
-beyond : (t : List ℕ) (i : ℕ) → length t ≤ i → drop i t ≡ []
-beyond t i h = drop-of-length-le t h
 
 -- a line ends at its end, or with the text
 abbrev inLine : ℕ → Bool
@@ -89,11 +81,11 @@ module _ (t : List ℕ) (a e : ℕ) {l : Line} (g : a < length t) (w : RunTo (is
   }
 
 -- a row as it is stored
-pub row-stored : (o : List ℕ) (at s n : ℕ) {o₁ o₂ : List ℕ} → at + 16 ≤ length o → o₁ ≡ wordPut o at s → o₂ ≡ wordPut o₁ (at + 8) n
+pub row-stored : (o : List ℕ) (at s n : ℕ) {o₁ o₂ : List ℕ} → at + 16 ≤ length o → o₁ ≡ storeAt 8 o at s → o₂ ≡ storeAt 8 o₁ (at + 8) n
     → o₂ ≡ sets o at (be 8 s ++ be 8 n)
 row-stored o at s n h e f =
     let l : at + 8 + 8 ≤ length (sets o at (be 8 s)) = rw (length-sets o at (be 8 s)) (omega arith) in
-    rw (f, e, word-roomy o at s (omega arith), word-roomy (sets o at (be 8 s)) (at + 8) n l) (joined o at 8 s (be 8 n))
+    rw (f, e, store-room 8 o at s (omega arith), store-room 8 (sets o at (be 8 s)) (at + 8) n l) (joined o at 8 s (be 8 n))
 
 -- or left
 module _ {x : Bool} (o u : List ℕ) (at : ℕ) where

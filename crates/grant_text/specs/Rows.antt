@@ -1,40 +1,36 @@
--- A line of the table, and the table.
-use Prim.Native.Nat.{ℕ, _≤_}
-use mathlib.Core.Path.{_≡_}
+-- A line of the table. Interface: rowOf. Private to src/: blank, isOf, grantOf, fieldsOf.
+use Prim.Native.Nat.{ℕ}
+use Prim.Native.Char.{code}
 use mathlib.Core.Bool.{Bool, not, _||_, cond}
-use mathlib.Core.List.{List, [], _∷_}
-use lib.ListN.{length, drop}
-use lib.Dec.{ltb, eqb}
-use Rattle.reader.specs.Steps.{part}
-use Rattle.grant_text.specs.declared.Number.{Number}
-use Rattle.grant_text.specs.declared.Number.the-variants as number
+use mathlib.Core.List.{List}
+use lib.ListN.{length}
+use lib.Dec.{eqb}
+use Rattle.buffer.specs.Runs.{front, past}
+use Rattle.buffer.specs.declared.Number.{Number}
+use Rattle.buffer.specs.declared.Number.the-variants as number
+use Rattle.buffer.specs.Decimal.{unsignedOf, signedOf}
 use Rattle.grant_text.specs.declared.Line.{Line}
 use Rattle.grant_text.specs.declared.Line.the-variants.{Blank, Grant, Bad}
-use Rattle.grant_text.specs.Numbers.{unsignedOf, signedOf}
 
 -- a blank is a space or a tab
 unfoldable pub blank : ℕ → Bool
-blank x = eqb x 32 || eqb x 9
+blank x = eqb x (code " ") || eqb x 9
 
--- no '#', a blank, no blank, no line end
+-- the classes that a line is cut at: no '#', a blank, no blank, no line end
+abbrev pub uncommented : ℕ
+uncommented = 0
+
+abbrev pub blanks : ℕ
+blanks = 1
+
+abbrev pub word : ℕ
+word = 2
+
+abbrev pub line : ℕ
+line = 3
+
 unfoldable pub isOf : ℕ → ℕ → Bool
-isOf k x = cond (eqb k 0) (not (eqb x 35)) (cond (eqb k 1) (blank x) (cond (eqb k 2) (not (blank x)) (not (eqb x 10))))
-
--- the longest start with a property; what is behind it
-unfoldable pub front : (ℕ → Bool) → List ℕ → List ℕ
-front p [] = []
-front p (x ∷ t) = let r = front p t in cond (p x) (x ∷ r) []
-
-unfoldable pub past : (ℕ → Bool) → List ℕ → List ℕ
-past p [] = []
-past p (x ∷ t) = let r = past p t in cond (p x) r (x ∷ t)
-
--- that start goes from a to e
-pub record RunTo (p : ℕ → Bool) (t : List ℕ) (a e : ℕ) : Type 0 where
-  pub front-is : front p (drop a t) ≡ part t a e
-  pub past-is : past p (drop a t) ≡ drop e t
-  pub on : a ≤ e
-  pub inside : e ≤ length t
+isOf k x = cond (eqb k uncommented) (not (eqb x (code "#"))) (cond (eqb k blanks) (blank x) (cond (eqb k word) (not (blank x)) (not (eqb x 10))))
 
 abbrev pub grantOf : Number → Number → Line
 grantOf (number.Value s) (number.Value n) = Grant s n
@@ -46,14 +42,14 @@ isEmpty t = eqb (length t) 0
 
 -- two words, and blanks between and around
 abbrev pub wordsOf : List ℕ → List ℕ → Line
-wordsOf t u = cond (isEmpty (past (isOf 1) (past (isOf 2) u))) (grantOf (unsignedOf (front (isOf 2) t)) (signedOf (front (isOf 2) u))) Bad
+wordsOf t u = cond (isEmpty (past (isOf blanks) (past (isOf word) u))) (grantOf (unsignedOf (front (isOf word) t)) (signedOf (front (isOf word) u))) Bad
 
 abbrev pub lineOf : List ℕ → Line
-lineOf t = cond (isEmpty t) Blank (wordsOf t (past (isOf 1) (past (isOf 2) t)))
+lineOf t = cond (isEmpty t) Blank (wordsOf t (past (isOf blanks) (past (isOf word) t)))
 
 unfoldable pub fieldsOf : List ℕ → Line
-fieldsOf t = lineOf (past (isOf 1) t)
+fieldsOf t = lineOf (past (isOf blanks) t)
 
 -- what is before the first '#'
 unfoldable pub rowOf : List ℕ → Line
-rowOf t = fieldsOf (front (isOf 0) t)
+rowOf t = fieldsOf (front (isOf uncommented) t)

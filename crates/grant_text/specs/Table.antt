@@ -36,7 +36,7 @@ gather room k n (Bad ∷ ls) = table.Bad (k + 1)
 unfoldable pub tableOf : List ℕ → ℕ → Table
 tableOf t room = gather room 0 0 (contents t)
 
--- "16 a row, big-endian: subscriber (unsigned, 8), namespace (two's complement, 8)"
+-- R93: 16 bytes a row
 abbrev pub packed : List Line → List ℕ
 packed [] = []
 packed (Blank ∷ ls) = packed ls

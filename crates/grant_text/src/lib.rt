@@ -7,130 +7,37 @@ ghost use Prim.Native.Nat.{_+_, _/_, _≤_, _<_};
 ghost use lib.ListN.{length};
 ghost use lib.Seq.{sets};
 ghost use Rattle.buffer.specs.Bytes.{be};
-ghost use Rattle.grant_text.specs.Numbers.{pushOf, digitsOf, unsignedOf, positiveOf, negativeOf, signedOf};
-ghost use Rattle.grant_text.specs.Rows.{blank, isOf, RunTo, grantOf, fieldsOf, rowOf};
+ghost use Rattle.buffer.specs.Runs.{RunTo};
+ghost use Rattle.grant_text.specs.Rows.{blank, isOf, grantOf, fieldsOf, rowOf};
 ghost use Rattle.grant_text.specs.Table.{TakenAt, tableOf, roomAfter, Turned};
 
-// A number of 64 bits.
-pub enum Number {
-    Value(u64),
-    Bad,
-}
+// The classes of bytes that a line is cut at.
+const UNCOMMENTED: u8 = 0;
 
-// One digit more.
-fn push(n: u64, x: u8) -> Number
-    ensures { λ r. ⌜ r ≡ pushOf n x ⌝ }
-{
-    if x < 48 {
-        return Number::Bad;
-    }
-    if 57 < x {
-        return Number::Bad;
-    }
-    let d = (x - 48) as u64;
-    if n <= (18446744073709551615 - d) / 10 {
-        return Number::Value(n * 10 + d);
-    }
-    Number::Bad
-}
+const BLANK: u8 = 1;
 
-fn digits(t: &[u8]) -> Number
-    ensures { λ r. ⌜ r ≡ digitsOf 0 (now (t .entry)) ⌝ }
-{
-    let mut n = 0;
-    let mut i = 0;
-    while i < t.len() {
-        let p = push(n, t[i]);
-        let Number::Value(m) = p else {
-            return Number::Bad;
-        };
-        n = m;
-        i += 1;
-    }
-    Number::Value(n)
-}
+const WORD: u8 = 2;
 
-// An unsigned number in plain decimal: no sign, no leading zero.
-pub fn unsigned(t: &[u8]) -> Number
-    ensures { λ r. ⌜ r ≡ unsignedOf (now (t .entry)) ⌝ }
-{
-    if t.len() == 0 {
-        return Number::Bad;
-    }
-    if t.len() == 1 {
-        return digits(t);
-    }
-    if t[0] == 48 {
-        return Number::Bad;
-    }
-    digits(t)
-}
-
-fn positive(n: Number) -> Number
-    ensures { λ r. ⌜ r ≡ positiveOf n ⌝ }
-{
-    match n {
-        Number::Value(v) => {
-            if v < 9223372036854775808 {
-                return Number::Value(v);
-            }
-            Number::Bad
-        }
-        Number::Bad => Number::Bad,
-    }
-}
-
-fn negative(n: Number) -> Number
-    ensures { λ r. ⌜ r ≡ negativeOf n ⌝ }
-{
-    match n {
-        Number::Value(v) => {
-            if v == 0 {
-                return Number::Bad;
-            }
-            if v <= 9223372036854775808 {
-                return Number::Value(18446744073709551615 - (v - 1));
-            }
-            Number::Bad
-        }
-        Number::Bad => Number::Bad,
-    }
-}
-
-// A number from -2^63 to 2^63 - 1 in plain decimal, no -0, as its two's complement.
-pub fn signed(t: &[u8]) -> Number
-    ensures { λ r. ⌜ r ≡ signedOf (now (t .entry)) ⌝ }
-{
-    if t.len() == 0 {
-        return Number::Bad;
-    }
-    if t[0] == 45 {
-        let end = t.len();
-        let n = unsigned(&t[1..end]);
-        return negative(n);
-    }
-    let n = unsigned(t);
-    positive(n)
-}
+const LINE: u8 = 3;
 
 fn is_blank(x: u8) -> bool
     ensures { λ r. ⌜ r ≡ blank x ⌝ }
 {
-    if x == 32 {
+    if x == b' ' {
         return true;
     }
-    x == 9
+    x == b'\t'
 }
 
-// Whether a byte is of a class: no `#` (0), a blank (1), no blank (2), no line end (3).
+// Whether a byte is of a class: no `#`, a blank, no blank, no line end.
 fn is(class: u8, x: u8) -> bool
     ensures { λ r. ⌜ r ≡ isOf class x ⌝ }
 {
     match class {
-        0 => x != 35,
-        1 => is_blank(x),
-        2 => !is_blank(x),
-        _ => x != 10,
+        UNCOMMENTED => x != b'#',
+        BLANK => is_blank(x),
+        WORD => !is_blank(x),
+        _ => x != b'\n',
     }
 }
 
@@ -157,13 +64,13 @@ pub enum Line {
     Bad,
 }
 
-fn grant(subscriber: Number, namespace: Number) -> Line
+fn grant(subscriber: buffer::Number, namespace: buffer::Number) -> Line
     ensures { λ r. ⌜ r ≡ grantOf subscriber namespace ⌝ }
 {
-    let Number::Value(s) = subscriber else {
+    let buffer::Number::Value(s) = subscriber else {
         return Line::Bad;
     };
-    let Number::Value(n) = namespace else {
+    let buffer::Number::Value(n) = namespace else {
         return Line::Bad;
     };
     Line::Grant {
@@ -176,19 +83,19 @@ fn grant(subscriber: Number, namespace: Number) -> Line
 fn fields(t: &[u8]) -> Line
     ensures { λ r. ⌜ r ≡ fieldsOf (now (t .entry)) ⌝ }
 {
-    let a = behind(t, 0, 1);
+    let a = behind(t, 0, BLANK);
     if t.len() <= a {
         return Line::Blank;
     }
-    let b = behind(t, a, 2);
-    let c = behind(t, b, 1);
-    let d = behind(t, c, 2);
-    let e = behind(t, d, 1);
+    let b = behind(t, a, WORD);
+    let c = behind(t, b, BLANK);
+    let d = behind(t, c, WORD);
+    let e = behind(t, d, BLANK);
     if e < t.len() {
         return Line::Bad;
     }
-    let s = unsigned(&t[a..b]);
-    let n = signed(&t[c..d]);
+    let s = buffer::unsigned(&t[a..b]);
+    let n = buffer::signed(&t[c..d]);
     grant(s, n)
 }
 
@@ -196,7 +103,7 @@ fn fields(t: &[u8]) -> Line
 pub fn row(line: &[u8]) -> Line
     ensures { λ r. ⌜ r ≡ rowOf (now (line .entry)) ⌝ }
 {
-    let end = behind(line, 0, 0);
+    let end = behind(line, 0, UNCOMMENTED);
     fields(&line[0..end])
 }
 
@@ -210,7 +117,7 @@ fn take_line(t: &[u8], from: usize) -> Taken
     requires { ⌜ from < length (now t) ⌝ }
     ensures { λ r. ⌜ TakenAt (now (t .entry)) from r ⌝ }
 {
-    let end = behind(t, from, 3);
+    let end = behind(t, from, LINE);
     let content = row(&t[from..end]);
     if end < t.len() {
         return Taken {
@@ -226,8 +133,8 @@ fn put_row(out: &mut [u8], at: usize, subscriber: u64, namespace: u64)
     requires { ⌜ at + 16 ≤ length (now out) ⌝ }
     ensures { λ _. ⌜ now (out .exit) ≡ sets (now (out .entry)) at (be 8 subscriber ++ be 8 namespace) ⌝ }
 {
-    listing::put_word(out, at, subscriber);
-    listing::put_word(out, at + 8, namespace);
+    buffer::store8(out, at, subscriber);
+    buffer::store8(out, at + 8, namespace);
 }
 
 fn put_if(write: bool, out: &mut [u8], at: usize, subscriber: u64, namespace: u64)

@@ -15,7 +15,7 @@ use Rattle.ari.specs.Listing.{number}
 use Rattle.grants.specs.Grants.{Grant, some, same, below0, clash, Check, passes, checkFrom, check}
 use Rattle.grants.proofs.Grants.{some-row, row-some, same-is}
 
--- "two rows with different subscribers carry the same negative namespace": -1 - number
+-- R84: -1 - number
 pub record Clash (g h : Grant) : Type 0 where
   pub different : g .subscriber ≡ h .subscriber → ⊥
   pub number : ℕ
@@ -92,12 +92,12 @@ no-clash-passes before i (x ∷ t) n =
         absurd (n x h (Memᴰ·append-right before (List·Memᴰ·head refl)) (Memᴰ·append-left (x ∷ t) k) (clash-is x h q))
     none-there false e = refl
 
--- A table passes exactly if no two rows clash. "Equal rows are allowed."
+-- A table passes exactly if no two rows clash; equal rows do not.
 pub passes-exactly-if : (t : List Grant) → (check t ≡ passes) ↔ NoClash t
 unfolding check
 passes-exactly-if t = (λ e g h k l. no-clash [] 0 t e g h (inr k) l, no-clash-passes [] 0 t)
 
--- Row i is the first "that has such a partner among the rows before it".
+-- Row i is the first that has a partner among the rows before it (R85).
 pub record FirstClash (t : List Grant) (i : ℕ) : Type 0 where
   pub before : List Grant
   pub row : Grant

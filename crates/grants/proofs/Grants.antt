@@ -30,7 +30,7 @@ is-same : (x : ℤ) → same x x ≡ true
 is-same (pos a) = eq-eqb a a refl
 is-same (negsuc a) = eq-eqb a a refl
 
--- "some row holds both"
+-- some row holds both
 pub record Row (t : List Grant) (s : ℕ) (z : ℤ) : Type 0 where
   pub grant : Grant
   pub among : List·Memᴰ grant t
@@ -44,7 +44,7 @@ pub record Granted (t : List Grant) (s : ℕ) (x : Space) : Type 0 where
   pub row : Row t s number-is
 
 module _ (t : List Grant) (s : ℕ) where
-  -- "A number is granted to a subscriber exactly if some row holds both."
+  -- R87
   pub granted-exactly-if : (z : ℤ) → (granted t s (number z) ≡ true) ↔ Row t s z
   granted-exactly-if z = (there, back)
     where
@@ -57,7 +57,7 @@ module _ (t : List Grant) (s : ℕ) where
       back : Row t s z → granted t s (number z) ≡ true
       back r = row-some (holds s z) t (r .among) (rw (eq-eqb (r .grant .subscriber) s (r .theirs), r .this) (is-same z))
 
-  -- "Names and relative references are never granted here."
+  -- R88
   pub names-never : (p : ℕ) (n : List ℕ) → granted t s (name p n) ≡ false
   names-never p n = refl
 

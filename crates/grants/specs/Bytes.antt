@@ -8,7 +8,7 @@ use Rattle.buffer.specs.Bytes.{value}
 use Rattle.ari.specs.Signed.{signed}
 use Rattle.grants.specs.Grants.{Grant, holds, Check, refused, check}
 
--- "16 a row, big-endian: subscriber (unsigned, 8), namespace (two's complement, 8)"
+-- R93: 16 bytes a row
 abbrev pub rowBy : ℕ → ℕ → Grant
 rowBy s n = record { subscriber = s; namespace = signed n }
 
@@ -27,10 +27,10 @@ rowsOf (suc n) b = rowOf b ∷ rowsOf n (drop 16 b)
 unfoldable pub rows : List ℕ → List Grant
 rows b = rowsOf (length b / 16) b
 
--- "A table length that isn't a multiple of 16": "such bytes are no grant table"
+-- R96: no whole rows
 abbrev pub ragged : List ℕ → Bool
 ragged b = not (eqb (length b % 16) 0)
 
--- it "answers 18 with the number of whole rows"
+-- R85, R96
 unfoldable pub checkBytes : List ℕ → Check
 checkBytes b = cond (ragged b) (refused 18 (length b / 16)) (check (rows b))

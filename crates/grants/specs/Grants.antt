@@ -6,7 +6,7 @@ use lib.IntN.{ℤ, pos, negsuc}
 use lib.Dec.{eqb}
 use Rattle.ari.specs.Listing.{Space, number, name, relative}
 
--- "a lent list of grant records, each a subscriber and a namespace number, of any length, in any order"
+-- R83: a grant; a table is a list of them
 pub record Grant : Type 0 where
   pub subscriber : ℕ
   pub namespace : ℤ
@@ -25,7 +25,7 @@ abbrev pub below0 : ℤ → Bool
 below0 (pos a) = false
 below0 (negsuc a) = true
 
--- "two rows with different subscribers carry the same negative namespace"
+-- R84
 abbrev pub clash : Grant → Grant → Bool
 clash g h = not (eqb (h .subscriber) (g .subscriber)) && (same (h .namespace) (g .namespace) && below0 (g .namespace))
 
@@ -33,8 +33,7 @@ pub data Check : Type 0 where
   passes : Check
   refused : ℕ → ℕ → Check  -- number, row
 
--- "Its check answers 18 exactly if two rows" clash; "the number is the first row, counted from 0, that has such a partner among the rows
--- before it. Equal rows are allowed."
+-- R85: 18 with the first row that has a partner before it
 abbrev pub checkFrom : List Grant → ℕ → List Grant → Check
 checkFrom before i [] = passes
 checkFrom before i (g ∷ gs) = let r = checkFrom (before ++ (g ∷ [])) (suc i) gs in cond (some (clash g) before) (refused 18 i) r
@@ -42,11 +41,11 @@ checkFrom before i (g ∷ gs) = let r = checkFrom (before ++ (g ∷ [])) (suc i)
 unfoldable pub check : List Grant → Check
 check = checkFrom [] 0
 
--- "some row holds both"
+-- R87: a row holds both
 abbrev pub holds : ℕ → ℤ → Grant → Bool
 holds s z g = eqb (g .subscriber) s && same (g .namespace) z
 
--- "A number is granted to a subscriber exactly if some row holds both." "Names and relative references are never granted here."
+-- R87, R88
 abbrev pub granted : List Grant → ℕ → Space → Bool
 granted t s (number z) = some (holds s z) t
 granted t s (name p n) = false

@@ -29,7 +29,7 @@ use Rattle.item_records.specs.declared.Record.{Record}
 use Rattle.item_records.specs.declared.Found.{Found}
 use Rattle.item_records.specs.declared.Found.the-variants as found
 
--- "its kind, with that kind's own data (a value, a float's bits, a string's length, or a container's length and whether it is a reference)"
+-- R73: what each case means is in Values
 abbrev pub literalOf : ℕ → ℕ → Literal
 literalOf k a =
     getD (Unsigned a ∷ Negative a ∷ Bytes a ∷ Text a ∷ Simple a ∷ Simple a ∷ Simple a ∷ Half a ∷ Single a ∷ Double a ∷ []) k (Simple a)
@@ -38,7 +38,7 @@ unfoldable pub kindOf : Bool → ℕ → ℕ → Kind
 kindOf true k a = kinds.Reference a
 kindOf false k a = cond (eqb k 4) (kinds.Container (Array a)) (cond (eqb k 5) (kinds.Container (Map a)) (kinds.Literal (literalOf k a)))
 
--- "first byte, byte after its last, open containers around it, and its kind"
+-- R72
 abbrev pub recordOf : Spot → Record
 recordOf x = record {
   first = x .first;
@@ -58,7 +58,7 @@ recordBy b x = record { first = x .first; after = x .after; around = x .around; 
 unfoldable pub recordFrom : List ℕ → ℕ → Record
 recordFrom b e = recordBy b (items.itemOf e)
 
--- "A refused input gives its own refusal before 17": "item number not below the item count; the number is the count"
+-- R75, R67
 abbrev pub foundOf : Input → List ℕ → ℕ → reader.Answer → Found
 foundOf i b k (refuse r p) = found.Refused r p
 foundOf i b k (accept n) = cond (ltb k n) (found.Item (recordOf (spotNumber i b k)) n) (found.Refused 17 n)

@@ -28,29 +28,12 @@ use Rattle.ari.proofs.Demand.{stands-fit}
 use Rattle.ari.proofs.Spots.{All, no-spot, spot-too, all-append, Between, Covers, spot-between, spot-covers, spot-count}
 use Rattle.grammar.specs.declared.Next.{Next}
 use Rattle.grammar.specs.declared.Next.the-variants.{Done, Due}
-use Rattle.grammar.specs.Code.{slots, slotOf, levelOf, fitsCode, asksOf, nextCode, insideCode}
-use Rattle.grammar.proofs.Right.{IsSlot, Slotted, Stands, fits-right, next-right, inside-right, asks-right}
+use Rattle.grammar.specs.Code.{slotOf, levelOf, fitsCode, asksOf, nextCode, insideCode}
+use Rattle.grammar.specs.Code.{IsSlot}
+use Rattle.grammar.proofs.Right.{number-slot, Slotted, Stands, fits-right, next-right, inside-right, asks-right}
 use Rattle.item_table.specs.declared.Item.{Item}
-use Rattle.item_table.specs.Entries.{slotNumber, packed, itemOf, entryOf, referenceBy, noSpot, spotNumber, Tabled}
-
--- a slot's number is the slot's
-numbered : ℕ → List Slot → Bool
-numbered i [] = true
-numbered i (s ∷ ss) = eqb (slotNumber s) i && numbered (suc i) ss
-
-coded : numbered 0 slots ≡ true
-unfolding slotNumber numbered
-coded = refl
-
-number-at : (i j : ℕ) (ss : List Slot) (d : Slot) → numbered i ss ≡ true → j < length ss → slotNumber (getD ss j d) ≡ i + j
-unfolding numbered
-number-at i j [] d c h = absurd (omega arith)
-number-at i zero (s ∷ ss) d c h = eqb-true (slotNumber s) i (and-true (eqb (slotNumber s) i) (numbered (suc i) ss) c .0) ∙ omega arith
-number-at i (suc j) (s ∷ ss) d c h =
-    number-at (suc i) j ss d (and-true (eqb (slotNumber s) i) (numbered (suc i) ss) c .1) (omega arith) ∙ omega arith
-
-pub number-slot : (i : ℕ) → IsSlot i → slotNumber (slotOf i) ≡ i
-number-slot i h = number-at 0 i slots _ coded h ∙ omega arith
+use Rattle.grammar.specs.Code.{slotNumber}
+use Rattle.item_table.specs.Entries.{packed, itemOf, entryOf, referenceBy, noSpot, spotNumber, Tabled}
 
 sound-kind : {l : Lead} → Sound l → l .kind ≤ 9
 sound-kind (counted k a i) = omega arith

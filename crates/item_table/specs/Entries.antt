@@ -1,55 +1,19 @@
--- The table of an input's items. Interface: slotNumber, packed, itemOf, entryOf, referenceBy, spotNumber, Tabled.
+-- The table of an input's items. Interface: packed, itemOf, entryOf, referenceBy, spotNumber, Tabled.
 use Prim.Native.Nat.{ℕ, _+_, _*_, _/_, _%_, _≤_, _<_}
 use mathlib.Core.Path.{_≡_}
-use mathlib.Core.Bool.{Bool, true, false, not, _&&_, cond}
+use mathlib.Core.Bool.{Bool, not, _&&_}
 use mathlib.Core.List.{List, []}
 use lib.ListN.{length, getD}
 use lib.Dec.{eqb}
 use Rattle.cbor.specs.Head.{array}
-use Rattle.ari.specs.Table.{Place, alone, message, inside, param, Slot, version, ari, type, value, namespace, objectNamespace, objectType, objectId, params, key, entry, nonce, setTime, target, report, reportTime, reportSource}
+use Rattle.ari.specs.Table.{version}
 use Rattle.ari.specs.declared.Limits.{Limits}
 use Rattle.ari.specs.declared.Input.{Input}
 use Rattle.ari.specs.Items.{none, Spot, spotsOf}
 use Rattle.ari.specs.Decode.{decode}
 use Rattle.ari.specs.Rules.{Is}
-use Rattle.grammar.specs.Code.{asksOf}
+use Rattle.grammar.specs.Code.{slotNumber, asksOf}
 use Rattle.item_table.specs.declared.Item.{Item}
-
--- the number of a slot
-abbrev placeNumber : Place → ℕ
-placeNumber alone = 0
-placeNumber message = 1
-placeNumber inside = 2
-placeNumber param = 3
-
-abbrev inParam : Place → ℕ
-inParam alone = 0
-inParam message = 0
-inParam inside = 0
-inParam param = 1
-
-abbrev flag : Bool → ℕ
-flag false = 0
-flag true = 1
-
-unfoldable pub slotNumber : Slot → ℕ
-slotNumber version = 0
-slotNumber (ari w) = 1 + placeNumber w
-slotNumber (type w) = 5 + placeNumber w
-slotNumber namespace = 9
-slotNumber (objectNamespace p) = 10 + flag p
-slotNumber (objectType p) = 12 + flag p
-slotNumber (objectId p) = 14 + flag p
-slotNumber params = 16
-slotNumber (key w) = 17 + inParam w
-slotNumber (entry w) = 19 + inParam w
-slotNumber (nonce t) = cond (eqb t 20) 21 22
-slotNumber setTime = 23
-slotNumber target = 24
-slotNumber report = 25
-slotNumber reportTime = 26
-slotNumber reportSource = 27
-slotNumber (value t w) = 28 + inParam w * 22 + t
 
 -- A word: from the lowest bits the first byte (16 bits), the byte after (16), the containers around (8), the slot's number.
 abbrev pub packed : ℕ → ℕ → ℕ → ℕ → ℕ

@@ -5,8 +5,7 @@ use Rattle.buffer.specs.Bytes.{be}
 use Rattle.ari.specs.Signed.{word}
 use Rattle.ari.specs.Listing.{Space, number, name, relative, Entry}
 
--- "24 an entry, big-endian: first byte (4), byte after (4), kind (8: 0 number, 1 name, 2 relative), namespace number or place of the name's
--- head (two's complement, 8; 0 if relative)"
+-- R94: the kind and the number of a namespace, and an entry's 24 bytes
 abbrev pub kindOf : Space → ℕ
 kindOf (number z) = 0
 kindOf (name p s) = 1

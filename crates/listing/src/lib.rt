@@ -25,6 +25,11 @@ pub enum Listed {
     Refused { number: u8, place: usize },
 }
 
+// The most entries of a listing: a reference takes two items at least (ari, proofs/ListingBound.antt). An entry has 24 bytes.
+pub const ENTRIES: usize = ari::ITEMS / 2;
+
+pub const ROOM: usize = ENTRIES * 24;
+
 // A namespace: a number in two's complement; a name, by the place of its head and its length; relative.
 pub enum Namespace {
     Number(u64),

@@ -11,9 +11,9 @@ use Rattle.cbor.specs.Answer.{headAt}
 use Rattle.buffer.specs.Put.{Put}
 use Rattle.print.specs.Texts.{fieldOf}
 use Rattle.buffer.proofs.Putting.{put-nothing, put-both}
-use Rattle.grants.specs.Bytes.{wordAt}
+use Rattle.buffer.specs.Bytes.{loadAt}
 use Rattle.print.specs.Integers.{integerOf}
-use Rattle.print.specs.Entries.{nameOf, spaceOf, lineOf, entryOf}
+use Rattle.print.specs.Entries.{nameOf, spaceOf, entryLine, entryOf}
 
 -- a name by its head
 module _ {xs : List ℕ} {at : ℕ} (s : List ℕ) {h g : Head} (e : h ≡ g) where
@@ -45,8 +45,8 @@ module _ {xs ys : List ℕ} {at r : ℕ} (s : List ℕ) (k w : ℕ) where
   space-number d e p = rw (ne-eqb k 1 d, ne-eqb k 2 e) p
 
 pub line-put : (s : List ℕ) (e k w : ℕ) {xs x₁ x₂ x₃ ys : List ℕ} {at p q r o : ℕ} → Put xs x₁ at p (fieldOf (e / 4294967296)) → Put x₁ x₂ p q (fieldOf (e % 4294967296))
-    → Put x₂ x₃ q r (spaceOf s k w) → Put x₃ ys r o (10 ∷ []) → Put xs ys at o (lineOf s e k w)
-unfolding lineOf
+    → Put x₂ x₃ q r (spaceOf s k w) → Put x₃ ys r o (10 ∷ []) → Put xs ys at o (entryLine s e k w)
+unfolding entryLine
 line-put s e k w a b c d = put-both a (put-both b (put-both c d))
 
 -- an entry where there are 24 bytes
@@ -59,7 +59,7 @@ module _ (s b : List ℕ) (from : ℕ) {xs : List ℕ} {at : ℕ} where
   unfolding entryOf
   entry-past g h = rw (lt-leb (from + 24) (length b) (omega arith)) (put-nothing xs at)
 
-  pub entry-put : {ys : List ℕ} {r x y z : ℕ} → 24 ≤ length b → from ≤ length b - 24 → x ≡ wordAt b from → y ≡ wordAt b (from + 8) → z ≡ wordAt b (from + 16) → Put xs ys at r (lineOf s x y z)
+  pub entry-put : {ys : List ℕ} {r x y z : ℕ} → 24 ≤ length b → from ≤ length b - 24 → x ≡ loadAt 8 b from → y ≡ loadAt 8 b (from + 8) → z ≡ loadAt 8 b (from + 16) → Put xs ys at r (entryLine s x y z)
       → Put xs ys at r (entryOf s b from)
   unfolding entryOf
   entry-put g h e f i p = rw (le-leb (from + 24) (length b) (omega arith), ← e, ← f, ← i) p

@@ -10,7 +10,8 @@ use lib.Dec.{ltb, leb, lit≤}
 use borrow.Author.Tests.{lt-ltb, le-ltb, le-leb, leb-true, leb-false}
 use Rattle.io.specs.Digits.{digits, Fewest, glyph}
 use Rattle.buffer.specs.Put.{Put}
-use Rattle.print.specs.Texts.{numeral, decimalOf, hexOf, negativeOf}
+use Rattle.buffer.specs.Decimal.{decimal, digits as places}
+use Rattle.print.specs.Texts.{numeral, hexOf, negativeOf}
 
 pub numeral-digits : (b f k least n : ℕ) → 1 < b → 1 ≤ k → k ≤ f → Fewest b least n k → digits b k n ≡ numeral b f least n
 unfolding numeral
@@ -47,7 +48,7 @@ numeral-digits b (suc f) (suc (suc k)) least n hb h g p =
     wide true e = rw (le-ltb n b (above (leb-true least 1 e)))
     wide false e = rw e (shut (ltb n b))
 
--- a number below 2 ^ 64 has at most 20 digits, and 16 in base 16
+-- a number below 2 ^ 64 has at most 16 digits in base 16
 short : (b m least n k : ℕ) → 1 < b → 2 ^ 64 ≤ b ^ m → n < 2 ^ 64 → least ≤ m → Fewest b least n k → k ≤ m
 short b m least n k hb hm hn hl f = cases (leb k m) refl
   where
@@ -58,13 +59,7 @@ short b m least n k hb hm hn hl f = cases (leb k m) refl
         let l : b ^ m ≤ b ^ (k - 1) = pow-le-pow-right (omega arith) (omega arith) in
         absurd (omega (arith, l, f .2 (omega arith)))
 
--- what `io::decimal` and `io::hex` leave in their arrays
-pub put-decimal : (n k : ℕ) (u : List ℕ) {xs ys : List ℕ} {at r : ℕ} → n < 2 ^ 64 → Put xs ys at r (take k u) → Fewest 10 1 n k → take k u ≡ digits 10 k n
-    → Put xs ys at r (decimalOf n)
-unfolding decimalOf
-put-decimal n k u h p f e =
-    rw (← numeral-digits 10 20 k 1 n (omega arith) (f .0) (short 10 20 1 n k (omega arith) (lit≤ tt) h (omega arith) f) f, ← e) p
-
+-- what `io::hex` leaves in its array
 pub put-hex : (w n k : ℕ) (u : List ℕ) {xs ys : List ℕ} {at r : ℕ} → n < 2 ^ 64 → Put xs ys at r (take k u) → Fewest 16 (min (max w 1) 16) n k → take k u ≡ digits 16 k n
     → Put xs ys at r (hexOf (min (max w 1) 16) n)
 unfolding hexOf
@@ -75,5 +70,5 @@ put-hex w n k u h p f e =
 pub put-least : {n : ℕ} {xs ys : List ℕ} {at r : ℕ} → n ≡ 18446744073709551615
     → Put xs ys at r (45 ∷ 49 ∷ 56 ∷ 52 ∷ 52 ∷ 54 ∷ 55 ∷ 52 ∷ 52 ∷ 48 ∷ 55 ∷ 51 ∷ 55 ∷ 48 ∷ 57 ∷ 53 ∷ 53 ∷ 49 ∷ 54 ∷ 49 ∷ 54 ∷ [])
     → Put xs ys at r (negativeOf n)
-unfolding decimalOf numeral
+unfolding decimal places
 put-least e p = rw e p

@@ -10,7 +10,8 @@ use Rattle.item_records.specs.declared.Container.{Container}
 use Rattle.item_records.specs.declared.Kind.{Kind}
 use Rattle.buffer.specs.Put.{Put}
 use Rattle.buffer.proofs.Putting.{put-nothing, put-both, put-turn, put-whole, put-size}
-use Rattle.print.specs.Texts.{repeated, decimalOf, simpleOf, literalOf, containerOf, kindOf}
+use Rattle.buffer.specs.Decimal.{decimal}
+use Rattle.print.specs.Texts.{repeated, simpleOf, literalOf, containerOf, kindOf}
 
 pub put-then : {xs ys zs v : List ℕ} {b at p q : ℕ} → Put xs ys at p (b ∷ []) → Put ys zs p q v → Put xs zs at q (b ∷ v)
 put-then a b = put-both a b
@@ -41,7 +42,7 @@ pub of-simple : {n m : ℕ} {xs ys : List ℕ} {at p : ℕ} → n ≡ m → Put 
 of-simple e a = rw e a
 
 pub other-simple : {n : ℕ} {xs ys : List ℕ} {at p : ℕ} → (n ≡ 20 → ⊥) → (n ≡ 21 → ⊥) → (n ≡ 22 → ⊥) → (n ≡ 23 → ⊥)
-    → Put xs ys at p ((115 ∷ 105 ∷ 109 ∷ 112 ∷ 108 ∷ 101 ∷ 32 ∷ []) ++ decimalOf n) → Put xs ys at p (simpleOf n)
+    → Put xs ys at p ((115 ∷ 105 ∷ 109 ∷ 112 ∷ 108 ∷ 101 ∷ 32 ∷ []) ++ decimal n) → Put xs ys at p (simpleOf n)
 other-simple {n} {xs} {ys} {at} {p} a b c d e = rw (ne-eqb n 20 a, ne-eqb n 21 b, ne-eqb n 22 c, ne-eqb n 23 d) e
 
 pub ruleset matching = (of-literal, of-container, of-kind, of-simple, other-simple)

@@ -4,11 +4,12 @@ use mathlib.Core.Path.{_≡_}
 use mathlib.Core.List.{List}
 use borrow.Author.Tests.{lt-ltb, le-ltb}
 use Rattle.buffer.specs.Put.{Put}
-use Rattle.print.specs.Texts.{decimalOf, negativeOf}
+use Rattle.buffer.specs.Decimal.{decimal}
+use Rattle.print.specs.Texts.{negativeOf}
 use Rattle.print.specs.Integers.{integerOf}
 
 module _ {xs ys : List ℕ} {at r : ℕ} (w : ℕ) where
-  pub integer-positive : w < 9223372036854775808 → Put xs ys at r (decimalOf w) → Put xs ys at r (integerOf w)
+  pub integer-positive : w < 9223372036854775808 → Put xs ys at r (decimal w) → Put xs ys at r (integerOf w)
   unfolding integerOf
   integer-positive h p = rw (lt-ltb w 9223372036854775808 h) p
 

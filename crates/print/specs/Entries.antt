@@ -8,7 +8,7 @@ use Rattle.cbor.specs.declared.Head.{Head}
 use Rattle.cbor.specs.declared.Head.the-variants.{Bad, Good}
 use Rattle.cbor.specs.Answer.{headAt}
 use Rattle.print.specs.Texts.{fieldOf}
-use Rattle.grants.specs.Bytes.{wordAt}
+use Rattle.buffer.specs.Bytes.{loadAt}
 use Rattle.print.specs.Integers.{integerOf}
 
 -- the bytes of a name by its head
@@ -16,13 +16,13 @@ abbrev pub nameOf : List ℕ → Head → List ℕ
 nameOf s (Good k a q) = cond (leb (q + a) (length s)) (take a (drop q s)) []
 nameOf s (Bad r) = []
 
--- "A name is printed as its text, a relative one as a full stop."
+-- R82
 unfoldable pub spaceOf : List ℕ → ℕ → ℕ → List ℕ
 spaceOf s k w = cond (eqb k 1) (nameOf s (headAt s w)) (cond (eqb k 2) (46 ∷ []) (integerOf w))
 
-unfoldable pub lineOf : List ℕ → ℕ → ℕ → ℕ → List ℕ
-lineOf s e k w = fieldOf (e / 4294967296) ++ (fieldOf (e % 4294967296) ++ (spaceOf s k w ++ (10 ∷ [])))
+unfoldable pub entryLine : List ℕ → ℕ → ℕ → ℕ → List ℕ
+entryLine s e k w = fieldOf (e / 4294967296) ++ (fieldOf (e % 4294967296) ++ (spaceOf s k w ++ (10 ∷ [])))
 
 -- the entry whose 24 bytes are at a place of a listing, of the message s; nothing where there are not so many
 unfoldable pub entryOf : List ℕ → List ℕ → ℕ → List ℕ
-entryOf s b at = cond (leb (at + 24) (length b)) (lineOf s (wordAt b at) (wordAt b (at + 8)) (wordAt b (at + 16))) []
+entryOf s b at = cond (leb (at + 24) (length b)) (entryLine s (loadAt 8 b at) (loadAt 8 b (at + 8)) (loadAt 8 b (at + 16))) []

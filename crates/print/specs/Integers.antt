@@ -3,8 +3,9 @@ use Prim.Native.Nat.{ℕ, _-_}
 use mathlib.Core.Bool.{cond}
 use mathlib.Core.List.{List}
 use lib.Dec.{ltb}
-use Rattle.print.specs.Texts.{decimalOf, negativeOf}
+use Rattle.buffer.specs.Decimal.{decimal}
+use Rattle.print.specs.Texts.{negativeOf}
 
 -- a two's complement in decimal
 unfoldable pub integerOf : ℕ → List ℕ
-integerOf w = cond (ltb w 9223372036854775808) (decimalOf w) (negativeOf (18446744073709551615 - w))
+integerOf w = cond (ltb w 9223372036854775808) (decimal w) (negativeOf (18446744073709551615 - w))

@@ -4,6 +4,7 @@ use mathlib.Core.Bool.{Bool, _&&_, cond}
 use mathlib.Core.List.{List, [], _∷_, _++_}
 use lib.Dec.{ltb, leb, eqb}
 use Rattle.io.specs.Digits.{glyph}
+use Rattle.buffer.specs.Decimal.{decimal}
 use Rattle.item_records.specs.declared.Literal.{Literal}
 use Rattle.item_records.specs.declared.Literal.the-variants.{Unsigned, Negative, Bytes, Text, Simple, Half, Single, Double}
 use Rattle.item_records.specs.declared.Container.{Container}
@@ -19,15 +20,12 @@ numeral b (suc f) least n =
     let r = numeral b f (least - 1) (n / b) in
     cond (ltb n b && leb least 1) (glyph n ∷ []) (r ++ (glyph (n % b) ∷ []))
 
-unfoldable pub decimalOf : ℕ → List ℕ
-decimalOf n = numeral 10 20 1 n
-
 unfoldable pub hexOf : ℕ → ℕ → List ℕ
 hexOf width n = numeral 16 16 width n
 
 -- the number -1 - n
 abbrev pub negativeOf : ℕ → List ℕ
-negativeOf n = 45 ∷ decimalOf (n + 1)
+negativeOf n = 45 ∷ decimal (n + 1)
 
 unfoldable pub repeated : ℕ → List ℕ → List ℕ
 repeated zero u = []
@@ -39,14 +37,14 @@ simpleOf n =
     cond (eqb n 20) (102 ∷ 97 ∷ 108 ∷ 115 ∷ 101 ∷ []) (
     cond (eqb n 21) (116 ∷ 114 ∷ 117 ∷ 101 ∷ []) (
     cond (eqb n 22) (110 ∷ 117 ∷ 108 ∷ 108 ∷ []) (
-    cond (eqb n 23) (117 ∷ 110 ∷ 100 ∷ 101 ∷ 102 ∷ 105 ∷ 110 ∷ 101 ∷ 100 ∷ []) ((115 ∷ 105 ∷ 109 ∷ 112 ∷ 108 ∷ 101 ∷ 32 ∷ []) ++ decimalOf n))))
+    cond (eqb n 23) (117 ∷ 110 ∷ 100 ∷ 101 ∷ 102 ∷ 105 ∷ 110 ∷ 101 ∷ 100 ∷ []) ((115 ∷ 105 ∷ 109 ∷ 112 ∷ 108 ∷ 101 ∷ 32 ∷ []) ++ decimal n))))
 
 -- 'unsigned ', 'negative ', 'bytes ', 'text ', 'half ', 'single ', 'double ', each with its data
 abbrev pub literalOf : Literal → List ℕ
-literalOf (Unsigned n) = (117 ∷ 110 ∷ 115 ∷ 105 ∷ 103 ∷ 110 ∷ 101 ∷ 100 ∷ 32 ∷ []) ++ decimalOf n
+literalOf (Unsigned n) = (117 ∷ 110 ∷ 115 ∷ 105 ∷ 103 ∷ 110 ∷ 101 ∷ 100 ∷ 32 ∷ []) ++ decimal n
 literalOf (Negative n) = (110 ∷ 101 ∷ 103 ∷ 97 ∷ 116 ∷ 105 ∷ 118 ∷ 101 ∷ 32 ∷ []) ++ negativeOf n
-literalOf (Bytes n) = (98 ∷ 121 ∷ 116 ∷ 101 ∷ 115 ∷ 32 ∷ []) ++ decimalOf n
-literalOf (Text n) = (116 ∷ 101 ∷ 120 ∷ 116 ∷ 32 ∷ []) ++ decimalOf n
+literalOf (Bytes n) = (98 ∷ 121 ∷ 116 ∷ 101 ∷ 115 ∷ 32 ∷ []) ++ decimal n
+literalOf (Text n) = (116 ∷ 101 ∷ 120 ∷ 116 ∷ 32 ∷ []) ++ decimal n
 literalOf (Simple n) = simpleOf n
 literalOf (Half n) = (104 ∷ 97 ∷ 108 ∷ 102 ∷ 32 ∷ []) ++ hexOf 4 n
 literalOf (Single n) = (115 ∷ 105 ∷ 110 ∷ 103 ∷ 108 ∷ 101 ∷ 32 ∷ []) ++ hexOf 8 n
@@ -54,18 +52,18 @@ literalOf (Double n) = (100 ∷ 111 ∷ 117 ∷ 98 ∷ 108 ∷ 101 ∷ 32 ∷ []
 
 -- 'array ', 'map ' and the length
 abbrev pub containerOf : Container → List ℕ
-containerOf (Array n) = (97 ∷ 114 ∷ 114 ∷ 97 ∷ 121 ∷ 32 ∷ []) ++ decimalOf n
-containerOf (Map n) = (109 ∷ 97 ∷ 112 ∷ 32 ∷ []) ++ decimalOf n
+containerOf (Array n) = (97 ∷ 114 ∷ 114 ∷ 97 ∷ 121 ∷ 32 ∷ []) ++ decimal n
+containerOf (Map n) = (109 ∷ 97 ∷ 112 ∷ 32 ∷ []) ++ decimal n
 
 -- 'reference ' and the length
 abbrev pub kindOf : Kind → List ℕ
 kindOf (kinds.Literal l) = literalOf l
 kindOf (kinds.Container c) = containerOf c
-kindOf (kinds.Reference n) = (114 ∷ 101 ∷ 102 ∷ 101 ∷ 114 ∷ 101 ∷ 110 ∷ 99 ∷ 101 ∷ 32 ∷ []) ++ decimalOf n
+kindOf (kinds.Reference n) = (114 ∷ 101 ∷ 102 ∷ 101 ∷ 114 ∷ 101 ∷ 110 ∷ 99 ∷ 101 ∷ 32 ∷ []) ++ decimal n
 
 -- a number and a space
 abbrev pub fieldOf : ℕ → List ℕ
-fieldOf n = decimalOf n ++ (32 ∷ [])
+fieldOf n = decimal n ++ (32 ∷ [])
 
 -- item k: its number, first byte, byte after, containers around
 abbrev pub numbersOf : ℕ → Record → List ℕ
@@ -77,8 +75,8 @@ lineOf k x indent = numbersOf k x ++ (repeated (x .around) indent ++ (kindOf (x 
 
 -- 'refused ', the number, the place, a line end
 abbrev pub refusedOf : ℕ → ℕ → List ℕ
-refusedOf r p = (114 ∷ 101 ∷ 102 ∷ 117 ∷ 115 ∷ 101 ∷ 100 ∷ 32 ∷ []) ++ (fieldOf r ++ (decimalOf p ++ (10 ∷ [])))
+refusedOf r p = (114 ∷ 101 ∷ 102 ∷ 117 ∷ 115 ∷ 101 ∷ 100 ∷ 32 ∷ []) ++ (fieldOf r ++ (decimal p ++ (10 ∷ [])))
 
 -- 'accepted ', the item count, a line end
 abbrev pub acceptedOf : ℕ → List ℕ
-acceptedOf n = ((97 ∷ 99 ∷ 99 ∷ 101 ∷ 112 ∷ 116 ∷ 101 ∷ 100 ∷ 32 ∷ []) ++ decimalOf n) ++ (10 ∷ [])
+acceptedOf n = ((97 ∷ 99 ∷ 99 ∷ 101 ∷ 112 ∷ 116 ∷ 101 ∷ 100 ∷ 32 ∷ []) ++ decimal n) ++ (10 ∷ [])

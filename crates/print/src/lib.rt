@@ -5,10 +5,12 @@ ghost use mathlib.Core.List.{[], _∷_, _++_};
 ghost use Prim.Native.Nat.{_-_, min, max};
 ghost use lib.ListN.{length};
 ghost use Rattle.buffer.specs.Put.{Put};
-ghost use Rattle.print.specs.Texts.{repeated, decimalOf, hexOf, negativeOf, simpleOf, literalOf, containerOf, kindOf, numbersOf, lineOf, refusedOf, acceptedOf, fieldOf};
-ghost use Rattle.print.specs.Items.{freshOf, checkOf, foundOf, foundLine, answerLine, Listed};
+ghost use Rattle.buffer.specs.Decimal.{decimal};
+ghost use Rattle.print.specs.Texts.{repeated, hexOf, negativeOf, simpleOf, literalOf, containerOf, kindOf, numbersOf, lineOf, refusedOf, acceptedOf, fieldOf};
+ghost use Rattle.item_records.specs.Records.{recordFrom};
+ghost use Rattle.print.specs.Items.{freshOf, answerLine, Listed};
 ghost use Rattle.print.specs.Integers.{integerOf};
-ghost use Rattle.print.specs.Entries.{nameOf, spaceOf, lineOf, entryOf};
+ghost use Rattle.print.specs.Entries.{nameOf, spaceOf, entryLine, entryOf};
 ghost use Rattle.cbor.specs.Answer.{headAt};
 
 // A text, so many times.
@@ -22,14 +24,6 @@ fn repeat(out: &mut [u8], at: usize, text: &[u8], times: usize) -> usize
         i += 1;
     }
     p
-}
-
-pub fn decimal(out: &mut [u8], at: usize, n: u64) -> usize
-    ensures { λ r. ⌜ Put (now (out .entry)) (now (out .exit)) at r (decimalOf n) ⌝ }
-{
-    let mut digits = [0u8; 20];
-    let k = io::decimal(n, &mut digits);
-    buffer::put_all(out, at, &digits[..k])
 }
 
 // Lower case, zeros in front up to the width, from 1 to 16.
@@ -49,15 +43,15 @@ pub fn negative(out: &mut [u8], at: usize, n: u64) -> usize
         return buffer::put_all(out, at, b"-18446744073709551616");
     }
     let p = buffer::put(out, at, b'-');
-    decimal(out, p, n + 1)
+    buffer::put_decimal(out, p, n + 1)
 }
 
 // A word and a number.
 pub fn numbered(out: &mut [u8], at: usize, word: &[u8], n: u64) -> usize
-    ensures { λ r. ⌜ Put (now (out .entry)) (now (out .exit)) at r (now (word .entry) ++ decimalOf n) ⌝ }
+    ensures { λ r. ⌜ Put (now (out .entry)) (now (out .exit)) at r (now (word .entry) ++ decimal n) ⌝ }
 {
     let p = buffer::put_all(out, at, word);
-    decimal(out, p, n)
+    buffer::put_decimal(out, p, n)
 }
 
 // A word and a float's bits.
@@ -126,7 +120,7 @@ pub fn kind(out: &mut [u8], at: usize, k: item_records::Kind) -> usize
 pub fn field(out: &mut [u8], at: usize, n: u64) -> usize
     ensures { λ r. ⌜ Put (now (out .entry)) (now (out .exit)) at r (fieldOf n) ⌝ }
 {
-    let p = decimal(out, at, n);
+    let p = buffer::put_decimal(out, at, n);
     buffer::put(out, p, b' ')
 }
 
@@ -153,12 +147,12 @@ pub fn item(out: &mut [u8], at: usize, k: usize, x: item_records::Record, indent
 }
 
 // The line of a refusal.
-pub fn refused(out: &mut [u8], at: usize, number: u64, place: usize) -> usize
+pub fn refused(out: &mut [u8], at: usize, number: u8, place: usize) -> usize
     ensures { λ r. ⌜ Put (now (out .entry)) (now (out .exit)) at r (refusedOf number place) ⌝ }
 {
     let a = buffer::put_all(out, at, b"refused ");
-    let b = field(out, a, number);
-    let c = decimal(out, b, place as u64);
+    let b = field(out, a, number as u64);
+    let c = buffer::put_decimal(out, b, place as u64);
     buffer::put(out, c, b'\n')
 }
 
@@ -202,54 +196,23 @@ pub fn fresh_line(out: &[u8], at: usize) -> usize
     0
 }
 
-// A single ARI or a message is checked.
-pub fn check(s: &[u8], single: bool) -> reader::Answer
-    ensures { λ r. ⌜ r ≡ checkOf single (now (s .entry)) ⌝ }
-{
-    if single {
-        return reader::check_single(s);
-    }
-    reader::check_message(s)
-}
-
-fn find(s: &[u8], single: bool, k: usize) -> item_records::Found
-    ensures { λ r. ⌜ r ≡ foundOf single (now (s .entry)) k ⌝ }
-{
-    if single {
-        return item_records::item_single(s, k);
-    }
-    item_records::item_message(s, k)
-}
-
-fn item_line(out: &mut [u8], at: usize, s: &[u8], single: bool, k: usize, indent: &[u8]) -> usize
-    ensures { λ r. ⌜ Put (now (out .entry)) (now (out .exit)) (freshOf at (length (now (out .entry)))) r (foundLine k (now (indent .entry)) (foundOf single (now (s .entry)) k)) ⌝ }
+// The line of item k, by its word in the item table.
+fn item_line(out: &mut [u8], at: usize, s: &[u8], k: usize, entry: u64, indent: &[u8]) -> usize
+    ensures { λ r. ⌜ Put (now (out .entry)) (now (out .exit)) (freshOf at (length (now (out .entry)))) r (lineOf k (recordFrom (now (s .entry)) entry) (now (indent .entry))) ⌝ }
 {
     let p = fresh_line(out, at);
-    let f = find(s, single, k);
-    match f {
-        item_records::Found::Item { record, count: _ } => item(out, p, k, record, indent),
-        item_records::Found::Refused {
-            number: _,
-            place: _,
-        } => p,
-    }
+    let x = item_records::record_of(s, entry);
+    item(out, p, k, x, indent)
 }
 
-// The lines of the first items of an input, so many.
-pub fn items(
-    out: &mut [u8],
-    at: usize,
-    s: &[u8],
-    single: bool,
-    count: usize,
-    indent: &[u8],
-) -> usize
-    ensures { λ r. ⌜ Listed single (now (s .entry)) (now (indent .entry)) (now (out .entry)) at count (now (out .exit)) r ⌝ }
+// The lines of the items of an input, by the words of its table.
+pub fn items(out: &mut [u8], at: usize, s: &[u8], entries: &[u64], indent: &[u8]) -> usize
+    ensures { λ r. ⌜ Listed (now (s .entry)) (now (entries .entry)) (now (indent .entry)) (now (out .entry)) at (length (now (entries .entry))) (now (out .exit)) r ⌝ }
 {
     let mut p = at;
     let mut k = 0;
-    while k < count {
-        p = item_line(out, p, s, single, k, indent);
+    while k < entries.len() {
+        p = item_line(out, p, s, k, entries[k], indent);
         k += 1;
     }
     p
@@ -271,7 +234,7 @@ pub fn integer(out: &mut [u8], at: usize, w: u64) -> usize
     ensures { λ r. ⌜ Put (now (out .entry)) (now (out .exit)) at r (integerOf w) ⌝ }
 {
     if w < 9223372036854775808 {
-        return decimal(out, at, w);
+        return buffer::put_decimal(out, at, w);
     }
     negative(out, at, 18446744073709551615 - w)
 }
@@ -310,7 +273,7 @@ fn namespace(out: &mut [u8], at: usize, s: &[u8], kind: u64, w: u64) -> usize
 
 // An entry's line by its three words.
 fn line(out: &mut [u8], at: usize, s: &[u8], ends: u64, kind: u64, w: u64) -> usize
-    ensures { λ r. ⌜ Put (now (out .entry)) (now (out .exit)) at r (lineOf (now (s .entry)) ends kind w) ⌝ }
+    ensures { λ r. ⌜ Put (now (out .entry)) (now (out .exit)) at r (entryLine (now (s .entry)) ends kind w) ⌝ }
 {
     let a = field(out, at, ends / 4294967296);
     let b = field(out, a, ends % 4294967296);
@@ -328,8 +291,8 @@ pub fn entry(out: &mut [u8], at: usize, s: &[u8], listing: &[u8], from: usize) -
     if listing.len() - 24 < from {
         return at;
     }
-    let ends = grants::word_at(listing, from);
-    let kind = grants::word_at(listing, from + 8);
-    let w = grants::word_at(listing, from + 16);
+    let ends = buffer::load8(listing, from);
+    let kind = buffer::load8(listing, from + 8);
+    let w = buffer::load8(listing, from + 16);
     line(out, at, s, ends, kind, w)
 }

@@ -21,7 +21,8 @@ use Rattle.ari.specs.Due.{Due as DueItems}
 use Rattle.grammar.specs.declared.Next.{Next}
 use Rattle.grammar.specs.declared.Next.the-variants.{Done, Due}
 use Rattle.grammar.specs.Code.{slotOf, levelOf, fitsCode, insideCode}
-use Rattle.grammar.proofs.Right.{IsSlot, Stands, inside-right, inside-container}
+use Rattle.grammar.specs.Code.{IsSlot}
+use Rattle.grammar.proofs.Right.{Stands, inside-right, inside-container}
 use Rattle.reader.specs.declared.Step.{Step}
 use Rattle.reader.specs.declared.Step.the-variants.{Taken}
 use Rattle.reader.specs.declared.Step.the-variants as step

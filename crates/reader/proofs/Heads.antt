@@ -19,7 +19,8 @@ use Rattle.cbor.specs.Head.{keyBytes}
 use Rattle.ari.specs.Reader.{wrongVersion, notGreater, isEmpty, judgeContent, judge, judgeGot}
 use Rattle.ari.specs.Reader as reader
 use Rattle.grammar.specs.Code.{slotOf, ownOf, fitsCode}
-use Rattle.grammar.proofs.Right.{IsSlot, fits-right}
+use Rattle.grammar.specs.Code.{IsSlot}
+use Rattle.grammar.proofs.Right.{fits-right}
 use Rattle.reader.specs.declared.Step.{Step}
 use Rattle.reader.specs.declared.Step.the-variants.{Taken, Refused}
 use Rattle.reader.specs.declared.End.{End}

@@ -20,7 +20,8 @@ use Rattle.ari.specs.Table.{Place, Slot, version, ari, type, value, namespace, 
 use Rattle.cbor.specs.Head.{keyBytes}
 use Rattle.ari.specs.Reader.{keyAfter, wrongVersion, notGreater, isEmpty}
 use Rattle.grammar.specs.Code.{slotOf, ownOf, spelledAs}
-use Rattle.grammar.proofs.Right.{IsSlot, own-right}
+use Rattle.grammar.specs.Code.{IsSlot}
+use Rattle.grammar.proofs.Right.{own-right}
 use Rattle.grammar.proofs.Hits.{Rest, miss}
 use Rattle.buffer.specs.Bytes.{part}
 use Rattle.reader.specs.Steps.{keySpan}

@@ -19,9 +19,9 @@ use Rattle.ari.proofs.Due.{prevAfter}
 use Rattle.grammar.specs.declared.Next.{Next}
 use Rattle.grammar.specs.declared.Next.the-variants.{Done, Due}
 use Rattle.grammar.specs.Code.{slots, slotOf, levelOf, fitsCode, nextCode, insideCode}
-use Rattle.grammar.proofs.Right.{IsSlot, Slotted, Stands, next-right, inside-right}
+use Rattle.grammar.specs.Code.{IsSlot}
+use Rattle.grammar.proofs.Right.{number-slot, Slotted, Stands, next-right, inside-right}
 use Rattle.item_table.specs.Entries.{packed}
-use Rattle.item_table.proofs.Entries.{number-slot}
 use Rattle.reader.specs.declared.Step.{Step}
 use Rattle.reader.specs.declared.Step.the-variants.{Taken}
 use Rattle.reader.specs.declared.Step.the-variants as step

@@ -20,7 +20,8 @@ use Rattle.ari.specs.Items.{Items, none, item, encode, heads, spots, insideAt, 
 use Rattle.ari.specs.Due.{Due, Good}
 use Rattle.ari.proofs.Due.{prevAfter}
 use Rattle.ari.proofs.Central.{Judged, judged}
-use Rattle.item_table.specs.Entries.{slotNumber, packed, entryOf}
+use Rattle.grammar.specs.Code.{slotNumber}
+use Rattle.item_table.specs.Entries.{packed, entryOf}
 use Rattle.reader.specs.declared.Step.the-variants.{Taken}
 use Rattle.reader.specs.declared.Step.the-variants as step
 use Rattle.reader.specs.declared.Walk.{Walk}

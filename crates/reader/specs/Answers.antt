@@ -1,4 +1,4 @@
--- What the reading answers: document 01's numbers and values for each case of the enums.
+-- What the reading answers: the number and values for each case of the enums. Interface: answerOf, Kept. Private to src/: refusalOf.
 use Prim.Native.Nat.{ℕ}
 use mathlib.Core.Path.{_≡_}
 use mathlib.Core.List.{List, map}

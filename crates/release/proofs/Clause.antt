@@ -1,4 +1,4 @@
--- Demand 3, release: for all messages, tables and subscribers. What a table grants is in Judged, its check in Checked.
+-- R89 to R92, over the listing: for all messages, tables and subscribers. What a table grants is in Judged, its check in Checked.
 use Prim.Native.Nat.{ℕ, suc, _/_}
 use mathlib.Core.Logic.{_↔_}
 use mathlib.Core.Path.{_≡_, refl, sym, _∙_, ap, fun-ext}
@@ -81,7 +81,7 @@ only-own-rows m b t t′ s h = ap (λ (ok : Space → Bool). judge (read m Messa
     alike (name p n) = refl
     alike relative = refl
 
--- "a message names a private number if a listed namespace is negative"
+-- a message names a number if a listed namespace is that number; a negative one is private
 pub record Names (b : List ℕ) (z : ℤ) : Type 0 where
   pub entry : Entry
   pub listed : List·Memᴰ entry (listing b)
@@ -108,7 +108,7 @@ module _ (m : Limits) (t : List Grant) where
   pub private-for-one-only : {b : List ℕ} {s s′ : ℕ} {a : ℕ} → check t ≡ passes → Names b (negsuc a) → release m b t s ≡ yes → release m b t s′ ≡ yes → (s ≡ s′ → ⊥) → ⊥
   private-for-one-only c x f g n = private-number-once c n f g x x
 
--- The same of a table as bytes. "such bytes are no grant table, and nothing is released"
+-- The same of a table as bytes: by no whole rows nothing is released (R97).
 module _ (m : Limits) (t : List ℕ) where
   pub ragged-releases-nothing : (b : List ℕ) (s : ℕ) → ragged t ≡ true → releaseBytes m b t s ≡ yes → ⊥
   unfolding releaseBytes

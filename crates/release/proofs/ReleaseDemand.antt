@@ -1,4 +1,4 @@
--- Demand 3, release, in the demand's words: over the messages that document 01 makes one (`Is`), the references of the rules' own derivation
+-- R89 to R92 in their own words: over the messages that the rules make one (`Is`), the references of the rules' own derivation
 -- (`references`, with what `entryFor` says of each) and the rows of the table. The idea: the listing is the list of those references
 -- (`listing-is`), so what Clause says of the listing's entries holds of them.
 use Prim.Native.Nat.{ℕ, _/_, _%_}
@@ -36,7 +36,7 @@ use Rattle.release.proofs.Clause as clause
 abbrev pub namespaceOf : Placed → Space
 namespaceOf r = entryFor r .space
 
--- "every listed namespace is a number granted to that subscriber": each reference's namespace is a number, and some row of the table holds that
+-- all are granted: each reference's namespace is a number, and some row of the table holds that
 -- subscriber and that number
 abbrev pub AllGranted : List Grant → ℕ → List Placed → Type 0
 AllGranted t s rs = (r : Placed) → List·Memᴰ r rs → Granted t s (namespaceOf r)
@@ -119,14 +119,14 @@ module _ {m : Limits} {b : List ℕ} {g : Items} {n : ℕ} (c : Is m Message b g
   accepted : read m Message b ≡ accept n
   accepted = is-read m Message b c
 
-  -- "release is granted exactly if every listed namespace is a number granted to that subscriber"
+  -- R89
   pub released-exactly-if-granted : (t : List Grant) (s : ℕ) → (release m b t s ≡ yes) ↔ AllGranted t s (references (c .stands))
   released-exactly-if-granted t s = (
     λ e. all-listed t s (references (c .stands)) (rw (listing-is c) at (released-exactly-if m b t s .0 e .1)),
     λ a. released-exactly-if m b t s .1 ((n, accepted), rw (listing-is c) (listed-all t s (references (c .stands)) a)),
   )
 
-  -- "otherwise the answer is no, with the first entry for which this fails": no with k exactly if all references before reference k are granted
+  -- R90: no with k exactly if all references before reference k are granted
   -- and reference k isn't,
   pub held-at-the-first : (t : List Grant) (s k : ℕ) → (release m b t s ≡ no k) ↔ FirstUngranted t s (references (c .stands)) k
   held-at-the-first t s k = (
@@ -145,7 +145,7 @@ module _ {m : Limits} {b : List ℕ} {g : Items} {n : ℕ} (c : Is m Message b g
       go yes e = inl refl
       go (no k) e = inr (k, refl)
 
-  -- "no message naming a private number is released under it for two different subscribers": if a table passes its check and a reference's
+  -- R92: if a table passes its check and a reference's
   -- namespace is the negative number -1 - a, the message is released for one subscriber at most.
   pub private-for-one-only : (t : List Grant) → check t ≡ passes → (r : Placed) → List·Memᴰ r (references (c .stands)) → (a : ℕ)
       → namespaceOf r ≡ number (negsuc a) → (s s′ : ℕ) → release m b t s ≡ yes → release m b t s′ ≡ yes → s ≡ s′
@@ -153,12 +153,12 @@ module _ {m : Limits} {b : List ℕ} {g : Items} {n : ℕ} (c : Is m Message b g
       equal-unless s s′
       (clause.private-for-one-only m t p (record { entry = entryFor r; listed = each-is-listed c r k; is = q }) f h)
 
--- "two tables alike in what they grant a subscriber give it the same answer", whatever rows they have for others: the same refusal, the same
+-- R91: two tables alike in what they grant a subscriber give it the same answer, whatever rows they have for others: the same refusal, the same
 -- yes, or no with the same reference. So it is for all bytes, message or not.
 pub others-rows-never-matter : (m : Limits) (b : List ℕ) (t t′ : List Grant) (s : ℕ) → ((z : ℤ) → Row t s z ↔ Row t′ s z) → release m b t s ≡ release m b t′ s
 others-rows-never-matter = only-own-rows
 
--- bytes that document 01 makes no message
+-- bytes that the rules make no message
 abbrev pub NoMessage : Limits → List ℕ → Type 0
 NoMessage m b = (g : Items) (n : ℕ) → Is m Message b g n → ⊥
 
@@ -201,7 +201,7 @@ module _ {m : Limits} {b : List ℕ} {g : Items} {n : ℕ} (c : Is m Message b g
         let (r, q) = past (ragged t) (Release.refused 18 (length t / 16)) (release m b (rows t) s) x (sym on-bytes ∙ e) in
         (is-whole t r, q)
 
-    -- "such bytes are no grant table, and nothing is released": they answer 18 with the number of whole rows.
+    -- R96, R97: they answer 18 with the number of whole rows.
     pub bytes-ragged-are-refused : (Whole t → ⊥) → releaseBytes m b t s ≡ Release.refused 18 (length t / 16)
     bytes-ragged-are-refused x = on-bytes ∙ rw (ne-eqb (length t % 16) 0 x)
 

@@ -12,7 +12,7 @@ use Rattle.grants.specs.Bytes.{rows, ragged}
 use Rattle.release.specs.declared.Released.{Released}
 use Rattle.release.specs.declared.Released.the-variants as released
 
--- "the message's refusal, or yes, or no with the number of the first listed entry that isn't granted, entries from 0"
+-- R86: the message's refusal, yes, or no with an entry, counted from 0
 pub data Release : Type 0 where
   refused : ℕ → ℕ → Release  -- number, place
   yes : Release
@@ -26,11 +26,11 @@ abbrev pub judge : Answer → (Space → Bool) → List Entry → Release
 judge (refuse r p) ok es = refused r p
 judge (accept n) ok es = judgeFrom ok 0 es
 
--- "Release takes a message, the table and a subscriber". It doesn't run the table's check.
+-- R86; it doesn't run the table's check (R91)
 unfoldable pub release : Limits → List ℕ → List Grant → ℕ → Release
 release m b t s = judge (read m Message b) (granted t s) (listing b)
 
--- release of a table as bytes: ragged ones are 18 "after the message's own refusal", "and nothing is released"
+-- R96, R97: release by a table as bytes; no whole rows are 18, after the message's own refusal
 abbrev pub whole : Answer → List ℕ → Release → Release
 whole (refuse r p) t x = refused r p
 whole (accept n) t x = cond (ragged t) (refused 18 (length t / 16)) x

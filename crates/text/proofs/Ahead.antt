@@ -5,6 +5,7 @@ use mathlib.Core.Bool.{Bool, true, false, _||_, cond, true≢false}
 use mathlib.Core.List.{List, [], _∷_, _++_, append-assoc}
 use lib.Dec.{eqb}
 use borrow.Author.Tests.{eqb-true, ne-eqb}
+use Rattle.buffer.specs.Runs.{past}
 use Rattle.buffer.specs.Bytes.{all, isByte}
 use Rattle.cbor.specs.Head.{array, simple, Lead, Sound, isContainer}
 use Rattle.ari.specs.Table.{Place, inner, ari, type, value, namespace, objectNamespace, params, done, due, ariLevel, rule, members}
@@ -13,7 +14,7 @@ use Rattle.ari.specs.Decode.{Headed}
 use Rattle.ari.specs.Rules.{Holds, Ari, literal, namespace-ref, typed, object-ref, plain, with-params}
 use Rattle.text.specs.Chars.{literalText, nameText}
 use Rattle.text.specs.Text.{anAri, absolute, spell, texts, typeName, isFloat}
-use Rattle.text.specs.Parse.{ends, inWord, past, startsBy, starts, headOf, startsNumber, parts, takeWord, takeAri}
+use Rattle.text.specs.Parse.{ends, inWord, startsBy, starts, headOf, startsNumber, parts, takeWord, takeAri}
 use Rattle.text.proofs.Words.{Literal, halts, word-at, begins, starts-more, startsLiteral, literal-starts, Named, named-word, named-starts}
 use Rattle.text.proofs.Leads.{head-is, literal-case, namespace-named, type-named, id-named, Space, relative, absolute as from, space-case, Word, literal-spelled, TypeWord, type-word}
 use Rattle.text.proofs.Slots.{literal-leaf}
@@ -79,7 +80,7 @@ all-parts l₂ l₃ {s₂} {s₃} n₂ n₃ z h =
 pub record Seen (h : Headed) (inside text : List ℕ) : Type 0 where
   pub taken : takeAri text ≡ record { head = h; rest = inside }
   pub end-not : starts 41 text ≡ false
-  pub key-not : starts 61 (past text) ≡ false
+  pub key-not : starts 61 (past inWord text) ≡ false
 
 literal-seen : {l : Lead} {s : List ℕ} (r : List ℕ) → Literal (l .kind) (l .arg) s → Sound l → isFloat l ≡ false → all isByte s ≡ true → stops r ≡ true
     → Seen (record { lead = l; str = s }) r (literalText l s ++ r)
@@ -96,13 +97,13 @@ literal-seen {l} {s} r n h f b z =
 
 namespace-seen : (l : Lead) {s : List ℕ} (r : List ℕ) → Named (l .kind) (l .arg) s → halts r ≡ true
     → Seen (headOf array 1 []) (47 ∷ 47 ∷ (nameText l s ++ (47 ∷ r))) (47 ∷ 47 ∷ (nameText l s ++ (47 ∷ r)))
-unfolding takeAri startsBy past ends
+unfolding takeAri startsBy past inWord ends
 namespace-seen l {s} r m h =
     let (p, q) = word-at (nameText l s) (47 ∷ r) (named-word (l .info) m) (unfold halts in refl) in
     record { taken = rw (q, no-parts r h); end-not = refl; key-not = refl }
 
 typed-seen : {t : ℕ} → TypeWord t → (v : List ℕ) → Seen (headOf array 2 []) (typeName t ++ (47 ∷ v)) (47 ∷ (typeName t ++ (47 ∷ v)))
-unfolding takeAri startsBy past ends
+unfolding takeAri startsBy past inWord ends
 typed-seen {t} w v =
     let o : starts 47 (typeName t ++ (47 ∷ v)) ≡ false
     = begins inWord 47 (typeName t ++ (47 ∷ v)) (starts-more inWord (typeName t) (47 ∷ v) (w .begins)) (unfold inWord in refl) in
@@ -112,7 +113,7 @@ object-seen : {l₁ : Lead} {s₁ : List ℕ} (l₂ l₃ : Lead) {s₂ s₃ : Li
     → (z : List ℕ) → halts z ≡ true
     → Seen (headOf array (cond (starts 40 z) 4 3) []) (space l₁ s₁ ++ (47 ∷ (nameText l₂ s₂ ++ (47 ∷ (nameText l₃ s₃ ++ z)))))
     (space l₁ s₁ ++ (47 ∷ (nameText l₂ s₂ ++ (47 ∷ (nameText l₃ s₃ ++ z)))))
-unfolding takeAri startsBy past ends space
+unfolding takeAri startsBy past inWord ends space
 object-seen l₂ l₃ (relative k a e) n₂ n₃ z h = rw k (record { taken = rw (all-parts l₂ l₃ n₂ n₃ z h); end-not = refl; key-not = refl })
 object-seen {l₁} {s₁} l₂ l₃ {s₂} {s₃} (from k m) n₂ n₃ z h =
     let u : List ℕ = nameText l₂ s₂ ++ (47 ∷ (nameText l₃ s₃ ++ z)) in

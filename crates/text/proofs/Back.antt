@@ -9,6 +9,7 @@ use lib.ListN.{length}
 use lib.Seq.{drop-at}
 use lib.Dec.{eqb}
 use borrow.Author.Tests.{eqb-true, eqb-false, eq-eqb}
+use Rattle.buffer.specs.Runs.{past}
 use Rattle.cbor.specs.Head.{array, map, simple, Lead, Sound, isContainer}
 use Rattle.buffer.proofs.ByteLaws.{within-true}
 use Rattle.ari.specs.Table.{Place, param, outermost, Row, row, Slot, ari, type, value, namespace, objectNamespace, objectType, objectId, params, key, entry, Level, done, due, many, rule, members}
@@ -21,7 +22,7 @@ use Rattle.ari.proofs.RulesFit.{Here}
 use Rattle.ari.proofs.FitRules.{here}
 use Rattle.text.specs.Chars.{literalText}
 use Rattle.text.specs.Text.{comma, spell, texts, isFloat}
-use Rattle.text.specs.Parse.{ends, inWord, past, startsBy, starts, headOf, count, takeWord, takeGroup, takeAt, Run, level, parse}
+use Rattle.text.specs.Parse.{ends, inWord, startsBy, starts, headOf, count, takeWord, takeGroup, takeAt, Run, level, parse}
 use Rattle.text.proofs.Words.{halts, word-at, begins, starts-more}
 use Rattle.text.proofs.Leads.{isSetType, head-is, no-string, Space, relative, absolute as from, Word, name-spelled, valueText}
 use Rattle.text.proofs.Below.{Spells, Below, an-ari, a-type, a-value, a-namespace, an-object-namespace, an-object-type, an-object-id, some-params, a-key, an-entry, BelowLevel, next-below, members-below, value-level}
@@ -40,7 +41,7 @@ comma-stops s (suc n) g prev r f h = refl
 -- how the members of a group begin
 module _ (w : Place) (m : ℕ) (prev : List ℕ) (r : List ℕ) (h : stops r ≡ true) where
   ari-first : (g : Items) → Fit g false (due (ari w) m) prev → Spells g
-      → (starts 41 (texts g (due (ari w) m) ++ r) ≡ false) × (starts 61 (past (texts g (due (ari w) m) ++ r)) ≡ false)
+      → (starts 41 (texts g (due (ari w) m) ++ r) ≡ false) × (starts 61 (past inWord (texts g (due (ari w) m) ++ r)) ≡ false)
   unfolding spell rule
   ari-first none f q = absurd f
   ari-first (item l s ms rs) f q =
@@ -49,7 +50,7 @@ module _ (w : Place) (m : ℕ) (prev : List ℕ) (r : List ℕ) (h : stops r ≡
       rw (layout l s ms rs (ari w) m r) (x .end-not, x .key-not)
 
   key-first : (g : Items) → Fit g false (due (key w) m) prev → Spells g
-      → (starts 41 (texts g (due (key w) m) ++ r) ≡ false) × (starts 61 (past (texts g (due (key w) m) ++ r)) ≡ true)
+      → (starts 41 (texts g (due (key w) m) ++ r) ≡ false) × (starts 61 (past inWord (texts g (due (key w) m) ++ r)) ≡ true)
   unfolding spell rule
   key-first none f q = absurd f
   key-first (item l s ms rs) f q =
@@ -140,7 +141,7 @@ groupRow : Row → Bool
 groupRow (row k lo hi) = isContainer k
 
 params-held : {prev : List ℕ} {l : Lead} {s : List ℕ} (ms : Items) → Good params prev l s → Fit ms false (members params l) [] → Spells ms → (r : List ℕ)
-    → Held param params l × (isContainer (l .kind) ≡ true) × (l .kind ≡ cond (starts 61 (past (texts ms (members params l) ++ (41 ∷ r)))) map array)
+    → Held param params l × (isContainer (l .kind) ≡ true) × (l .kind ≡ cond (starts 61 (past inWord (texts ms (members params l) ++ (41 ∷ r)))) map array)
 unfolding rule groupRow isContainer
 params-held {l = l} ms g f q r = go (eqb (l .kind) array) refl
   where
@@ -155,7 +156,7 @@ params-held {l = l} ms g f q r = go (eqb (l .kind) array) refl
     m = some (l .arg) refl
 
     go : (b : Bool) → eqb (l .kind) array ≡ b
-        → Held param params l × (isContainer (l .kind) ≡ true) × (l .kind ≡ cond (starts 61 (past (texts ms (members params l) ++ (41 ∷ r)))) map array)
+        → Held param params l × (isContainer (l .kind) ≡ true) × (l .kind ≡ cond (starts 61 (past inWord (texts ms (members params l) ++ (41 ∷ r)))) map array)
     go true e =
         let z : l .kind ≡ array = eqb-true (l .kind) array e in
         let y : members params l ≡ many (ari param) (l .arg) = members-array params l z in

@@ -1,4 +1,4 @@
--- "A text has at most 4 bytes, and 3 for each binary byte and 16 for each item."
+-- R112: a text has at most 4 bytes, and 3 for each binary byte and 16 for each item.
 use Prim.Native.Nat.{ℕ, suc, _+_, _*_, _≤_}
 use mathlib.Core.Path.{_≡_, refl}
 use mathlib.Core.Bool.{Bool, true, false, _&&_, cond}
@@ -8,15 +8,16 @@ use native.Mathlib.Nat.{pow-le-pow-right}
 use lib.ListN.{length, length-append}
 use lib.Dec.{ltb, leb, eqb}
 use borrow.Author.Tests.{ltb-true, ltb-false, leb-true, leb-false}
+use Rattle.buffer.proofs.DecimalLaws.{length-digits, length-fuel}
+use Rattle.buffer.specs.Decimal.{digits, decimal}
 use Rattle.cbor.specs.Head.{negative, bytes, text, array, simple, Lead, Sound, width, leadBytes, isContainer}
 use Rattle.buffer.proofs.ByteLaws.{and-true}
 use Rattle.cbor.proofs.HeadLaws.{Carries, itself, after, sound-carries, length-lead}
 use Rattle.ari.specs.Table.{Slot, version, ari, type, value, namespace, objectNamespace, objectType, objectId, params, key, entry, nonce, setTime, target, report, reportTime, reportSource, Level, done, due, rule, members}
 use Rattle.ari.specs.Items.{Items, none, item, encode, heads}
 use Rattle.ari.proofs.Well.{Well}
-use Rattle.text.specs.Chars.{ascii, digits, decimal, integer, hexes, bare, escape, each, textString, byteString, simpleText, literalText, nameText}
+use Rattle.text.specs.Chars.{ascii, integer, hexes, bare, escape, each, textString, byteString, simpleText, literalText, nameText}
 use Rattle.text.specs.Text.{Name, name, names, nameIn, typeName, comma, anAri, absolute, spell, texts, anAriDue, isRelative, textOf}
-use Rattle.text.proofs.Decimal.{length-digits, length-fuel}
 
 cond-most : (t : Bool) {n : ℕ} (u v : List ℕ) → length u ≤ n → length v ≤ n → length (cond t u v) ≤ n
 cond-most true u v p q = p

@@ -1,18 +1,20 @@
--- Document 01's texts and some more, written and read again, as one statement over one table, at its limits.
+-- The worked examples' texts and some more, written and read again, as one statement over one table, within the gate's own limits.
 use Prim.Native.Nat.{ℕ}
 use Prim.Native.String.{String}
 use mathlib.Core.Path.{_≡_, refl}
 use mathlib.Core.List.{List, [], _∷_}
-use Rattle.cbor.specs.Head.{width, shortest, majorOf, kindOf, argument, leadBytes, shortBytes, badSingle, badDouble, badHalf, badFloat, unused, notShortest, getFrom, getHead, stringSize, isContainer, arity}
+use Rattle.buffer.specs.Runs.{front, past}
+use Rattle.buffer.specs.Decimal.{digits, decimal, pushOf, digitsOf, unsignedOf}
+use Rattle.cbor.specs.Head.{width, shortest, majorOf, kindOf, argument, leadBytes, shortBytes, badSingle, badDouble, badHalf, badFloat, unused, notShortest, getFrom, getHead, stringSize, isContainer, arity, leadOf}
 use Rattle.cbor.specs.Utf8.{utf8From}
 use Rattle.ari.specs.Name.{startsName, continuesName, identifier, namespaceName}
 use Rattle.ari.specs.Table.{types, rule, members}
 use Rattle.ari.specs.Reader.{judge, judgeContent, judgeGot, takeStep, visit, run, read}
 use Rattle.ari.specs.Decode.{traceGot, trace, build, decode}
 use Rattle.ari.specs.Limits.{firstLimits}
-use Rattle.text.specs.Chars.{ascii, digits, decimal, integer, hex, bare, escape, textString, byteString, simpleText, literalText, nameText}
+use Rattle.text.specs.Chars.{ascii, integer, hex, bare, escape, textString, byteString, simpleText, literalText, nameText}
 use Rattle.text.specs.Text.{names, typeName, spell, isRelative, textOf, isFloat, isSet, form}
-use Rattle.text.specs.Parse.{ends, inWord, front, past, startsBy, push, number, unhex, unescape, unhexes, inner, leadOf, integerOf, literalOf, startsNumber, nameOf, typeNumber, typeOf, opened, commas, count, parts, takeAri, takeAt, level, parse, candidate}
+use Rattle.text.specs.Parse.{ends, inWord, startsBy, number, unhex, unescape, unhexes, inner, integerOf, literalOf, startsNumber, nameOf, typeNumber, typeOf, opened, commas, count, parts, takeAri, takeAt, level, parse, candidate}
 use Rattle.text.specs.Answer.{refused, output, writeText, readText}
 
 pub data Example : Type 0 where
@@ -43,5 +45,5 @@ examples =
     ∷ []
 
 pub the-examples : Hold examples
-unfolding utf8From width shortest majorOf kindOf argument leadBytes shortBytes badSingle badDouble badHalf badFloat unused notShortest getFrom getHead stringSize isContainer arity startsName continuesName identifier namespaceName types rule members judge judgeContent judgeGot takeStep visit run read traceGot trace build decode digits decimal integer hex bare escape textString byteString simpleText literalText nameText names typeName spell isRelative textOf isFloat isSet form ends inWord front past startsBy push number unhex unescape unhexes inner leadOf integerOf literalOf startsNumber nameOf typeNumber typeOf opened commas count parts takeAri takeAt level parse candidate writeText readText
+unfolding utf8From width shortest majorOf kindOf argument leadBytes shortBytes badSingle badDouble badHalf badFloat unused notShortest getFrom getHead stringSize isContainer arity startsName continuesName identifier namespaceName types rule members judge judgeContent judgeGot takeStep visit run read traceGot trace build decode digits decimal integer hex bare escape textString byteString simpleText literalText nameText names typeName spell isRelative textOf isFloat isSet form ends inWord front past startsBy pushOf digitsOf unsignedOf number unhex unescape unhexes inner leadOf integerOf literalOf startsNumber nameOf typeNumber typeOf opened commas count parts takeAri takeAt level parse candidate writeText readText
 the-examples = (refl, refl, (refl, refl, (refl, refl, (refl, refl, (refl, refl, (refl, refl, (refl, refl, (refl, refl, (refl, (refl, (refl, (refl, tt))))))))))))

@@ -8,7 +8,7 @@ use lib.ListN.{length}
 use lib.Dec.{leb, eqb}
 use borrow.Author.Tests.{leb-true, leb-false, eqb-true, eqb-false, le-leb, lt-leb}
 use Rattle.buffer.specs.Bytes.{within, all, isByte}
-use Rattle.cbor.specs.Head.{unsigned, negative, bytes, text, map, simple, Lead, shortest, Sound, counted, a-simple, a-float, stringSize, isContainer}
+use Rattle.cbor.specs.Head.{unsigned, negative, bytes, text, map, simple, Lead, shortest, Sound, counted, a-simple, a-float, stringSize, isContainer, leadOf}
 use mathlib.Core.Logic.{_⊎_, inl, inr}
 use Rattle.buffer.proofs.ByteLaws.{and-true, or-true, not-true, not-false}
 use Rattle.cbor.proofs.HeadLaws.{sound-64}
@@ -20,7 +20,7 @@ use Rattle.ari.specs.Rules.{Plain, Namespace, NamespaceOrNull, ObjectType, Obje
 use Rattle.ari.proofs.Rows.{every, FitsBy, fits-by, one-kind, everyEntry}
 use Rattle.text.specs.Text.{names, typeName, isFloat}
 use Rattle.text.specs.Chars.{literalText, nameText}
-use Rattle.text.specs.Parse.{ends, inWord, startsBy, leadOf, headOf, literalOf, startsNumber, nameOf, valueOf, typeNumber}
+use Rattle.text.specs.Parse.{ends, inWord, startsBy, headOf, literalOf, startsNumber, nameOf, valueOf, typeNumber}
 use Rattle.text.proofs.Words.{avoid, starts-weaken, Integer, plus, minus, Literal, whole, octets, chars, no-value, yes-value, null-value, undefined-value, literal-word, startsLiteral, literal-starts, literal-back, Named, numbered, lettered, named-word, named-starts, named-back}
 
 -- a head in its shortest form is the one that is read back

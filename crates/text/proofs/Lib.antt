@@ -1,4 +1,3 @@
-pub mod Decimal
 pub mod Words
 pub mod Leads
 pub mod Below

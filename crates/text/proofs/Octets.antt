@@ -1,16 +1,22 @@
 -- A candidate's bytes are bytes, whatever text it was read from.
 use Prim.Native.Nat.{ℕ, zero, suc, pred, _+_, _-_, _*_, _/_, _%_, _^_, _≤_, _<_}
-use mathlib.Core.Path.{_≡_, refl, ap}
+use mathlib.Core.Path.{_≡_, refl}
 use mathlib.Core.Bool.{Bool, true, false, _&&_, cond}
-use mathlib.Core.List.{List, [], _∷_, _++_}
+use mathlib.Core.List.{List, [], _∷_}
 use native.Mathlib.Omega.{arith}
 use native.Mathlib.Nat.{mod-lt, div-lt-iff-lt-mul, pow-suc, mul-comm}
 use lib.ListN.{length, take, drop, length-append, length-take, length-drop}
 use lib.Dec.{leb, eqb}
 use borrow.Author.Tests.{leb-true, lt-ltb, le-leb}
-use Rattle.buffer.specs.Bytes.{be, within, all, isByte}
-use Rattle.cbor.specs.Head.{unsigned, negative, bytes, text, array, map, simple, Lead, width, majorOf, leadBytes}
-use Rattle.buffer.proofs.ByteLaws.{and-true, within-true, pow-pos, all-take, all-drop}
+use Rattle.buffer.specs.Runs.{front, past}
+use Rattle.buffer.specs.Bytes.{be, within, all, isByte, same}
+use Rattle.cbor.specs.Head.{unsigned, negative, bytes, text, array, map, simple, Lead, width, majorOf, leadBytes, leadOf}
+use Rattle.buffer.specs.declared.Number.{Number}
+use Rattle.buffer.specs.declared.Number.the-variants.{Value, Bad}
+use Rattle.buffer.specs.Decimal.{unsignedOf}
+use Rattle.buffer.proofs.RunLaws.{front-past}
+use Rattle.buffer.proofs.DecimalLaws.{Most, unsigned-most}
+use Rattle.buffer.proofs.ByteLaws.{and-true, within-true, pow-pos, all-take, all-drop, all-append, all-split}
 use Rattle.cbor.proofs.HeadLaws.{Carries, itself, after, carries-lt, width-small, shortest-carries}
 use Rattle.ari.specs.Table.{max64, Slot, version, ari, type, value, namespace, objectNamespace, objectType, objectId, params, key, entry, nonce, setTime, target, report, reportTime, reportSource, Level, done, due, rule, members}
 use Rattle.ari.specs.declared.Limits.{Limits}
@@ -18,8 +24,7 @@ use Rattle.ari.specs.Items.{none, encode}
 use Rattle.ari.specs.Decode.{Headed}
 use Rattle.text.specs.Chars.{ascii}
 use Rattle.text.specs.Text.{Name, name, names, spell, anAriDue}
-use Rattle.text.specs.Parse.{ends, inWord, front, past, startsBy, starts, push, number, unhex, Await, any, first, second, unescape, unhexes, inner, leadOf, headOf, stringOf, integerOf, literalOf, startsNumber, nameOf, valueOf, same, numberIn, typeNumber, typeOf, opened, commas, count, parts, Taken, takeWord, takeGroup, takeReference, takeAri, takeNothing, takeAt, Run, level, parse, candidate}
-use Rattle.text.proofs.Decimal.{all-append, all-split}
+use Rattle.text.specs.Parse.{inWord, startsBy, starts, number, unhex, Await, any, first, second, unescape, unhexes, inner, headOf, stringOf, integerOf, literalOf, startsNumber, nameOf, valueOf, numberIn, typeNumber, typeOf, opened, commas, count, parts, orZero, Taken, takeWord, takeGroup, takeReference, takeAri, takeNothing, takeAt, Run, level, parse, candidate}
 
 -- a number's bytes; a head's bytes
 be-bytes : (w a : ℕ) → a < 256 ^ w → all isByte (be w a) ≡ true
@@ -71,36 +76,20 @@ given-inner : (a b : ℕ) {t : List ℕ} → Given t → Given (inner a b t)
 unfolding inner
 given-inner a b {t} g = given-take (length t - (a + b)) (given-drop a g)
 
-front-past : (t : List ℕ) → front t ++ past t ≡ t
-unfolding front past
-front-past [] = refl
-front-past (x ∷ t) = go (ends x) (front-past t)
-  where
-    go : (b : Bool) → front t ++ past t ≡ t → cond b [] (x ∷ front t) ++ cond b (x ∷ t) (past t) ≡ x ∷ t
-    go true ih = refl
-    go false ih = ap (_∷_ x) ih
-
-given-word : {t : List ℕ} → Given t → Given (front t) × Given (past t)
+given-word : {t : List ℕ} → Given t → Given (front inWord t) × Given (past inWord t)
 given-word {t} g =
-    let (a, b) = all-split isByte (front t) (past t) (rw (front-past t) (g .octets)) in
-    let n : length (front t) + length (past t) ≡ length t = rw (← length-append (front t) (past t), front-past t) in
+    let (a, b) = all-split isByte (front inWord t) (past inWord t) (rw (front-past inWord t) (g .octets)) in
+    let n : length (front inWord t) + length (past inWord t) ≡ length t = rw (← length-append (front inWord t) (past inWord t), front-past inWord t) in
     (record { octets = a; short = omega (arith, g .short) }, record { octets = b; short = omega (arith, g .short) })
 
 -- numbers, and strings of hex digits and escapes
-push-most : (n x : ℕ) → push n x ≤ max64
-unfolding push
-push-most n x = go (leb (n * 10 + (x - 48)) max64) refl (within 48 57 x)
-  where
-    go : (t : Bool) → leb (n * 10 + (x - 48)) max64 ≡ t → (u : Bool) → cond (u && t) (n * 10 + (x - 48)) 0 ≤ max64
-    go true e true = leb-true (n * 10 + (x - 48)) max64 e
-    go true e false = omega arith
-    go false e true = omega arith
-    go false e false = omega arith
-
-number-most : (n : ℕ) (t : List ℕ) → n ≤ max64 → number n t ≤ max64
+number-most : (u : List ℕ) → number u ≤ max64
 unfolding number
-number-most n [] h = h
-number-most n (x ∷ t) h = number-most (push n x) t (push-most n x)
+number-most u = go (unsignedOf u) (unsigned-most u)
+  where
+    go : (n : Number) → Most n → orZero n ≤ max64
+    go (Value n) h = h
+    go Bad h = omega arith
 
 unhex-most : (c : ℕ) → unhex c < 16
 unfolding unhex
@@ -155,8 +144,8 @@ module _ {u : List ℕ} (g : Given u) where
   integer-octets : Octets (integerOf u)
   unfolding integerOf
   integer-octets =
-      cond-octets (starts 45 u) (head-octets negative (pred (number 0 (drop 1 u))) [] (omega arith) (omega (arith, number-most 0 (drop 1 u) (omega arith))) refl)
-      (head-octets unsigned (number 0 u) [] (omega arith) (number-most 0 u (omega arith)) refl)
+      cond-octets (starts 45 u) (head-octets negative (pred (number (drop 1 u))) [] (omega arith) (omega (arith, number-most (drop 1 u))) refl)
+      (head-octets unsigned (number u) [] (omega arith) (number-most u) refl)
 
   string-octets : (k a b : ℕ) (f : List ℕ → List ℕ) → k ≤ map → Shrinks (f (inner a b u)) (inner a b u) → Octets (stringOf k (f (inner a b u)))
   string-octets k a b f h i = head-octets k (length (f (inner a b u))) (f (inner a b u)) h (omega (arith, i .few, given-inner a b g .short)) (i .octets)
@@ -220,7 +209,7 @@ cond-took true p q = p
 cond-took false p q = q
 
 word-took : (f : List ℕ → Headed) → ((u : List ℕ) → Given u → Octets (f u)) → (t : List ℕ) → Given t → Took (takeWord f t)
-word-took f h t g = let (a, b) = given-word g in record { taken-octets = h (front t) a; rest-given = b }
+word-took f h t g = let (a, b) = given-word g in record { taken-octets = h (front inWord t) a; rest-given = b }
 
 group-took : (k : ℕ) (t : List ℕ) → k ≤ map → Given t → Took (takeGroup k t)
 group-took k t h g =
@@ -231,7 +220,7 @@ reference-took : (t r : List ℕ) → Given t → Took (takeReference t r)
 unfolding parts
 reference-took t r g =
     let u : List ℕ = drop 1 r in
-    record { taken-octets = head-octets array (parts u) [] (omega arith) (few (startsBy inWord u) (starts 40 (past (drop 1 (past u))))) refl; rest-given = g }
+    record { taken-octets = head-octets array (parts u) [] (omega arith) (few (startsBy inWord u) (starts 40 (past inWord (drop 1 (past inWord u))))) refl; rest-given = g }
   where
     few : (a b : Bool) → cond a (cond b 4 3) 1 ≤ max64
     few true true = omega arith
@@ -242,9 +231,9 @@ ari-took : (t : List ℕ) → Given t → Took (takeAri t)
 unfolding takeAri
 ari-took t g =
     cond-took (starts 47 t)
-    (cond-took (starts 47 (drop 1 t)) (reference-took t (past (drop 2 t)) g)
+    (cond-took (starts 47 (drop 1 t)) (reference-took t (past inWord (drop 2 t)) g)
     (record { taken-octets = head-octets array 2 [] (omega arith) (omega arith) refl; rest-given = given-drop 1 g }))
-    (cond-took (starts 46 t) (reference-took t (past t) g) (word-took literalOf (λ u h. literal-octets h) t g))
+    (cond-took (starts 46 t) (reference-took t (past inWord t) g) (word-took literalOf (λ u h. literal-octets h) t g))
 
 nothing-took : (t : List ℕ) → Given t → Took (takeNothing t)
 nothing-took t g = record { taken-octets = simple-octets 22 (omega arith); rest-given = g }
@@ -267,7 +256,7 @@ took (objectNamespace p) t g =
     (word-took nameOf (λ u h. name-octets h) (drop 2 t) (given-drop 2 g))
 took (objectType p) t g = word-took nameOf (λ u h. name-octets h) t g
 took (objectId p) t g = word-took nameOf (λ u h. name-octets h) t g
-took params t g = group-took (cond (starts 61 (past (drop 1 t))) map array) t (kind (starts 61 (past (drop 1 t)))) g
+took params t g = group-took (cond (starts 61 (past inWord (drop 1 t))) map array) t (kind (starts 61 (past inWord (drop 1 t)))) g
   where
     kind : (t : Bool) → cond t map array ≤ map
     kind true = omega arith

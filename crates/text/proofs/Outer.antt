@@ -9,7 +9,7 @@ use lib.Dec.{eqb}
 use borrow.Author.Tests.{eqb-true}
 use Rattle.buffer.specs.Bytes.{all, isByte}
 use Rattle.cbor.specs.Head.{array, simple, Lead, leadBytes}
-use Rattle.buffer.proofs.ByteLaws.{and-true}
+use Rattle.buffer.proofs.ByteLaws.{and-true, all-split}
 use Rattle.ari.specs.Table.{Place, alone, inside, ari, Row, row, Level, done, due, types, typeRows, rule, fits, members}
 use Rattle.ari.specs.declared.Limits.{Limits}
 use Rattle.ari.specs.declared.Input.the-variants.{Single}
@@ -21,7 +21,6 @@ use Rattle.ari.proofs.RulesFit.{here-ari}
 use Rattle.ari.proofs.Demand.{stands-fit}
 use Rattle.text.specs.Text.{anAri, spell, texts, anAriDue, isRelative, textOf, Form, spelled, none-at, isFloat, floatIn, isSet, form}
 use Rattle.text.specs.Parse.{startsBy, starts, Run, level, parse, candidate}
-use Rattle.text.proofs.Decimal.{all-split}
 use Rattle.text.proofs.Words.{plus, minus, Named, numbered, lettered}
 use Rattle.text.proofs.Leads.{isSetType, namespace-named, type-word}
 use Rattle.text.proofs.Below.{Spells, an-ari}
@@ -107,7 +106,7 @@ relative-first x (object-ref {w = w} f (with-params {l = l} {l₁ = l₁} h p₁
     let (a, b) = held-text w h in
     rw (a, b, z)
 
--- "Outermost `ari:`, except before a relative reference": taken off again
+-- R99: the scheme is taken off again
 abbrev unscheme : List ℕ → List ℕ
 unscheme t = cond (starts 46 t) t (drop 4 t)
 

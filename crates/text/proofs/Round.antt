@@ -1,15 +1,15 @@
--- Demand 2 for texts: what is written is read again, what is read is written again, and nothing else is read.
+-- R110, R111: what is written is read again, what is read is written again, and nothing else is read.
 use Prim.Native.Nat.{ℕ, _+_, _*_, _≤_, _<_}
 use mathlib.Core.Logic.{_↔_}
 use mathlib.Core.Path.{_≡_, refl, sym, _∙_, ap}
 use mathlib.Core.Bool.{Bool, true, false, cond, true≢false}
-use mathlib.Core.List.{List, [], _∷_}
+use mathlib.Core.List.{List, []}
 use native.Mathlib.Omega.{arith}
 use lib.ListN.{length}
-use lib.Dec.{ltb, eqb}
-use borrow.Author.Tests.{ltb-true, ltb-false, eqb-true, eq-eqb}
-use Rattle.buffer.specs.Bytes.{all, isByte}
-use Rattle.buffer.proofs.ByteLaws.{and-true}
+use lib.Dec.{ltb}
+use borrow.Author.Tests.{ltb-true, ltb-false}
+use Rattle.buffer.specs.Bytes.{all, isByte, same}
+use Rattle.buffer.proofs.ByteLaws.{same-is, same-self}
 use Rattle.ari.specs.Table.{max64, alone, ari, due}
 use Rattle.ari.specs.declared.Limits.{Limits}
 use Rattle.ari.specs.declared.Input.the-variants.{Single}
@@ -17,25 +17,16 @@ use Rattle.ari.specs.Reader.{Answer, refuse, accept, read}
 use Rattle.ari.specs.Items.{encode, heads}
 use Rattle.ari.specs.Decode.{decode}
 use Rattle.ari.specs.Rules.{Is}
-use Rattle.ari.specs.Limits.{firstLimits}
+use Rattle.ari.specs.Limits.{firstLimits, capped}
 use Rattle.ari.proofs.Demand.{stands-fit, demand-two}
 use Rattle.ari.proofs.Weight.{well-fit}
+use Rattle.ari.proofs.Decoded.{heads-encode}
 use Rattle.text.specs.Text.{textOf, Form, spelled, none-at, form}
-use Rattle.text.specs.Parse.{same, candidate}
-use Rattle.text.specs.Answer.{Output, refused, output, written, writeText, checked, readText, Spelled}
+use Rattle.text.specs.Parse.{candidate}
+use Rattle.text.specs.Answer.{Output, refused, output, written, writeText, checked, readText, Spelled, longest}
 use Rattle.text.proofs.Bound.{text-most}
 use Rattle.text.proofs.Outer.{candidate-back}
 use Rattle.text.proofs.Octets.{candidate-bytes}
-
-pub same-is : (u v : List ℕ) → same u v ≡ true → u ≡ v
-same-is [] [] e = refl
-same-is [] (y ∷ v) e = absurd (true≢false (sym e))
-same-is (x ∷ u) [] e = absurd (true≢false (sym e))
-same-is (x ∷ u) (y ∷ v) e = let (p, q) = and-true (eqb x y) (same u v) e in rw (eqb-true x y p, same-is u v q)
-
-pub same-self : (u : List ℕ) → same u u ≡ true
-same-self [] = refl
-same-self (x ∷ u) = rw (eq-eqb x x refl, same-self u)
 
 never : {r p n : ℕ} {t : List ℕ} → refused r p ≡ output t n → ⊥
 never e = let z : _≡_ {A = ℕ} 0 1 = cc in omega arith
@@ -78,7 +69,7 @@ module _ (m : Limits) where
         let k : heads (decode b) ≤ m .items = omega (arith, i .count, i .few) in
         ap encode (ap (candidate m) (sym (c .the-text)) ∙ candidate-back m (i .stands) (c .has-text) e (i .shallow) k) ∙ i .bytes
 
-    -- "A text has at most 4 bytes, and 3 for each binary byte and 16 for each item."
+    -- R112
     pub text-length : Spelled m t b n → length t ≤ 4 + (3 * length b + 16 * n)
     text-length c =
         let i = c .is in
@@ -89,7 +80,7 @@ module _ (m : Limits) where
   unfolding writeText
   write-refused b r p e = rw e
 
-  -- "accepted, but has no text form" is 14
+  -- R64: an accepted ARI without a text is 14
   pub write-no-text : (b : List ℕ) (n p : ℕ) → all isByte b ≡ true → Is m Single b (decode b) n → form (decode b) ≡ none-at p → writeText m b ≡ refused 14 p
   unfolding writeText
   write-no-text b n p o i e = rw (demand-two m Single b n o .1 i, e)
@@ -128,7 +119,7 @@ module _ (m : Limits) where
       go (no-text h x q) = absurd (never (sym q ∙ e))
       go (a-text h k x q) = let z = sym q ∙ e in rw (← text-of z, ← count-of z) x
 
-  -- "No other spelling is read": accepted exactly if it is the text of an accepted ARI, and not too long.
+  -- R110: a text is read exactly if it is the text of an accepted ARI, and not too long.
   module _ {t : List ℕ} (o : all isByte t ≡ true) (f : length t < max64) where
     pub read-exactly : (b : List ℕ) (n : ℕ) → (readText m t ≡ output b n) ↔ ((length t ≤ m .text) × (all isByte b ≡ true) × Spelled m t b n)
     read-exactly b n = (λ e. forth e (read-tried t), λ x. back x (read-tried t))
@@ -149,7 +140,7 @@ module _ (m : Limits) where
             let z = sym (rw y at x) ∙ spelled-written c s in
             rw (q, y, count-of z)
 
-    -- 15: "text that isn't the text of an accepted ARI"
+    -- R65: what is the text of no accepted ARI is 15
     pub read-no-text : (readText m t ≡ refused 15 0) ↔ ((length t ≤ m .text) × ((b : List ℕ) (n : ℕ) → all isByte b ≡ true → Spelled m t b n → ⊥))
     read-no-text = (λ e. forth e (read-tried t), λ x. back x (read-tried t))
       where
@@ -163,7 +154,7 @@ module _ (m : Limits) where
         back (h, x) (no-text l y q) = q
         back (h, x) (a-text l k y q) = let c = candidate-bytes m t (record { octets = o; short = f }) in absurd (x (tried t) k c (written-spelled c y))
 
-  -- 1: "input too long"; there is no third refusal
+  -- R51: a text that is too long is 1; there is no third refusal
   pub read-too-long : (t : List ℕ) → (readText m t ≡ refused 1 0) ↔ (m .text < length t)
   read-too-long t = (λ e. forth e (read-tried t), λ h. back h (read-tried t))
     where
@@ -181,33 +172,35 @@ module _ (m : Limits) where
   pub one-text-one-ari : (t b c : List ℕ) (n k : ℕ) → all isByte b ≡ true → all isByte c ≡ true → writeText m b ≡ output t n → writeText m c ≡ output t k → b ≡ c
   one-text-one-ari t b c n k o p e f = sym (spelled-back o (written-spelled o e)) ∙ spelled-back p (written-spelled p f)
 
-  -- the longest text that is written
-  abbrev pub longest : ℕ
-  longest = 4 + (3 * m .bytes + 16 * m .items)
-
   module _ (t b : List ℕ) (n : ℕ) (o : all isByte b ≡ true) (e : writeText m b ≡ output t n) where
     pub text-bound : length t ≤ 4 + (3 * length b + 16 * n)
     text-bound = text-length o (written-spelled o e)
 
-    pub text-short : length t ≤ longest
-    text-short = let i = written-spelled o e .is in omega (arith, text-bound, i .short, i .few)
+    pub text-short : length t ≤ longest m (length b)
+    text-short =
+        let i = written-spelled o e .is in
+        omega (arith, text-bound, i .short, i .few, i .count, heads-encode (decode b), ap length (i .bytes))
 
     -- Written and read again, the same bytes.
-    pub write-read : longest ≤ m .text → readText m t ≡ output b n
+    pub write-read : longest m (m .bytes) ≤ m .text → readText m t ≡ output b n
     write-read h = go (read-tried t)
       where
         c : Spelled m t b n
         c = written-spelled o e
 
         go : Tried t (readText m t) → readText m t ≡ output b n
-        go (too-long l q) = absurd (omega (arith, text-short))
+        go (too-long l q) = absurd (omega (arith, text-short, c .is .short))
         go (no-text l x q) = absurd (x n (rw (spelled-back o c) e))
         go (a-text l k x q) =
             let y = spelled-back o c in
             let z = sym (rw y at x) ∙ e in
             rw (q, y, count-of z)
 
--- Under document 01's numbers every written text is short enough, and is read again.
+-- Within limits that are none above the gate's own, no text is longer than the gate's own limit.
+pub capped-longest : (m : Limits) (n : ℕ) → longest (capped m) n ≤ firstLimits .text
+capped-longest m n = omega arith
+
+-- Within the gate's own limits every written text is read again.
 module _ (t b : List ℕ) (n : ℕ) (o : all isByte b ≡ true) (e : writeText firstLimits b ≡ output t n) where
   pub first-short : length t ≤ firstLimits .text
   first-short = omega (arith, text-short firstLimits t b n o e)

@@ -10,29 +10,30 @@ use lib.ListN.{length, length-append}
 use lib.Seq.{take-at, drop-at}
 use lib.Dec.{ltb, eqb}
 use borrow.Author.Tests.{ltb-true, eqb-true, eqb-false, lt-leb, ne-eqb}
+use Rattle.buffer.proofs.RunLaws.{run-at}
+use Rattle.buffer.proofs.RunLaws as runs
+use Rattle.buffer.proofs.DecimalLaws.{isDigit, all-digits, digits-some, decimal-back}
+use Rattle.buffer.specs.Runs.{front, past}
+use Rattle.buffer.specs.Decimal.{digits, decimal}
 use Rattle.buffer.specs.Bytes.{within, all, isByte}
 use Rattle.cbor.specs.Head.{unsigned, negative, bytes, text, simple, Lead}
-use Rattle.buffer.proofs.ByteLaws.{and-true, or-true, not-true, within-true}
+use Rattle.buffer.proofs.ByteLaws.{and-true, or-true, within-true, all-append}
 use Rattle.ari.specs.Name.{startsName, continuesName, identifier, namespaceName}
 use Rattle.ari.specs.Table.{max64, max63}
-use Rattle.text.specs.Chars.{digits, decimal, integer, hex, hexes, bare, escape, each, textString, byteString, simpleText, literalText, nameText}
-use Rattle.text.specs.Parse.{ends, inWord, front, past, startsBy, starts, number, unhex, any, unescape, unhexes, inner, headOf, stringOf, integerOf, literalOf, startsNumber, nameOf}
-use Rattle.text.proofs.Decimal.{isDigit, all-append, number-digits, all-digits, digits-some}
+use Rattle.text.specs.Chars.{integer, hex, hexes, bare, escape, each, textString, byteString, simpleText, literalText, nameText}
+use Rattle.text.specs.Parse.{ends, inWord, startsBy, starts, number, unhex, any, unescape, unhexes, inner, headOf, stringOf, integerOf, literalOf, startsNumber, nameOf}
 
 -- a word, and what stands behind it
 unfoldable pub halts : List ℕ → Bool
 halts [] = true
 halts (x ∷ t) = ends x
 
-pub word-at : (u r : List ℕ) → all inWord u ≡ true → halts r ≡ true → (front (u ++ r) ≡ u) × (past (u ++ r) ≡ r)
-unfolding front past halts inWord
-word-at [] [] e h = (refl, refl)
-word-at [] (x ∷ r) e h = (rw h, rw h)
-word-at (x ∷ u) r e h =
-    let (p, q) = and-true (inWord x) (all inWord u) e in
-    let n : ends x ≡ false = not-true (ends x) p in
-    let i = word-at u r q h in
-    (rw (n, i .0), rw (n, i .1))
+pub word-at : (u r : List ℕ) → all inWord u ≡ true → halts r ≡ true → (front inWord (u ++ r) ≡ u) × (past inWord (u ++ r) ≡ r)
+word-at u r e h = run-at inWord u r e (stop r h)
+  where
+    stop : (r : List ℕ) → halts r ≡ true → runs.halts inWord r
+    stop [] h = unfold runs.halts in tt
+    stop (x ∷ r) h = unfold runs.halts halts inWord in rw h
 
 -- a test that fails at c
 pub differs : (p : ℕ → Bool) (c : ℕ) → p c ≡ false → (x : ℕ) → p x ≡ true → eqb x c ≡ false
@@ -168,9 +169,9 @@ decimal-starts a h = go (digits 19 a) (all-digits 19 a (twenty a h)) (digits-som
     go [] e l = absurd (omega arith)
     go (x ∷ u) e l = and-true (isDigit x) (all isDigit u) e .0
 
-decimal-back : (a : ℕ) → a ≤ max64 → number 0 (decimal a) ≡ a
-unfolding decimal
-decimal-back a h = number-digits 19 a (twenty a h) h
+number-back : (a : ℕ) → a ≤ max64 → number (decimal a) ≡ a
+unfolding number
+number-back a h = rw (decimal-back a h)
 
 pub integer-word : {k a : ℕ} → Integer k a → all inWord (integer k a) ≡ true
 unfolding integer inWord ends
@@ -184,8 +185,8 @@ integer-starts (minus h) = refl
 
 pub integer-back : {k a : ℕ} → Integer k a → integerOf (integer k a) ≡ headOf k a []
 unfolding integer integerOf startsBy
-integer-back (plus {a = a} h) = rw (begins isDigit 45 (decimal a) (decimal-starts a h) refl, decimal-back a h)
-integer-back (minus {a = a} h) = rw (decimal-back (suc a) (omega arith))
+integer-back (plus {a = a} h) = rw (begins isDigit 45 (decimal a) (decimal-starts a h) refl, number-back a h)
+integer-back (minus {a = a} h) = rw (number-back (suc a) (omega arith))
 
 -- the literals that have a text
 pub data Literal : ℕ → ℕ → List ℕ → Type 0 where

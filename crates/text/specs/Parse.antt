@@ -1,13 +1,18 @@
--- From a text to a candidate, along the slots. Lax, and never failing: the candidate counts only if its own text is the text that was read.
+-- From a text to a candidate, along the slots. Lax, and never failing: the candidate counts only if its own text is the text that was read (R110).
+-- Interface: candidate. All others are its parts, which the private contracts of text_read_item and text_read cite.
 use Prim.Native.Nat.{ℕ, zero, suc, pred, _+_, _-_, _*_}
 use Prim.Native.Char.{code}
-use mathlib.Core.Bool.{Bool, true, false, not, _&&_, _||_, cond}
+use mathlib.Core.Bool.{Bool, false, not, _&&_, _||_, cond}
 use mathlib.Core.List.{List, [], _∷_}
 use lib.ListN.{length, take, drop}
-use lib.Dec.{leb, eqb}
-use Rattle.buffer.specs.Bytes.{within}
-use Rattle.cbor.specs.Head.{unsigned, negative, bytes, text, array, map, simple, Lead, shortest}
-use Rattle.ari.specs.Table.{max64, Slot, version, ari, type, value, namespace, objectNamespace, objectType, objectId, params, key, entry, nonce, setTime, target, report, reportTime, reportSource, Level, done, due, rule, members}
+use lib.Dec.{eqb}
+use Rattle.buffer.specs.Bytes.{within, same}
+use Rattle.buffer.specs.Runs.{front, past}
+use Rattle.buffer.specs.declared.Number.{Number}
+use Rattle.buffer.specs.declared.Number.the-variants.{Value, Bad}
+use Rattle.buffer.specs.Decimal.{unsignedOf}
+use Rattle.cbor.specs.Head.{unsigned, negative, bytes, text, array, map, simple, leadOf}
+use Rattle.ari.specs.Table.{Slot, version, ari, type, value, namespace, objectNamespace, objectType, objectId, params, key, entry, nonce, setTime, target, report, reportTime, reportSource, Level, done, due, rule, members}
 use Rattle.ari.specs.declared.Limits.{Limits}
 use Rattle.ari.specs.Items.{Items, none, item}
 use Rattle.ari.specs.Decode.{Headed}
@@ -21,15 +26,6 @@ ends x = eqb x (code "(") || (eqb x (code ")") || (eqb x (code ",") || (eqb x (c
 unfoldable pub inWord : ℕ → Bool
 inWord x = not (ends x)
 
--- the bytes before the first that ends a word; from there on
-unfoldable pub front : List ℕ → List ℕ
-front [] = []
-front (x ∷ t) = let r = front t in cond (ends x) [] (x ∷ r)
-
-unfoldable pub past : List ℕ → List ℕ
-past [] = []
-past (x ∷ t) = let r = past t in cond (ends x) (x ∷ t) r
-
 unfoldable pub startsBy : (ℕ → Bool) → List ℕ → Bool
 startsBy p [] = false
 startsBy p (x ∷ t) = p x
@@ -37,16 +33,18 @@ startsBy p (x ∷ t) = p x
 abbrev pub starts : ℕ → List ℕ → Bool
 starts c = startsBy (λ x. eqb x c)
 
--- One digit more; 0 for another byte, or past 64 bits.
-unfoldable pub push : ℕ → ℕ → ℕ
-push n x = cond (within 48 57 x && leb (n * 10 + (x - 48)) max64) (n * 10 + (x - 48)) 0
+-- a number in plain decimal; 0 for anything else
+abbrev pub orZero : Number → ℕ
+orZero (Value n) = n
+orZero Bad = 0
 
-unfoldable pub number : ℕ → List ℕ → ℕ
-number n [] = n
-number n (x ∷ t) = number (push n x) t
+unfoldable pub number : List ℕ → ℕ
+number u = orZero (unsignedOf u)
 
 unfoldable pub unhex : ℕ → ℕ
-unhex c = cond (within 48 57 c) (c - 48) (cond (within 65 70 c) (c - 55) (cond (within 97 102 c) (c - 87) 0))
+unhex c =
+    cond (within (code "0") (code "9") c) (c - code "0")
+    (cond (within (code "A") (code "F") c) (c - (code "A" - 10)) (cond (within (code "a") (code "f") c) (c - (code "a" - 10)) 0))
 
 -- Reading escapes: anything may come; after a %; after a % and a first digit.
 pub data Await : Type 0 where
@@ -72,9 +70,6 @@ unfoldable pub inner : ℕ → ℕ → List ℕ → List ℕ
 inner a b u = take (length u - (a + b)) (drop a u)
 
 -- a head in its shortest form, with its string
-unfoldable pub leadOf : ℕ → ℕ → Lead
-leadOf k a = record { info = cond (leb k map) (shortest a) a; kind = k; arg = a }
-
 abbrev pub headOf : ℕ → ℕ → List ℕ → Headed
 headOf k a s = record { lead = leadOf k a; str = s }
 
@@ -83,7 +78,7 @@ stringOf k s = headOf k (length s) s
 
 -- the head that a word means
 unfoldable pub integerOf : List ℕ → Headed
-integerOf u = cond (starts (code "-") u) (headOf negative (pred (number 0 (drop 1 u))) []) (headOf unsigned (number 0 u) [])
+integerOf u = cond (starts (code "-") u) (headOf negative (pred (number (drop 1 u))) []) (headOf unsigned (number u) [])
 
 unfoldable pub literalOf : List ℕ → Headed
 literalOf u =
@@ -95,7 +90,7 @@ literalOf u =
     (cond (starts (code "u") u) (headOf simple 23 []) (integerOf u))))))
 
 unfoldable pub startsNumber : ℕ → Bool
-startsNumber x = within 48 57 x || eqb x (code "-")
+startsNumber x = within (code "0") (code "9") x || eqb x (code "-")
 
 unfoldable pub nameOf : List ℕ → Headed
 nameOf u = cond (startsBy startsNumber u) (integerOf u) (stringOf text u)
@@ -103,12 +98,6 @@ nameOf u = cond (startsBy startsNumber u) (integerOf u) (stringOf text u)
 -- the value of a type: a LABEL is bare
 abbrev pub valueOf : ℕ → List ℕ → Headed
 valueOf t u = cond (eqb t 14) (nameOf u) (literalOf u)
-
-abbrev pub same : List ℕ → List ℕ → Bool
-same [] [] = true
-same [] (y ∷ v) = false
-same (x ∷ u) [] = false
-same (x ∷ u) (y ∷ v) = eqb x y && same u v
 
 abbrev pub numberIn : List Name → List ℕ → ℕ
 numberIn [] u = 0
@@ -141,14 +130,14 @@ pub record Taken : Type 0 where
   pub rest : List ℕ
 
 abbrev pub takeWord : (List ℕ → Headed) → List ℕ → Taken
-takeWord f t = record { head = f (front t); rest = past t }
+takeWord f t = record { head = f (front inWord t); rest = past inWord t }
 
 abbrev pub takeGroup : ℕ → List ℕ → Taken
 takeGroup k t = record { head = headOf k (count (drop 1 t)) []; rest = drop 1 t }
 
 -- the parts of a reference, from behind its namespace
 unfoldable pub parts : List ℕ → ℕ
-parts t = cond (startsBy inWord t) (cond (starts (code "(") (past (drop 1 (past t)))) 4 3) 1
+parts t = cond (startsBy inWord t) (cond (starts (code "(") (past inWord (drop 1 (past inWord t)))) 4 3) 1
 
 -- a reference, whose namespace ends where r begins
 abbrev pub takeReference : List ℕ → List ℕ → Taken
@@ -156,8 +145,8 @@ takeReference t r = record { head = headOf array (parts (drop 1 r)) []; rest = t
 
 unfoldable pub takeAri : List ℕ → Taken
 takeAri t =
-    cond (starts (code "/") t) (cond (starts (code "/") (drop 1 t)) (takeReference t (past (drop 2 t))) (record { head = headOf array 2 []; rest = drop 1 t }))
-    (cond (starts (code ".") t) (takeReference t (past t)) (takeWord literalOf t))
+    cond (starts (code "/") t) (cond (starts (code "/") (drop 1 t)) (takeReference t (past inWord (drop 2 t))) (record { head = headOf array 2 []; rest = drop 1 t }))
+    (cond (starts (code ".") t) (takeReference t (past inWord t)) (takeWord literalOf t))
 
 -- what stands in sets alone
 abbrev pub takeNothing : List ℕ → Taken
@@ -172,7 +161,7 @@ takeAt namespace t = takeWord nameOf (drop 2 t)
 takeAt (objectNamespace p) t = cond (starts (code ".") t) (takeWord (λ u. headOf simple 22 []) t) (takeWord nameOf (drop 2 t))
 takeAt (objectType p) t = takeWord nameOf t
 takeAt (objectId p) t = takeWord nameOf t
-takeAt params t = takeGroup (cond (starts (code "=") (past (drop 1 t))) map array) t
+takeAt params t = takeGroup (cond (starts (code "=") (past inWord (drop 1 t))) map array) t
 takeAt (key w) t = takeWord literalOf t
 takeAt (entry w) t = takeAri t
 takeAt (nonce y) t = takeNothing t

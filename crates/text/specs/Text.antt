@@ -1,4 +1,5 @@
--- The text of a single ARI, head by head along the slots, and which accepted ARIs have none: document 01, 'Text' and test 14.
+-- The text of a single ARI, head by head along the slots, and which accepted ARIs have none: R98 to R103, R64. Interface: Name, names, nameIn,
+-- typeName, Spell, word, comma, anAri, absolute, silent, spell, texts, isRelative, anAriDue, textOf, Form, isFloat, floatIn, isSet, form.
 use Prim.Native.Nat.{ℕ}
 use Prim.Native.String.{String}
 use mathlib.Core.Bool.{Bool, false, _&&_, _||_, cond}
@@ -9,7 +10,7 @@ use Rattle.ari.specs.Table.{alone, inside, Slot, version, ari, type, value, nam
 use Rattle.ari.specs.Items.{Items, none, item, Spot, spots}
 use Rattle.text.specs.Chars.{ascii, literalText, nameText}
 
--- The names of the types. REAL32, REAL64, EXECSET and RPTSET stand in no text: their values have none.
+-- R33: the names of the types. REAL32, REAL64, EXECSET and RPTSET stand in no text: their values have none.
 pub data Name : Type 0 where
   name : ℕ → String → Name
 
@@ -57,7 +58,7 @@ abbrev pub comma : Level → List ℕ
 comma done = []
 comma (due s n) = ascii ","
 
--- "Typed: `/NAME/value`"; a reference's own head writes nothing
+-- R100: a typed literal's first slash; a reference's own head writes nothing
 abbrev pub anAri : Spell
 anAri = record { before = λ l s. cond (eqb (l .kind) array) (cond (eqb (l .arg) 2) (ascii "/") []) (literalText l s); after = λ l v. comma v }
 
@@ -72,14 +73,14 @@ unfoldable pub spell : Slot → Spell
 spell version = silent
 spell (ari w) = anAri
 spell (type w) = word (λ l s. typeName (l .arg)) (ascii "/")
--- "AC `(a,b)`, AM `(k=v,k=v)`"; "LABEL and names bare"
+-- R103: an AC or AM in parentheses; R109: a LABEL (type 14) bare
 spell (value t w) = record {
   before = λ l s. cond (isContainer (l .kind)) (ascii "(") (cond (eqb t 14) s (literalText l s));
   after = λ l v. cond (isContainer (l .kind)) (ascii ")") [];
 }
--- "namespace `//ns/`"
+-- R102
 spell namespace = word absolute (ascii "/")
--- "References: `//ns/type/id`, relative `./type/id`, parameters in parentheses"
+-- R101
 spell (objectNamespace p) = word (λ l s. cond (eqb (l .kind) simple) (ascii ".") (absolute l s)) (ascii "/")
 spell (objectType p) = word nameText (ascii "/")
 spell (objectId p) = word nameText []
@@ -111,7 +112,7 @@ isRelative (item l s (item l₁ s₁ m₁ r₁) rs) = eqb (l .kind) array && eqb
 abbrev pub anAriDue : Level
 anAriDue = due (ari inside) 0
 
--- "Outermost `ari:`, except before a relative reference."
+-- R99: the scheme, which only a relative reference lacks
 unfoldable pub textOf : Items → List ℕ
 textOf g = cond (isRelative g) [] (ascii "ari:") ++ texts g anAriDue
 
@@ -128,12 +129,12 @@ abbrev pub floatIn : List Spot → Form
 floatIn [] = spelled
 floatIn (x ∷ xs) = cond (isFloat (x .lead)) (none-at (x .first)) (floatIn xs)
 
--- outermost type 20 or 21
+-- R98: an EXECSET (type 20) or an RPTSET (type 21)
 unfoldable pub isSet : Items → Bool
 isSet none = false
 isSet (item l s none rs) = false
 isSet (item l s (item l₁ s₁ m₁ r₁) rs) = eqb (l .kind) array && (eqb (l .arg) 2 && (eqb (l₁ .arg) 20 || eqb (l₁ .arg) 21))
 
--- Test 14: "accepted, but has no text form: outermost type 20 or 21, place 0; otherwise a float, place is the first float's head"
+-- R64: no text, and the place: 0 for a set, otherwise the first float's head
 unfoldable pub form : Items → Form
 form g = cond (isSet g) (none-at 0) (floatIn (spots g false (due (ari alone) 0) 0 0))

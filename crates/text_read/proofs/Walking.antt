@@ -1,5 +1,6 @@
 -- The walk that reads: one law for each way that a turn ends; the premises are the facts that the code leaves.
 use Prim.Native.Nat.{ℕ, zero, suc, pred, _+_, _-_, _*_, _≤_, _<_}
+use Prim.Native.Char.{code}
 use mathlib.Core.Path.{_≡_, refl, sym, _∙_, ap}
 use mathlib.Core.Bool.{Bool, true, false, cond}
 use mathlib.Core.List.{List, [], _∷_, _++_, append-assoc}
@@ -16,7 +17,8 @@ use Rattle.ari.specs.Items.{Items, none, item, encode}
 use Rattle.grammar.specs.declared.Next.{Next}
 use Rattle.grammar.specs.declared.Next.the-variants.{Done, Due}
 use Rattle.grammar.specs.Code.{slotOf, levelOf, nextCode, insideCode}
-use Rattle.grammar.proofs.Right.{IsSlot, Stands, Slotted, next-stands, inside-right}
+use Rattle.grammar.specs.Code.{IsSlot}
+use Rattle.grammar.proofs.Right.{Stands, Slotted, next-stands, inside-right}
 use Rattle.reader.specs.Walks.{insideLevel}
 use Rattle.buffer.specs.Put.{Put}
 use Rattle.text_write_item.specs.Ways.{wayAt, afterBy}
@@ -26,7 +28,7 @@ use Rattle.text.specs.Text.{spell}
 use Rattle.text.specs.Parse.{starts, startsBy, Taken, takeAt, Run, nothing, level, parse}
 use Rattle.text_read_item.specs.declared.Item as read
 use Rattle.text_read_item.specs.Words.{NextTo, Read}
-use Rattle.text_read_item.proofs.Leaves.{here, beyond}
+use Rattle.buffer.proofs.RunLaws.{here, beyond}
 use Rattle.text_read_item.proofs.Ways.{type-arg}
 use Rattle.text_read.specs.declared.Pos.{Pos}
 use Rattle.text_read.specs.Parsed.{Parsed, Begins}
@@ -225,14 +227,14 @@ unfolding startsBy
 begins-empty [] h = record { is = refl; inside = omega arith }
 begins-empty (x ∷ t) h = absurd (omega arith)
 
-pub begins-relative : (t : List ℕ) → (length t ≡ 0 → ⊥) → getD t 0 0 ≡ 46 → Begins t 0
+pub begins-relative : (t : List ℕ) → (length t ≡ 0 → ⊥) → getD t 0 0 ≡ code "." → Begins t 0
 unfolding startsBy
 begins-relative [] h e = absurd (h refl)
 begins-relative (x ∷ t) h e = record { is = rw e; inside = omega arith }
 
-pub begins-absolute : (t : List ℕ) {r : ℕ} → (length t ≡ 0 → ⊥) → (getD t 0 0 ≡ 46 → ⊥) → NextTo t 0 4 r → Begins t r
+pub begins-absolute : (t : List ℕ) {r : ℕ} → (length t ≡ 0 → ⊥) → (getD t 0 0 ≡ code "." → ⊥) → NextTo t 0 4 r → Begins t r
 unfolding startsBy
 begins-absolute [] h e n = absurd (h refl)
-begins-absolute (x ∷ t) h e n = record { is = n .is ∙ rw (ne-eqb x 46 e); inside = n .inside }
+begins-absolute (x ∷ t) h e n = record { is = n .is ∙ rw (ne-eqb x (code ".") e); inside = n .inside }
 
 pub ruleset walking = (no-depth, nothing-inside, opened, inner-slot, next-slotted, begins, spent, filled, ends, again, begins-empty, begins-relative, begins-absolute)

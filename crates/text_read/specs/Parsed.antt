@@ -1,4 +1,4 @@
--- What the walk that reads a text puts, and where it ends.
+-- The walk that reads a text: what it puts, and where it ends. Private to src/: Parsed, Begins, short.
 use Prim.Native.Nat.{ℕ, _+_, _≤_}
 use Prim.Native.Char.{code}
 use mathlib.Core.Path.{_≡_}
@@ -7,8 +7,7 @@ use mathlib.Core.List.{List}
 use lib.ListN.{length, drop}
 use Rattle.ari.specs.Items.{encode}
 use Rattle.buffer.specs.Put.{Put}
-use Rattle.ari.specs.Limits.{firstLimits}
-use Rattle.text.specs.Parse.{starts, Run, candidate}
+use Rattle.text.specs.Parse.{starts, Run}
 use Rattle.text_read.specs.declared.Pos.{Pos}
 
 -- The bytes of a run's items are put. Where they fit, the text behind the run is what is left of it.
@@ -17,12 +16,11 @@ pub record Parsed (t : List ℕ) (run : Run) (at : ℕ) (room room′ : List ℕ
   pub put : Put room room′ at (w .end) (encode (run .items))
   pub rest-is : at + length (encode (run .items)) ≤ length room → drop (w .next) t ≡ run .rest
 
--- The candidate's bytes, unless there are more than any ARI has.
-pub record Tried (t b : List ℕ) : Type 0 where
-  pub short : length t ≤ firstLimits .text
-  pub is : length (encode (candidate firstLimits t)) ≤ firstLimits .bytes → b ≡ encode (candidate firstLimits t)
-
--- "Outermost `ari:`, except before a relative reference."
+-- R99: behind the scheme, which only a relative reference lacks
 pub record Begins (t : List ℕ) (r : ℕ) : Type 0 where
   pub is : drop r t ≡ cond (starts (code ".") t) t (drop 4 t)
   pub inside : r ≤ length t
+
+-- a text of fewer bytes is read in little room
+abbrev pub short : ℕ
+short = 128

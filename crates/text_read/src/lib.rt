@@ -1,20 +1,20 @@
 // An ARI's text is read: one walk along the slots puts a candidate's bytes, which count only if they are an accepted ARI whose own text is the text that was read.
 ghost use mathlib.Core.Path.{_≡_};
 ghost use mathlib.Core.Bool.{cond};
-ghost use Prim.Native.Nat.{_+_, _<_, _≤_, min};
+ghost use Prim.Native.Nat.{_<_, _≤_};
 ghost use lib.ListN.{length, drop};
 ghost use Rattle.ari.specs.Table.{due};
-ghost use Rattle.ari.specs.Limits.{firstLimits};
+ghost use Rattle.ari.specs.Limits.{firstLimits, capped};
 ghost use Rattle.ari.specs.Items.{encode};
 ghost use Rattle.grammar.specs.Code.{slotOf};
 ghost use Rattle.grammar.specs.Code.{IsSlot};
 ghost use Rattle.reader.specs.Walks.{insideLevel};
 ghost use Rattle.buffer.specs.Put.{Put};
-ghost use Rattle.text.specs.Parse.{same, level, parse, candidate};
-ghost use Rattle.text.specs.Answer.{refused, output, readText, lent};
+ghost use Rattle.text.specs.Parse.{level, parse, candidate};
+ghost use Rattle.text.specs.Answer.{refused, output, writeText, checked, readText, lent};
 ghost use Rattle.text_write.specs.Written.{writtenOf, roomAfter};
-ghost use Rattle.text_read.specs.Parsed.{Parsed, Tried, Begins};
-use text_write::Spelling;
+ghost use Rattle.text_read.specs.Parsed.{Parsed, Begins, short};
+use ari::Limits;
 use text_write::Written;
 
 // Where a walk stands: in the text, and in the room that it puts bytes into.
@@ -103,6 +103,9 @@ fn read_level(
     Pos { next: p, end: r }
 }
 
+// The bytes of `ari:`.
+const SCHEME: usize = 4;
+
 // Behind the scheme, which only a relative reference lacks.
 fn begin(t: &[u8]) -> usize
     ensures { λ r. ⌜ Begins (now (t .entry)) r ⌝ }
@@ -113,39 +116,33 @@ fn begin(t: &[u8]) -> usize
     if t[0] == b'.' {
         return 0;
     }
-    text_read_item::skip(t, 0, 4)
+    text_read_item::skip(t, 0, SCHEME)
 }
 
-fn put_candidate(t: &[u8], out: &mut [u8]) -> usize
-    ensures { λ r. ⌜ Put (now (out .entry)) (now (out .exit)) 0 r (encode (candidate firstLimits (now (t .entry)))) ⌝ }
+// The candidate's bytes, as many as there is room for.
+fn put_candidate(limits: Limits, t: &[u8], out: &mut [u8]) -> usize
+    ensures { λ r. ⌜ Put (now (out .entry)) (now (out .exit)) 0 r (encode (candidate limits (now (t .entry)))) ⌝ }
 {
     let p = begin(t);
-    let w = read_level(t, p, reader::ITEMS, reader::CONTAINERS, 3, 0, out, 0);
+    let w = read_level(
+        t,
+        p,
+        limits.items,
+        limits.containers,
+        grammar::ARI_INSIDE,
+        0,
+        out,
+        0,
+    );
     w.end
 }
 
-fn same(a: &[u8], b: &[u8]) -> bool
-    ensures { λ r. ⌜ r ≡ same (now (a .entry)) (now (b .entry)) ⌝ }
+// Bytes are handed over, if the text that was read is theirs; otherwise it is none: test 15.
+fn hand_over_if(spelled: bool, b: &[u8], count: usize, out: &mut [u8]) -> Written
+    ensures { λ r. ⌜ r ≡ writtenOf (lent (length (now (out .entry))) (cond spelled (output (now (b .entry)) count) (refused 15 0))) ⌝ }
+    ensures { λ r. ⌜ now (out .exit) ≡ roomAfter (now (out .entry)) (lent (length (now (out .entry))) (cond spelled (output (now (b .entry)) count) (refused 15 0))) ⌝ }
 {
-    if a.len() != b.len() {
-        return false;
-    }
-    let mut i = 0;
-    while i < a.len() {
-        if a[i] != b[i] {
-            return false;
-        }
-        i += 1;
-    }
-    true
-}
-
-// Bytes are handed over, if they are what was told; or they are refused.
-fn give(told: bool, b: &[u8], count: usize, out: &mut [u8]) -> Written
-    ensures { λ r. ⌜ r ≡ writtenOf (lent (length (now (out .entry))) (cond told (output (now (b .entry)) count) (refused 15 0))) ⌝ }
-    ensures { λ r. ⌜ now (out .exit) ≡ roomAfter (now (out .entry)) (lent (length (now (out .entry))) (cond told (output (now (b .entry)) count) (refused 15 0))) ⌝ }
-{
-    if told {
+    if spelled {
         return text_write::hand_over(b, count, out);
     }
     Written::Refused {
@@ -154,67 +151,83 @@ fn give(told: bool, b: &[u8], count: usize, out: &mut [u8]) -> Written
     }
 }
 
-// The candidate's bytes are handed over, if they are an ARI whose text is t.
-fn confirm(t: &[u8], b: &[u8], text: &mut [u8], out: &mut [u8]) -> Written
-    requires { ⌜ (min 32768 (length (now t) + 1) ≤ length (now text)) × Tried (now t) (now b) ⌝ }
-    ensures { λ r. ⌜ r ≡ writtenOf (lent (length (now (out .entry))) (readText firstLimits (now (t .entry)))) ⌝ }
-    ensures { λ r. ⌜ now (out .exit) ≡ roomAfter (now (out .entry)) (lent (length (now (out .entry))) (readText firstLimits (now (t .entry)))) ⌝ }
+// Bytes are handed over, if they are an ARI whose text is t. The scratch has room for more than t: a longer text does not pass for it.
+fn confirm(limits: Limits, t: &[u8], b: &[u8], scratch: &mut [u8], out: &mut [u8]) -> Written
+    requires { ⌜ length (now t) < length (now scratch) ⌝ }
+    ensures { λ r. ⌜ r ≡ writtenOf (lent (length (now (out .entry))) (checked (now (t .entry)) (now (b .entry)) (writeText limits (now (b .entry))))) ⌝ }
+    ensures { λ r. ⌜ now (out .exit) ≡ roomAfter (now (out .entry)) (lent (length (now (out .entry))) (checked (now (t .entry)) (now (b .entry)) (writeText limits (now (b .entry))))) ⌝ }
 {
-    let f = text_write::judge(b);
-    let Spelling::Has { relative, count } = f else {
+    let w = text_write::put_text(limits, b, scratch);
+    let Written::Bytes { length, count } = w else {
         return Written::Refused {
             number: 15,
             place: 0,
         };
     };
-    let size = text_write::put_text(b, relative, text);
-    let told = same(&text[0..size], t);
-    give(told, b, count, out)
+    let spelled = buffer::same(&scratch[0..length], t);
+    hand_over_if(spelled, b, count, out)
 }
 
-fn read_in(t: &[u8], bytes: &mut [u8], text: &mut [u8], out: &mut [u8]) -> Written
-    requires { ⌜ (4096 ≤ length (now bytes)) × (32768 ≤ length (now text)) ⌝ }
-    ensures { λ r. ⌜ r ≡ writtenOf (lent (length (now (out .entry))) (readText firstLimits (now (t .entry)))) ⌝ }
-    ensures { λ r. ⌜ now (out .exit) ≡ roomAfter (now (out .entry)) (lent (length (now (out .entry))) (readText firstLimits (now (t .entry)))) ⌝ }
+// A text that is not too long. There is room for more bytes than an ARI may have: a longer candidate is refused, and so is what there is room for.
+fn read_in(
+    limits: Limits,
+    t: &[u8],
+    bytes: &mut [u8],
+    scratch: &mut [u8],
+    out: &mut [u8],
+) -> Written
+    requires { ⌜ (length (now t) ≤ limits .text) × (limits .bytes < length (now bytes)) × (length (now t) < length (now scratch)) ⌝ }
+    ensures { λ r. ⌜ r ≡ writtenOf (lent (length (now (out .entry))) (readText limits (now (t .entry)))) ⌝ }
+    ensures { λ r. ⌜ now (out .exit) ≡ roomAfter (now (out .entry)) (lent (length (now (out .entry))) (readText limits (now (t .entry)))) ⌝ }
 {
-    if reader::TEXT < t.len() {
+    let size = put_candidate(limits, t, bytes);
+    confirm(limits, t, &bytes[0..size], scratch, out)
+}
+
+fn read_long(limits: Limits, t: &[u8], out: &mut [u8]) -> Written
+    requires { ⌜ (length (now t) ≤ limits .text) × (limits .bytes ≤ firstLimits .bytes) × (limits .text ≤ firstLimits .text) ⌝ }
+    ensures { λ r. ⌜ r ≡ writtenOf (lent (length (now (out .entry))) (readText limits (now (t .entry)))) ⌝ }
+    ensures { λ r. ⌜ now (out .exit) ≡ roomAfter (now (out .entry)) (lent (length (now (out .entry))) (readText limits (now (t .entry)))) ⌝ }
+{
+    let mut bytes = [0u8; ari::BYTES + 1];
+    let mut scratch = [0u8; ari::TEXT + 1];
+    read_in(limits, t, &mut bytes, &mut scratch, out)
+}
+
+// A text of fewer bytes is a short one.
+const SHORT: usize = 128;
+
+// A short text, with little room to clear: should its candidate fill that room, the text is read as a long one.
+fn read_short(limits: Limits, t: &[u8], out: &mut [u8]) -> Written
+    requires { ⌜ (length (now t) < short) × (length (now t) ≤ limits .text) × (limits .bytes ≤ firstLimits .bytes) × (limits .text ≤ firstLimits .text) ⌝ }
+    ensures { λ r. ⌜ r ≡ writtenOf (lent (length (now (out .entry))) (readText limits (now (t .entry)))) ⌝ }
+    ensures { λ r. ⌜ now (out .exit) ≡ roomAfter (now (out .entry)) (lent (length (now (out .entry))) (readText limits (now (t .entry)))) ⌝ }
+{
+    let mut bytes = [0u8; SHORT];
+    let mut scratch = [0u8; SHORT];
+    let size = put_candidate(limits, t, &mut bytes);
+    if bytes.len() <= size {
+        return read_long(limits, t, out);
+    }
+    confirm(limits, t, &bytes[0..size], &mut scratch, out)
+}
+
+// The binary form of the single ARI that a text is, within these limits, none above the gate's own.
+pub fn read_text_within(limits: Limits, t: &[u8], out: &mut [u8]) -> Written
+    ensures { λ r. ⌜ r ≡ writtenOf (lent (length (now (out .entry))) (readText (capped limits) (now (t .entry)))) ⌝ }
+    ensures { λ r. ⌜ now (out .exit) ≡ roomAfter (now (out .entry)) (lent (length (now (out .entry))) (readText (capped limits) (now (t .entry)))) ⌝ }
+{
+    let most = ari::cap(limits);
+    if most.text < t.len() {
         return Written::Refused {
             number: 1,
             place: 0,
         };
     }
-    let size = put_candidate(t, bytes);
-    if bytes.len() < size {
-        return Written::Refused {
-            number: 15,
-            place: 0,
-        };
+    if t.len() < SHORT {
+        return read_short(most, t, out);
     }
-    confirm(t, &bytes[0..size], text, out)
-}
-
-fn read_long(t: &[u8], out: &mut [u8]) -> Written
-    ensures { λ r. ⌜ r ≡ writtenOf (lent (length (now (out .entry))) (readText firstLimits (now (t .entry)))) ⌝ }
-    ensures { λ r. ⌜ now (out .exit) ≡ roomAfter (now (out .entry)) (lent (length (now (out .entry))) (readText firstLimits (now (t .entry)))) ⌝ }
-{
-    let mut bytes = [0u8; reader::BYTES];
-    let mut text = [0u8; reader::TEXT];
-    read_in(t, &mut bytes, &mut text, out)
-}
-
-// A short text, with little room to clear: should its candidate fill that room, the text is read as a long one.
-fn read_short(t: &[u8], out: &mut [u8]) -> Written
-    requires { ⌜ length (now t) < 128 ⌝ }
-    ensures { λ r. ⌜ r ≡ writtenOf (lent (length (now (out .entry))) (readText firstLimits (now (t .entry)))) ⌝ }
-    ensures { λ r. ⌜ now (out .exit) ≡ roomAfter (now (out .entry)) (lent (length (now (out .entry))) (readText firstLimits (now (t .entry)))) ⌝ }
-{
-    let mut bytes = [0u8; 128];
-    let mut text = [0u8; 128];
-    let size = put_candidate(t, &mut bytes);
-    if bytes.len() <= size {
-        return read_long(t, out);
-    }
-    confirm(t, &bytes[0..size], &mut text, out)
+    read_long(most, t, out)
 }
 
 // The binary form of the single ARI that a text is.
@@ -222,8 +235,5 @@ pub fn read_text(t: &[u8], out: &mut [u8]) -> Written
     ensures { λ r. ⌜ r ≡ writtenOf (lent (length (now (out .entry))) (readText firstLimits (now (t .entry)))) ⌝ }
     ensures { λ r. ⌜ now (out .exit) ≡ roomAfter (now (out .entry)) (lent (length (now (out .entry))) (readText firstLimits (now (t .entry)))) ⌝ }
 {
-    if t.len() < 128 {
-        return read_short(t, out);
-    }
-    read_long(t, out)
+    read_text_within(ari::LIMITS, t, out)
 }

@@ -11,17 +11,16 @@ use lib.ListN.{length, take, drop, getD, length-take, length-drop}
 use lib.Seq.{drop-drop, take-nil, take-take, length-take-le}
 use lib.Dec.{ltb, leb, eqb}
 use borrow.Author.Tests.{lt-ltb, le-ltb, ltb-true, ltb-false, leb-true, eq-eqb, ne-eqb, eqb-true, eqb-false}
-use Rattle.buffer.specs.Bytes.{be, value, all, isByte}
-use Rattle.buffer.proofs.ByteLaws.{and-true, value-lt, be-value, all-take, all-drop}
+use Rattle.buffer.specs.Bytes.{be, value, all, isByte, same, part}
+use Rattle.buffer.specs.Runs.{RunTo, front, past}
+use Rattle.buffer.proofs.RunLaws.{here, beyond, part-none}
+use Rattle.buffer.proofs.ByteLaws.{and-true, value-lt, be-value, all-take, all-drop, same-is, same-self}
 use Rattle.ari.specs.Decode.{Headed}
-use Rattle.reader.specs.Steps.{part}
 use Rattle.text.specs.Chars.{ascii}
 use Rattle.text.specs.Text.{Name, name, names}
-use Rattle.text.specs.Parse.{ends, inWord, front, past, startsBy, starts, number, any, unescape, unhexes, inner, headOf, stringOf, integerOf, literalOf, startsNumber, nameOf, same, numberIn, typeNumber, typeOf, commas, count, Taken, takeWord, takeGroup, parts, takeReference, takeAri, takeNothing}
-use Rattle.text.proofs.Round.{same-is, same-self}
+use Rattle.text.specs.Parse.{ends, inWord, startsBy, starts, number, any, unescape, unhexes, inner, headOf, stringOf, integerOf, literalOf, startsNumber, nameOf, numberIn, typeNumber, typeOf, commas, count, Taken, takeWord, takeGroup, parts, takeReference, takeAri, takeNothing}
 use Rattle.text_read_item.specs.declared.Word.{Word}
-use Rattle.text_read_item.specs.Words.{firstOf, NextTo, WordTo, strBy, Small, Bounded, Found, plainAt, wordAt, textWord, bytesWord, horner, keyOf, keyIn, takeValue, takeSpace, takeParams, takeWay}
-use Rattle.text_read_item.proofs.Leaves.{here, beyond, part-none}
+use Rattle.text_read_item.specs.Words.{firstOf, NextTo, strBy, Small, Bounded, Found, plainAt, wordAt, textWord, bytesWord, horner, keyOf, keyIn, takeValue, takeSpace, takeParams, takeWay}
 
 abbrev pub word : ℕ → ℕ → ℕ → ℕ → ℕ → ℕ → Word
 word k a f x y n = record { kind = k; arg = a; form = f; from = x; to = y; next = n }
@@ -60,9 +59,9 @@ module _ (t : List ℕ) (k at : ℕ) {p n : ℕ} {w : Word} where
   grouped s e f = found-as f (rw (e, s .is))
 
 -- what stands behind a namespace
-pub params-follow : (t : List ℕ) (at : ℕ) {e p f : ℕ} {x : Bool} → WordTo t at e → NextTo t e 1 p → WordTo t p f → x ≡ starts 40 (drop f t)
-    → x ≡ starts 40 (past (drop 1 (past (drop at t))))
-params-follow t at v n w q = q ∙ ap (starts 40) (sym (w .past-is) ∙ ap past (n .is ∙ ap (drop 1) (sym (v .past-is))))
+pub params-follow : (t : List ℕ) (at : ℕ) {e p f : ℕ} {x : Bool} → RunTo inWord t at e → NextTo t e 1 p → RunTo inWord t p f → x ≡ starts 40 (drop f t)
+    → x ≡ starts 40 (past inWord (drop 1 (past inWord (drop at t))))
+params-follow t at v n w q = q ∙ ap (starts 40) (sym (w .past-is) ∙ ap (past inWord) (n .is ∙ ap (drop 1) (sym (v .past-is))))
 
 module _ (t : List ℕ) (at : ℕ) where
   pub parts-out : at ≡ length t → 1 ≡ parts (drop at t)
@@ -78,7 +77,7 @@ module _ (t : List ℕ) (at : ℕ) where
   begins l n e h = rw (here t at (omega (arith, n)), ← e, h)
 
   module _ {x y : Bool} (l : at ≤ length t) (n : at ≡ length t → ⊥) (e : x ≡ ends (getD t at 0)) (h : x ≡ false)
-      (q : y ≡ starts 40 (past (drop 1 (past (drop at t))))) where
+      (q : y ≡ starts 40 (past inWord (drop 1 (past inWord (drop at t))))) where
     pub parts-four : y ≡ true → 4 ≡ parts (drop at t)
     unfolding parts
     parts-four g = rw (begins l n e h, ← q, g)
@@ -105,15 +104,15 @@ module _ (t : List ℕ) (from to : ℕ) where
   long h g = length-take-le (to - from) (drop from t) (rw (length-drop from t) (omega arith))
 
   module _ {x : ℕ} (e : x ≡ firstOf cut) where
-    pub negative-none : {n : ℕ} {w : Word} → x ≡ 45 → n ≡ number 0 (drop 1 cut) → n ≡ 0 → Found t (plainAt t 1 0 to) w → Found t (wordAt integerOf t from to) w
+    pub negative-none : {n : ℕ} {w : Word} → x ≡ 45 → n ≡ number (drop 1 cut) → n ≡ 0 → Found t (plainAt t 1 0 to) w → Found t (wordAt integerOf t from to) w
     unfolding integerOf
     negative-none h q z f = found-as f (rw (starts-first 45 cut refl, ← e, h, ← q, z))
 
-    pub negative-some : {n : ℕ} {w : Word} → x ≡ 45 → n ≡ number 0 (drop 1 cut) → Found t (plainAt t 1 (n - 1) to) w → Found t (wordAt integerOf t from to) w
+    pub negative-some : {n : ℕ} {w : Word} → x ≡ 45 → n ≡ number (drop 1 cut) → Found t (plainAt t 1 (n - 1) to) w → Found t (wordAt integerOf t from to) w
     unfolding integerOf
     negative-some {n} h q f = found-as f (rw (starts-first 45 cut refl, ← e, h, ← q, ← sub-one n))
 
-    pub from-zero : {n : ℕ} {w : Word} → (x ≡ 45 → ⊥) → n ≡ number 0 (drop 0 cut) → Found t (plainAt t 0 n to) w → Found t (wordAt integerOf t from to) w
+    pub from-zero : {n : ℕ} {w : Word} → (x ≡ 45 → ⊥) → n ≡ number (drop 0 cut) → Found t (plainAt t 0 n to) w → Found t (wordAt integerOf t from to) w
     unfolding integerOf
     from-zero h q f = found-as f (rw (starts-first 45 cut refl, ← e, ne-eqb x 45 h, q))
 
@@ -322,7 +321,7 @@ key-none z a b c d e f g h i j k l m n o p q r s =
     )
 
 -- a word from a place on
-pub word-found : (g : List ℕ → Headed) (t : List ℕ) (at : ℕ) {e : ℕ} {w : Word} → WordTo t at e → Found t (wordAt g t at e) w → Found t (takeWord g (drop at t)) w
+pub word-found : (g : List ℕ → Headed) (t : List ℕ) (at : ℕ) {e : ℕ} {w : Word} → RunTo inWord t at e → Found t (wordAt g t at e) w → Found t (takeWord g (drop at t)) w
 word-found g t at v f = found-as f (rw (v .front-is, v .past-is))
 
 module _ (t : List ℕ) (at : ℕ) where
@@ -330,7 +329,7 @@ module _ (t : List ℕ) (at : ℕ) where
   absolute-found s f = found-as f (rw (s .is))
 
   module _ {x : Bool} (e : x ≡ starts 46 (drop at t)) where
-    pub space-relative : {p : ℕ} {w : Word} → x ≡ true → WordTo t at p → Found t (plainAt t 6 22 p) w → Found t (takeSpace (drop at t)) w
+    pub space-relative : {p : ℕ} {w : Word} → x ≡ true → RunTo inWord t at p → Found t (plainAt t 6 22 p) w → Found t (takeSpace (drop at t)) w
     space-relative h v f = found-as f (rw (← e, h, v .past-is))
 
     pub space-absolute : {w : Word} → x ≡ false → Found t (takeWord nameOf (drop 2 (drop at t))) w → Found t (takeSpace (drop at t)) w
@@ -338,7 +337,7 @@ module _ (t : List ℕ) (at : ℕ) where
 
   module _ {x : Bool} (e : x ≡ starts 47 (drop at t)) where
     module _ {p : ℕ} (s : NextTo t at 1 p) {y : Bool} (q : y ≡ starts 47 (drop p t)) (h : x ≡ true) where
-      pub ari-reference : {r d : ℕ} {w : Word} → y ≡ true → NextTo t at 2 r → WordTo t r d → Found t (takeReference (drop at t) (drop d t)) w → Found t (takeAri (drop at t)) w
+      pub ari-reference : {r d : ℕ} {w : Word} → y ≡ true → NextTo t at 2 r → RunTo inWord t r d → Found t (takeReference (drop at t) (drop d t)) w → Found t (takeAri (drop at t)) w
       unfolding takeAri
       ari-reference g n v f = found-as f (rw (← e, h, ← s .is, ← q, g, ← n .is, v .past-is))
 
@@ -347,7 +346,7 @@ module _ (t : List ℕ) (at : ℕ) where
       ari-typed g f = found-as f (rw (← e, h, ← s .is, ← q, g))
 
     module _ {y : Bool} (q : y ≡ starts 46 (drop at t)) (h : x ≡ false) where
-      pub ari-relative : {d : ℕ} {w : Word} → y ≡ true → WordTo t at d → Found t (takeReference (drop at t) (drop d t)) w → Found t (takeAri (drop at t)) w
+      pub ari-relative : {d : ℕ} {w : Word} → y ≡ true → RunTo inWord t at d → Found t (takeReference (drop at t) (drop d t)) w → Found t (takeAri (drop at t)) w
       unfolding takeAri
       ari-relative g v f = found-as f (rw (← e, h, ← q, g, v .past-is))
 
@@ -362,9 +361,9 @@ module _ (t : List ℕ) (at : ℕ) where
     pub value-word : (g : List ℕ → Headed) {w : Word} → x ≡ false → Found t (takeWord g (drop at t)) w → Found t (takeValue g k (drop at t)) w
     value-word g h f = found-as f (rw (← e, h))
 
-  module _ {p d : ℕ} (s : NextTo t at 1 p) (v : WordTo t p d) {x : Bool} (e : x ≡ starts 61 (drop d t)) where
-    keyed : starts 61 (past (drop 1 (drop at t))) ≡ x
-    keyed = ap (starts 61) (ap past (sym (s .is)) ∙ v .past-is) ∙ sym e
+  module _ {p d : ℕ} (s : NextTo t at 1 p) (v : RunTo inWord t p d) {x : Bool} (e : x ≡ starts 61 (drop d t)) where
+    keyed : starts 61 (past inWord (drop 1 (drop at t))) ≡ x
+    keyed = ap (starts 61) (ap (past inWord) (sym (s .is)) ∙ v .past-is) ∙ sym e
 
     pub params-map : {w : Word} → x ≡ true → Found t (takeGroup 5 (drop at t)) w → Found t (takeParams (drop at t)) w
     params-map h f = found-as f (rw (keyed, h))

@@ -1,33 +1,26 @@
 -- The ways through the functions of single bytes, numbers, escapes and heads; the premises are the facts that the code leaves.
-use Prim.Native.Nat.{ℕ, zero, suc, _+_, _-_, _*_, _/_, _%_, _^_, _≤_, _<_}
+use Prim.Native.Nat.{ℕ, zero, suc, _+_, _-_, _*_, _^_, _≤_, _<_}
 use mathlib.Core.Path.{_≡_, refl, sym, _∙_, ap}
 use mathlib.Core.Bool.{Bool, true, false, _&&_, _||_, cond}
 use mathlib.Core.List.{List, [], _∷_, _++_}
 use native.Mathlib.Omega.{arith}
 use native.Mathlib.Nat.{pow-le-pow-right, pow-suc}
 use native.Mathlib.Numerals.{add-one}
-use lib.ListN.{length, take, drop, getD, drop-of-length-le, length-drop}
-use lib.Seq.{drop-cons, drop-drop, drop-length, drop-nil}
+use lib.ListN.{length, take, drop, getD, length-drop}
+use lib.Seq.{drop-drop, drop-length, drop-nil}
 use lib.Dec.{ltb, leb, eqb}
 use borrow.Author.Tests.{lt-ltb, le-ltb, le-leb, lt-leb, eq-eqb, ne-eqb}
-use Rattle.buffer.specs.Bytes.{be, within}
-use Rattle.cbor.specs.Head.{width, shortest, majorOf, leadBytes}
-use Rattle.buffer.proofs.ByteLaws.{be-join}
-use Rattle.cbor.proofs.HeadLaws.{width-small}
-use Rattle.ari.specs.Table.{max64}
-use Rattle.reader.specs.Steps.{part}
+use Rattle.buffer.specs.Bytes.{within, part}
 use Rattle.buffer.specs.Put.{Put}
+use Rattle.buffer.specs.Runs.{RunTo}
+use Rattle.buffer.specs.declared.Number.{Number}
+use Rattle.buffer.specs.declared.Number.the-variants.{Value, Bad}
+use Rattle.buffer.specs.Decimal.{unsignedOf}
+use Rattle.buffer.proofs.RunLaws.{here, beyond, part-all, Ahead, run-begins, run-ends, run-out, run-on}
 use Rattle.buffer.proofs.Putting.{put-nothing, put-both}
-use Rattle.text.specs.Parse.{ends, front, past, startsBy, starts, push, number, unhex, any, first, second, unescape, unhexes, leadOf, startsNumber, opened, commas, count}
+use Rattle.text.specs.Parse.{ends, inWord, startsBy, starts, number, unhex, any, first, second, unescape, unhexes, startsNumber, opened, commas, count}
 use Rattle.text_read_item.specs.declared.Escape.{Escape}
-use Rattle.text_read_item.specs.Words.{firstOf, NextTo, WordTo, EscapeAt, strBy, Small, horner, keyOf, commaOf}
-
--- a byte and those behind it
-pub here : (t : List ℕ) (i : ℕ) → i < length t → drop i t ≡ getD t i 0 ∷ drop (i + 1) t
-here t i h = rw (add-one i) (drop-cons t i 0 h)
-
-pub beyond : (t : List ℕ) (i : ℕ) → length t ≤ i → drop i t ≡ []
-beyond t i h = drop-of-length-le t h
+use Rattle.text_read_item.specs.Words.{firstOf, NextTo, EscapeAt, strBy, horner, keyOf, commaOf}
 
 -- so many bytes on
 module _ (t : List ℕ) (p n : ℕ) where
@@ -72,70 +65,14 @@ module _ (x : ℕ) where
   ends-equal a b c d = rw (ne-eqb x 40 a, ne-eqb x 41 b, ne-eqb x 44 c, ne-eqb x 47 d)
 
 -- a word grows by a byte that does not end it
-pub part-none : (t : List ℕ) (p : ℕ) → part t p p ≡ []
-part-none t p = let e : p - p ≡ 0 = omega arith in rw e
+module _ (t : List ℕ) (p i : ℕ) (a : Ahead inWord t p i) {x : Bool} (h : i < length t) (e : x ≡ ends (getD t i 0)) where
+  pub word-ends : x ≡ true → RunTo inWord t p i
+  unfolding inWord
+  word-ends q = run-ends inWord t p i a h refl (rw (← e, q))
 
-pub part-cons : (t : List ℕ) (i e : ℕ) → i < e → e ≤ length t → part t i e ≡ getD t i 0 ∷ part t (i + 1) e
-part-cons t i e h g =
-    let q : e - i ≡ suc (e - (i + 1)) = omega arith in
-    rw (here t i (omega arith), q)
-
-pub record Ahead (t : List ℕ) (p i : ℕ) : Type 0 where
-  pub on : p ≤ i
-  pub inside : i ≤ length t
-  pub then : {e : ℕ} → WordTo t i e → WordTo t p e
-
-pub word-begins : (t : List ℕ) (p : ℕ) → p ≤ length t → Ahead t p p
-word-begins t p h = record { on = omega arith; inside = h; then = λ w. w }
-
-module _ (x : ℕ) (u : List ℕ) where
-  front-ends : ends x ≡ true → front (x ∷ u) ≡ []
-  unfolding front
-  front-ends e = rw e
-
-  past-ends : ends x ≡ true → past (x ∷ u) ≡ x ∷ u
-  unfolding past
-  past-ends e = rw e
-
-  front-on : ends x ≡ false → front (x ∷ u) ≡ x ∷ front u
-  unfolding front
-  front-on e = rw e
-
-  past-on : ends x ≡ false → past (x ∷ u) ≡ past u
-  unfolding past
-  past-on e = rw e
-
-ended-here : (t : List ℕ) (i : ℕ) → i < length t → ends (getD t i 0) ≡ true → WordTo t i i
-ended-here t i h e = record {
-  front-is = ap front (here t i h) ∙ front-ends (getD t i 0) (drop (i + 1) t) e ∙ sym (part-none t i);
-  past-is = ap past (here t i h) ∙ past-ends (getD t i 0) (drop (i + 1) t) e ∙ sym (here t i h);
-  on = omega arith;
-  inside = omega arith;
-}
-
-ended-out : (t : List ℕ) (i : ℕ) → i ≤ length t → length t ≤ i → WordTo t i i
-unfolding front past
-ended-out t i g h = record { front-is = ap front (beyond t i h) ∙ sym (part-none t i); past-is = ap past (beyond t i h) ∙ sym (beyond t i h); on = omega arith; inside = g }
-
-grown : (t : List ℕ) (i : ℕ) → i < length t → ends (getD t i 0) ≡ false → {e : ℕ} → WordTo t (i + 1) e → WordTo t i e
-grown t i h n {e} w = record {
-  front-is =
-      ap front (here t i h) ∙ front-on (getD t i 0) (drop (i + 1) t) n ∙ ap (λ (u : List ℕ). getD t i 0 ∷ u) (w .front-is)
-      ∙ sym (part-cons t i e (omega (arith, w .on)) (w .inside));
-  past-is = ap past (here t i h) ∙ past-on (getD t i 0) (drop (i + 1) t) n ∙ w .past-is;
-  on = omega (arith, w .on);
-  inside = w .inside;
-}
-
-module _ (t : List ℕ) (p i : ℕ) (a : Ahead t p i) where
-  pub word-ends : {x : Bool} → i < length t → x ≡ ends (getD t i 0) → x ≡ true → WordTo t p i
-  word-ends h e q = a .then (ended-here t i h (sym e ∙ q))
-
-  pub word-out : length t ≤ i → WordTo t p i
-  word-out h = a .then (ended-out t i (a .inside) h)
-
-  pub word-on : {x : Bool} → i < length t → x ≡ ends (getD t i 0) → x ≡ false → Ahead t p (i + 1)
-  word-on h e q = record { on = omega (arith, a .on); inside = omega arith; then = λ w. a .then (grown t i h (sym e ∙ q) w) }
+  pub word-on : x ≡ false → Ahead inWord t p (i + 1)
+  unfolding inWord
+  word-on q = run-on inWord t p i a h refl (rw (← e, q))
 
 -- the first byte of a word
 pub first-is : (u : List ℕ) → 0 < length u → getD u 0 0 ≡ firstOf u
@@ -146,32 +83,20 @@ pub first-none : (u : List ℕ) → length u ≤ 0 → 0 ≡ firstOf u
 first-none [] h = refl
 first-none (x ∷ u) h = absurd (omega arith)
 
--- digits
-module _ (n x : ℕ) where
-  pub push-low : x < 48 → 0 ≡ push n x
-  unfolding push
-  push-low h = rw (lt-leb 48 x h)
+-- a number, or 0
+module _ (u : List ℕ) (from : ℕ) where
+  pub number-out : length u < from → 0 ≡ number (drop from u)
+  unfolding number unsignedOf
+  number-out h = rw (beyond u from (omega arith))
 
-  pub push-high : 57 < x → 0 ≡ push n x
-  unfolding push
-  push-high h = rw (le-leb 48 x (omega arith), lt-leb x 57 h)
+  module _ {n : Number} (e : n ≡ unsignedOf (part u from (length u))) where
+    pub number-value : {v : ℕ} → n ≡ Value v → v ≡ number (drop from u)
+    unfolding number
+    number-value q = rw (← part-all u from, ← e, q)
 
-  pub push-fits : 48 ≤ x → x ≤ 57 → n ≤ (18446744073709551615 - (x - 48)) / 10 → n * 10 + (x - 48) ≡ push n x
-  unfolding push
-  push-fits h g f = rw (le-leb 48 x h, le-leb x 57 g, le-leb (n * 10 + (x - 48)) max64 (omega arith))
-
-  pub push-over : 48 ≤ x → x ≤ 57 → (18446744073709551615 - (x - 48)) / 10 < n → 0 ≡ push n x
-  unfolding push
-  push-over h g f = rw (le-leb 48 x h, le-leb x 57 g, lt-leb (n * 10 + (x - 48)) max64 (omega arith))
-
-module _ (u : List ℕ) (from n i : ℕ) (a : number n (drop i u) ≡ number 0 (drop from u)) where
-  pub number-on : {m : ℕ} → i < length u → m ≡ push n (getD u i 0) → number m (drop (i + 1) u) ≡ number 0 (drop from u)
-  unfolding number
-  number-on h e = rw e (rw (here u i h) at a)
-
-  pub number-end : length u ≤ i → n ≡ number 0 (drop from u)
-  unfolding number
-  number-end h = rw (beyond u i h) at a
+    pub number-bad : n ≡ Bad → 0 ≡ number (drop from u)
+    unfolding number
+    number-bad q = rw (← part-all u from, ← e, q)
 
 -- hex digits
 module _ (c : ℕ) where
@@ -301,56 +226,6 @@ module _ {a b : List ℕ} {at r : ℕ} (f : ℕ) (u : List ℕ) where
   pub string-hex : (f ≡ 0 → ⊥) → (f ≡ 1 → ⊥) → Put a b at r (unhexes u) → Put a b at r (strBy f u)
   string-hex e g p = rw (ne-eqb f 0 e, ne-eqb f 1 g) p
 
--- numbers in bytes
-pub one-put : {a b : List ℕ} {at r : ℕ} (x : ℕ) → Put a b at r (x ∷ []) → Put a b at r (be 1 x)
-one-put x p = let e : x / 1 ≡ x = omega arith in rw e p
-
-pub two-put : {a b c : List ℕ} {at q r : ℕ} (x : ℕ) → x < 2 ^ 16 → Put a b at q (be 1 (x / 256)) → Put b c q r (be 1 (x % 256)) → Put a c at r (be 2 x)
-two-put x h p w = rw (be-join 1 1 x h) (put-both p w)
-
-pub four-put : {a b c : List ℕ} {at q r : ℕ} (x : ℕ) → x < 2 ^ 32 → Put a b at q (be 2 (x / 65536)) → Put b c q r (be 2 (x % 65536)) → Put a c at r (be 4 x)
-four-put x h p w = rw (be-join 2 2 x h) (put-both p w)
-
-pub eight-put : {a b c : List ℕ} {at q r : ℕ} (x : ℕ) → x < 2 ^ 64 → Put a b at q (be 4 (x / 4294967296)) → Put b c q r (be 4 (x % 4294967296)) → Put a c at r (be 8 x)
-eight-put x h p w = rw (be-join 4 4 x h) (put-both p w)
-
--- heads in their shortest form
-pub small-kinds : {k a : ℕ} → Small k a → k ≤ 6
-small-kinds s = s .kinds
-
-pub small-values : {k a : ℕ} → Small k a → k ≡ 6 → a < 24
-small-values s e = s .values e
-
-pub head-simple : {a b : List ℕ} {at r : ℕ} (k x : ℕ) → Small k x → k ≡ 6 → Put a b at r ((224 + x % 32) ∷ []) → Put a b at r (leadBytes (leadOf k x))
-unfolding leadBytes leadOf majorOf
-head-simple k x s e p = let m : x % 32 ≡ x = omega (arith, s .values e) in rw (e, width-small x (s .values e)) (rw m at p)
-
-counted-head : (k x : ℕ) → Small k x → (k ≡ 6 → ⊥) → leadBytes (leadOf k x) ≡ (k * 32 + shortest x) ∷ be (width (shortest x)) x
-unfolding leadBytes leadOf majorOf
-counted-head k x s n = rw (le-leb k 5 (omega (arith, s .kinds)))
-
-module _ (k x : ℕ) (s : Small k x) (n : k ≡ 6 → ⊥) where
-  pub head-itself : {a b : List ℕ} {at r : ℕ} → x < 24 → Put a b at r ((k * 32 + x) ∷ []) → Put a b at r (leadBytes (leadOf k x))
-  unfolding shortest
-  head-itself h p = rw (counted-head k x s n, lt-ltb x 24 h, width-small x h) p
-
-  pub head-one : {a b c : List ℕ} {at q r : ℕ} → 24 ≤ x → x < 256 → Put a b at q ((k * 32 + 24) ∷ []) → Put b c q r (be 1 x) → Put a c at r (leadBytes (leadOf k x))
-  unfolding shortest width
-  head-one g h p w = rw (counted-head k x s n, le-ltb x 24 g, lt-ltb x 256 h) (put-both p w)
-
-  pub head-two : {a b c : List ℕ} {at q r : ℕ} → 256 ≤ x → x < 65536 → Put a b at q ((k * 32 + 25) ∷ []) → Put b c q r (be 2 x) → Put a c at r (leadBytes (leadOf k x))
-  unfolding shortest width
-  head-two g h p w = rw (counted-head k x s n, le-ltb x 24 (omega arith), le-ltb x 256 g, lt-ltb x 65536 h) (put-both p w)
-
-  pub head-four : {a b c : List ℕ} {at q r : ℕ} → 65536 ≤ x → x < 4294967296 → Put a b at q ((k * 32 + 26) ∷ []) → Put b c q r (be 4 x) → Put a c at r (leadBytes (leadOf k x))
-  unfolding shortest width
-  head-four g h p w = rw (counted-head k x s n, le-ltb x 24 (omega arith), le-ltb x 256 (omega arith), le-ltb x 65536 g, lt-ltb x 4294967296 h) (put-both p w)
-
-  pub head-eight : {a b c : List ℕ} {at q r : ℕ} → 4294967296 ≤ x → Put a b at q ((k * 32 + 27) ∷ []) → Put b c q r (be 8 x) → Put a c at r (leadBytes (leadOf k x))
-  unfolding shortest width
-  head-eight g p w =
-      rw (counted-head k x s n, le-ltb x 24 (omega arith), le-ltb x 256 (omega arith), le-ltb x 65536 (omega arith), le-ltb x 4294967296 g) (put-both p w)
-
 -- what starts a number
 module _ (x : ℕ) where
   pub minus-starts : x ≡ 45 → true ≡ startsNumber x
@@ -471,10 +346,10 @@ module _ (t : List ℕ) (at e n i : ℕ) (a : Counted t at e n i) where
     inside = omega arith;
   }
 
-pub ruleset leaves = (skip-past, skip-end, skip-on, starts-at, starts-none, ends-open, ends-close, ends-comma, ends-slash, ends-equal, word-begins, word-ends, word-out, word-on, first-is, first-none, push-low, push-high, push-fits, push-over, number-on, number-end, unhex-below, unhex-digit, unhex-between, unhex-upper, unhex-gap, unhex-lower, unhex-above, two-digits, escape-bare, escape-cut, escape-whole, escape-in)
+pub ruleset leaves = (skip-past, skip-end, skip-on, starts-at, starts-none, ends-open, ends-close, ends-comma, ends-slash, ends-equal, run-begins, word-ends, run-out, word-on, first-is, first-none, number-out, number-value, number-bad, unhex-below, unhex-digit, unhex-between, unhex-upper, unhex-gap, unhex-lower, unhex-above, two-digits, escape-bare, escape-cut, escape-whole, escape-in)
 
-pub ruleset strings = (counted-out, counted-cut, counted-on, leads-begin, unescaped-out, unescaped-cut, unescaped-on, unhexed-out, unhexed-on, string-bare, string-escaped, string-hex, escape-in, one-put, two-put, four-put, eight-put)
+pub ruleset strings = (counted-out, counted-cut, counted-on, leads-begin, unescaped-out, unescaped-cut, unescaped-on, unhexed-out, unhexed-on, string-bare, string-escaped, string-hex, escape-in)
 
-pub ruleset leading = (small-kinds, small-values, head-simple, head-itself, head-one, head-two, head-four, head-eight, minus-starts, low-starts, digit-starts)
+pub ruleset leading = (minus-starts, low-starts, digit-starts)
 
 pub ruleset counting = (key-long, key-begins, key-room-left, key-on, key-sum, key-is, comma-other, comma-first, comma-deeper, closed-stays, one-opens, one-closes, none-opens, count-begins, count-closed, count-out, count-on)

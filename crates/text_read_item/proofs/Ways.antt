@@ -8,20 +8,21 @@ use lib.ListN.{length, drop, List·getD-eq-default}
 use lib.Dec.{ltb, leb, eqb}
 use borrow.Author.Tests.{ltb-true, ltb-false, leb-true, eqb-true, ne-eqb}
 use mir.Val.{boolByte}
-use Rattle.buffer.specs.Bytes.{within}
-use Rattle.cbor.specs.Head.{leadBytes, isContainer}
+use Rattle.buffer.specs.Runs.{front}
+use Rattle.buffer.specs.Bytes.{within, same, part}
+use Rattle.cbor.specs.Head.{leadBytes, headBytes, isContainer, leadOf}
+use Rattle.cbor.proofs.HeadLaws.{head-bytes}
 use Rattle.buffer.proofs.ByteLaws.{and-true, within-true}
 use Rattle.cbor.proofs.Computed.{allFrom, all-at}
 use Rattle.ari.specs.Table.{Slot, version, ari, type, value, namespace, objectNamespace, objectType, objectId, params, key, entry, nonce, setTime, target, report, reportTime, reportSource}
 use Rattle.grammar.specs.Code.{slots, slotOf}
-use Rattle.reader.specs.Steps.{part}
 use Rattle.buffer.specs.Put.{Put}
 use Rattle.text_write_item.specs.Ways.{ways, wayAt, closing, afterBy}
 use Rattle.buffer.proofs.Putting.{put-both}
 use Rattle.text_write_item.proofs.Spelled.{wayOf, way-is}
 use Rattle.text.specs.Chars.{ascii}
 use Rattle.text.specs.Text.{Name, name, names}
-use Rattle.text.specs.Parse.{front, leadOf, same, numberIn, typeOf, typeNumber, Taken, takeAt}
+use Rattle.text.specs.Parse.{inWord, numberIn, typeOf, typeNumber, Taken, takeAt}
 use Rattle.text_read_item.specs.declared.Word.{Word}
 use Rattle.text_read_item.specs.declared.Item.{Item}
 use Rattle.text_read_item.specs.Words.{NextTo, strBy, Bounded, Found, groupOf, takeWay, Read}
@@ -120,13 +121,13 @@ unfolding takeWay typeOf leadOf
 type-arg i u h =
     let (a, b) = within-true 5 8 i h in
     let w : wayAt i ≡ 2 = eqb-true (wayAt i) 2 (all-at 4 5 (λ j. eqb (wayAt j) 2) refl i a (omega arith)) in
-    rw (taken-is i u, w) (type-most (front u))
+    rw (taken-is i u, w) (type-most (front inWord u))
 
 -- the bytes of a word
-pub word-put : {a b c : List ℕ} {at q r : ℕ} (t : List ℕ) (x : Word) → Put a b at q (leadBytes (leadOf (x .kind) (x .arg)))
+pub word-put : {a b c : List ℕ} {at q r : ℕ} (t : List ℕ) (x : Word) → Bounded t x → Put a b at q (headBytes (x .kind) (x .arg))
     → Put b c q r (strBy (x .form) (part t (x .from) (x .to)))
     → Put a c at r (leadBytes (leadOf (x .kind) (x .arg)) ++ strBy (x .form) (part t (x .from) (x .to)))
-word-put t x p w = put-both p w
+word-put t x b p w = put-both (rw (head-bytes (b .small .kinds) (b .small .values)) at p) w
 
 pub bounded-order : {t : List ℕ} {x : Word} → Bounded t x → x .from ≤ x .to
 bounded-order b = b .order

@@ -6,13 +6,14 @@ use mathlib.Core.Bool.{Bool, _&&_, cond}
 use mathlib.Core.List.{List, [], _∷_, _++_}
 use lib.ListN.{length, drop}
 use lib.Dec.{ltb, eqb}
-use Rattle.cbor.specs.Head.{bytes, text, array, map, simple, leadBytes}
+use Rattle.buffer.specs.Bytes.{part}
+use Rattle.buffer.specs.Runs.{past}
+use Rattle.cbor.specs.Head.{bytes, text, array, map, simple, leadBytes, leadOf}
 use Rattle.ari.specs.Decode.{Headed}
-use Rattle.reader.specs.Steps.{part}
 use Rattle.buffer.specs.Put.{Put}
 use Rattle.text.specs.Chars.{ascii}
 use Rattle.text.specs.Text.{Name, name}
-use Rattle.text.specs.Parse.{front, past, starts, any, unescape, unhexes, inner, leadOf, headOf, stringOf, literalOf, nameOf, typeOf, Taken, takeWord, takeGroup, takeAri, takeNothing}
+use Rattle.text.specs.Parse.{inWord, starts, any, unescape, unhexes, inner, headOf, stringOf, literalOf, nameOf, typeOf, Taken, takeWord, takeGroup, takeAri, takeNothing}
 use Rattle.text_read_item.specs.declared.Word.{Word}
 use Rattle.text_read_item.specs.declared.Escape.{Escape}
 use Rattle.text_read_item.specs.declared.Item.{Item}
@@ -25,13 +26,6 @@ firstOf (x ∷ u) = x
 pub record NextTo (t : List ℕ) (p n r : ℕ) : Type 0 where
   pub is : drop r t ≡ drop n (drop p t)
   pub inside : r ≤ length t
-
--- a word from p on ends at e
-pub record WordTo (t : List ℕ) (p e : ℕ) : Type 0 where
-  pub front-is : front (drop p t) ≡ part t p e
-  pub past-is : past (drop p t) ≡ drop e t
-  pub on : p ≤ e
-  pub inside : e ≤ length t
 
 -- the byte that an escape, or a bare byte, stands for
 pub record EscapeAt (u : List ℕ) (i : ℕ) (x : Escape) : Type 0 where
@@ -96,7 +90,7 @@ abbrev pub takeSpace : List ℕ → Taken
 takeSpace t = cond (starts (code ".") t) (takeWord (λ u. headOf simple 22 []) t) (takeWord nameOf (drop 2 t))
 
 abbrev pub takeParams : List ℕ → Taken
-takeParams t = takeGroup (cond (starts (code "=") (past (drop 1 t))) map array) t
+takeParams t = takeGroup (cond (starts (code "=") (past inWord (drop 1 t))) map array) t
 
 abbrev pub groupOf : ℕ → ℕ
 groupOf i = cond (eqb i 45) array (cond (eqb i 67) array map)

@@ -3,15 +3,15 @@ ghost use mathlib.Core.Path.{_≡_};
 ghost use mathlib.Core.List.{[], _∷_, _++_};
 ghost use Prim.Native.Nat.{_+_, _*_, _<_, _≤_, _^_};
 ghost use lib.ListN.{length, drop, getD};
-ghost use Rattle.buffer.specs.Bytes.{be};
-ghost use Rattle.cbor.specs.Head.{leadBytes};
+ghost use Rattle.buffer.specs.Runs.{past, RunTo};
+ghost use Rattle.buffer.specs.Bytes.{part};
+ghost use Rattle.cbor.specs.Head.{leadBytes, leadOf};
 ghost use Rattle.grammar.specs.Code.{slotOf};
 ghost use Rattle.buffer.specs.Put.{Put};
 ghost use Rattle.text_write_item.specs.Ways.{wayAt, afterBy};
-ghost use Rattle.text.specs.Parse.{ends, starts, push, number, unhex, any, unescape, unhexes, leadOf, integerOf, literalOf, nameOf, typeOf, typeNumber, startsNumber, past, opened, commas, count, parts, takeWord, takeReference, takeAri, takeGroup, takeAt};
+ghost use Rattle.text.specs.Parse.{ends, inWord, starts, number, unhex, any, unescape, unhexes, integerOf, literalOf, nameOf, typeOf, typeNumber, startsNumber, opened, commas, count, parts, takeWord, takeReference, takeAri, takeGroup, takeAt};
 ghost use Rattle.text.specs.Text.{names};
-ghost use Rattle.reader.specs.Steps.{part};
-ghost use Rattle.text_read_item.specs.Words.{firstOf, NextTo, WordTo, EscapeAt, strBy, Small, Bounded, Found, plainAt, wordAt, textWord, bytesWord, keyOf, keyIn, commaOf, takeValue, takeSpace, takeParams, groupOf, takeWay, Read};
+ghost use Rattle.text_read_item.specs.Words.{firstOf, NextTo, EscapeAt, strBy, Small, Bounded, Found, plainAt, wordAt, textWord, bytesWord, keyOf, keyIn, commaOf, takeValue, takeSpace, takeParams, groupOf, takeWay, Read};
 
 // A head that was read: its kind and argument, the text behind what it writes before its members, the place behind its bytes.
 pub struct Item {
@@ -73,7 +73,7 @@ fn is_end(x: u8) -> bool
 
 fn word_end(t: &[u8], at: usize) -> usize
     requires { ⌜ at ≤ length (now t) ⌝ }
-    ensures { λ r. ⌜ WordTo (now (t .entry)) at r ⌝ }
+    ensures { λ r. ⌜ RunTo inWord (now (t .entry)) at r ⌝ }
 {
     let mut i = at;
     while i < t.len() {
@@ -95,33 +95,19 @@ fn first(u: &[u8]) -> u8
     0
 }
 
-// One digit more; 0 for another byte, or past 64 bits.
-fn push(n: u64, x: u8) -> u64
-    ensures { λ r. ⌜ r ≡ push n x ⌝ }
-{
-    if x < 48 {
-        return 0;
-    }
-    if 57 < x {
-        return 0;
-    }
-    let d = (x - 48) as u64;
-    if n <= (18446744073709551615 - d) / 10 {
-        return n * 10 + d;
-    }
-    0
-}
-
+// A number in plain decimal, from a place on; 0 for anything else.
 fn number(u: &[u8], from: usize) -> u64
-    ensures { λ r. ⌜ r ≡ number 0 (drop from (now (u .entry))) ⌝ }
+    ensures { λ r. ⌜ r ≡ number (drop from (now (u .entry))) ⌝ }
 {
-    let mut n = 0;
-    let mut i = from;
-    while i < u.len() {
-        n = push(n, u[i]);
-        i += 1;
+    let end = u.len();
+    if end < from {
+        return 0;
     }
-    n
+    let n = buffer::unsigned(&u[from..end]);
+    match n {
+        buffer::Number::Value(v) => v,
+        buffer::Number::Bad => 0,
+    }
 }
 
 fn unhex(c: u8) -> u8
@@ -235,63 +221,6 @@ fn put_string(form: u8, u: &[u8], out: &mut [u8], at: usize) -> usize
         1 => put_unescaped(u, out, at),
         _ => put_unhexed(u, out, at),
     }
-}
-
-fn put_one(out: &mut [u8], at: usize, x: u64) -> usize
-    requires { ⌜ x < 2 ^ 8 ⌝ }
-    ensures { λ r. ⌜ Put (now (out .entry)) (now (out .exit)) at r (be 1 x) ⌝ }
-{
-    buffer::put(out, at, x as u8)
-}
-
-fn put_two(out: &mut [u8], at: usize, x: u64) -> usize
-    requires { ⌜ x < 2 ^ 16 ⌝ }
-    ensures { λ r. ⌜ Put (now (out .entry)) (now (out .exit)) at r (be 2 x) ⌝ }
-{
-    let q = put_one(out, at, x / 256);
-    put_one(out, q, x % 256)
-}
-
-fn put_four(out: &mut [u8], at: usize, x: u64) -> usize
-    requires { ⌜ x < 2 ^ 32 ⌝ }
-    ensures { λ r. ⌜ Put (now (out .entry)) (now (out .exit)) at r (be 4 x) ⌝ }
-{
-    let q = put_two(out, at, x / 65536);
-    put_two(out, q, x % 65536)
-}
-
-fn put_eight(out: &mut [u8], at: usize, x: u64) -> usize
-    ensures { λ r. ⌜ Put (now (out .entry)) (now (out .exit)) at r (be 8 x) ⌝ }
-{
-    let q = put_four(out, at, x / 4294967296);
-    put_four(out, q, x % 4294967296)
-}
-
-// A head in its shortest form.
-fn put_head(out: &mut [u8], at: usize, kind: u8, arg: u64) -> usize
-    requires { ⌜ Small kind arg ⌝ }
-    ensures { λ r. ⌜ Put (now (out .entry)) (now (out .exit)) at r (leadBytes (leadOf kind arg)) ⌝ }
-{
-    if kind == 6 {
-        return buffer::put(out, at, 224 + (arg % 32) as u8);
-    }
-    if arg < 24 {
-        return buffer::put(out, at, kind * 32 + arg as u8);
-    }
-    if arg < 256 {
-        let q = buffer::put(out, at, kind * 32 + 24);
-        return put_one(out, q, arg);
-    }
-    if arg < 65536 {
-        let q = buffer::put(out, at, kind * 32 + 25);
-        return put_two(out, q, arg);
-    }
-    if arg < 4294967296 {
-        let q = buffer::put(out, at, kind * 32 + 26);
-        return put_four(out, q, arg);
-    }
-    let q = buffer::put(out, at, kind * 32 + 27);
-    put_eight(out, q, arg)
 }
 
 // A head without a string.
@@ -538,7 +467,7 @@ fn group(t: &[u8], kind: u8, at: usize) -> Word
 // Whether parameters stand behind an object's type and id.
 fn with_params(t: &[u8], at: usize) -> bool
     requires { ⌜ at ≤ length (now t) ⌝ }
-    ensures { λ r. ⌜ r ≡ starts 40 (past (drop 1 (past (drop at (now (t .entry)))))) ⌝ }
+    ensures { λ r. ⌜ r ≡ starts 40 (past inWord (drop 1 (past inWord (drop at (now (t .entry)))))) ⌝ }
 {
     let e = word_end(t, at);
     let p = skip(t, e, 1);
@@ -703,7 +632,7 @@ fn put_word(t: &[u8], x: Word, out: &mut [u8], at: usize) -> usize
 {
     let from = x.from;
     let to = x.to;
-    let q = put_head(out, at, x.kind, x.arg);
+    let q = cbor::put_head(out, at, x.kind, x.arg);
     put_string(x.form, &t[from..to], out, q)
 }
 

@@ -1,4 +1,4 @@
--- Test 14 from the heads alone: what the outermost ARI is, and the first float.
+-- R64 from the heads alone: what the outermost ARI is, and the first float.
 use Prim.Native.Nat.{ℕ, zero, suc, _+_, _-_, _≤_, _<_}
 use mathlib.Core.Path.{_≡_, refl, sym, _∙_, ap}
 use mathlib.Core.Bool.{Bool, true, false, _&&_, _||_, cond, true≢false}
@@ -21,7 +21,6 @@ use Rattle.ari.specs.Items.{Items, none, item, encode, Spot, spots, insideAt}
 use Rattle.ari.proofs.Well.{Well}
 use Rattle.ari.specs.Decode.{decode}
 use Rattle.ari.specs.Rules.{Is}
-use Rattle.ari.specs.Limits.{firstLimits}
 use Rattle.ari.proofs.Due.{Fit, prevAfter, container-string}
 use Rattle.ari.proofs.Due as fit
 use Rattle.ari.proofs.Weight.{well-fit}
@@ -33,6 +32,7 @@ use Rattle.reader.specs.declared.Answer.the-variants as answers
 use Rattle.reader.specs.Answers.{answerOf}
 use Rattle.reader.specs.Steps.{stringEnd}
 use Rattle.text.specs.Text.{Form, spelled, none-at, isFloat, floatIn, isSet, isRelative, form, texts, anAriDue}
+use Rattle.text.specs.Chars.{ascii}
 use Rattle.text.specs.Answer.{writeText}
 use Rattle.text.proofs.Leads.{no-string}
 use Rattle.buffer.specs.Put.{Put}
@@ -43,11 +43,11 @@ use Rattle.text_write.specs.declared.Float.the-variants.{At, Nowhere}
 use Rattle.text_write.specs.declared.Spelling.{Spelling}
 use Rattle.text_write.specs.declared.Spelling.the-variants as spellings
 use Rattle.text_write.specs.declared.Pos.{Pos}
-use Rattle.text_write.specs.Said.{Said}
+use Rattle.text_write.specs.Walks.{Writes}
 use Rattle.text_write.specs.Forms.{setBy, neither, memberBy, outerBy, outerOf, Laid, floatOf, FloatAt}
-use Rattle.text_write.specs.Written.{spellingOf, schemeOf, Whole}
+use Rattle.text_write.specs.Written.{spellingOf, schemeOf, WritesWhole}
 use Rattle.text_write.proofs.Taking.{found, end-is, end-in}
-use Rattle.text_write.proofs.Saying.{behind}
+use Rattle.text_write.proofs.Writing.{behind}
 
 module _ (n a : ℕ) where
   pub set-20 : n ≡ 2 → a ≡ 20 → true ≡ setBy n a
@@ -137,7 +137,7 @@ long-enough : (b : List ℕ) (p : ℕ) (l : Lead) (y : List ℕ) → drop p b �
 long-enough b p l y e = omega (arith, simp (length-drop, length-append) at (ap length e), length-lead l)
 
 pub over : (b : List ℕ) (p : ℕ) → Onto b p → length b ≤ p → FloatAt b 0 Nowhere
-over b p o h = o .then (record { told = go })
+over b p o h = o .then (record { first-of = go })
   where
     go : (xs : List Spot) → Laid b p xs → Nowhere ≡ floatOf (floatIn xs)
     go [] l = refl
@@ -145,7 +145,7 @@ over b p o h = o .then (record { told = go })
 
 module _ (b : List ℕ) (p : ℕ) (o : Onto b p) (i : p < length b) {h : Head} (e : h ≡ headAt b p) where
   pub float-no-head : {r : ℕ} → h ≡ Bad r → FloatAt b 0 Nowhere
-  float-no-head {r} q = o .then (record { told = go })
+  float-no-head {r} q = o .then (record { first-of = go })
     where
       go : (xs : List Spot) → Laid b p xs → Nowhere ≡ floatOf (floatIn xs)
       go [] l = absurd (omega arith)
@@ -164,7 +164,7 @@ module _ (b : List ℕ) (p : ℕ) (o : Onto b p) (i : p < length b) {h : Head} (
 
     pub a-float : 7 ≤ k → FloatAt b 0 (At p)
     unfolding isFloat
-    a-float f = o .then (record { told = go })
+    a-float f = o .then (record { first-of = go })
       where
         go : (xs : List Spot) → Laid b p xs → At p ≡ floatOf (floatIn xs)
         go [] l = absurd (omega arith)
@@ -177,7 +177,7 @@ module _ (b : List ℕ) (p : ℕ) (o : Onto b p) (i : p < length b) {h : Head} (
         m ∙ rw (kind-of (x .lead) _ (l .1) (l .3), arg-of (x .lead) _ (l .1) (l .3), next-of (x .lead) _ (l .1) (l .3)) (end-is b p (x .lead) (x .str) _ (l .2) (l .3) (omega arith))
 
     pub float-short : {u : End} → u ≡ stringEnd b k a n → u ≡ ends.Short → FloatAt b 0 Nowhere
-    float-short {u} m s = o .then (record { told = go })
+    float-short {u} m s = o .then (record { first-of = go })
       where
         go : (xs : List Spot) → Laid b p xs → Nowhere ≡ floatOf (floatIn xs)
         go [] l = absurd (omega arith)
@@ -185,7 +185,7 @@ module _ (b : List ℕ) (p : ℕ) (o : Onto b p) (i : p < length b) {h : Head} (
 
     pub float-on : k < 7 → {u : End} → u ≡ stringEnd b k a n → {j : ℕ} → u ≡ ends.At j → Onto b j
     unfolding isFloat
-    float-on f {u} m {j} s = record { then = λ r. o .then (record { told = go (r .told) }) }
+    float-on f {u} m {j} s = record { then = λ r. o .then (record { first-of = go (r .first-of) }) }
       where
         go : {r : Float} → ((ys : List Spot) → Laid b j ys → r ≡ floatOf (floatIn ys)) → (xs : List Spot) → Laid b p xs → r ≡ floatOf (floatIn xs)
         go t [] l = absurd (omega arith)
@@ -238,7 +238,7 @@ no-float-form spelled e = refl
 no-float-form (none-at p) e = absurd (let z : _≡_ {A = ℕ} 0 1 = cc in omega arith)
 
 -- test 14 of an accepted ARI
-module _ (b : List ℕ) (n : ℕ) (i : Is firstLimits Single b (decode b) n) where
+module _ (m : Limits) (b : List ℕ) (n : ℕ) (i : Is m Single b (decode b) n) where
   abbrev tree : Items
   tree = decode b
 
@@ -255,31 +255,31 @@ module _ (b : List ℕ) (n : ℕ) (i : Is firstLimits Single b (decode b) n) whe
       rw append-nil at (laid b tree (due (ari alone) 0) [] 0 0 [] [] grammar e (omega arith))
 
   module _ (bs : all isByte b ≡ true) {o : Outer} (e : o ≡ outerOf b) where
-    pub a-set : o .set ≡ true → spellings.None 14 0 ≡ spellingOf b
+    pub a-set : o .set ≡ true → spellings.None 14 0 ≡ spellingOf m b
     unfolding spellingOf writeText form
     a-set s =
         let t : isSet tree ≡ true = ap (λ (x : Outer). x .set) (sym outer-right ∙ sym e) ∙ s in
-        rw (demand-two firstLimits Single b n bs .1 i, t)
+        rw (demand-two m Single b n bs .1 i, t)
 
     module _ (s : o .set ≡ false) {f : Float} (c : FloatAt b 0 f) where
       unset : isSet tree ≡ false
       unset = ap (λ (x : Outer). x .set) (sym outer-right ∙ sym e) ∙ s
 
-      pub has-float : {p : ℕ} → f ≡ At p → spellings.None 14 p ≡ spellingOf b
+      pub has-float : {p : ℕ} → f ≡ At p → spellings.None 14 p ≡ spellingOf m b
       unfolding spellingOf writeText form
       has-float q =
-          let t = float-form (floatIn (spots tree false (due (ari alone) 0) 0 0)) (sym (c .told (spots tree false (due (ari alone) 0) 0 0) all-laid) ∙ q) in
-          rw (demand-two firstLimits Single b n bs .1 i, unset, t)
+          let t = float-form (floatIn (spots tree false (due (ari alone) 0) 0 0)) (sym (c .first-of (spots tree false (due (ari alone) 0) 0 0) all-laid) ∙ q) in
+          rw (demand-two m Single b n bs .1 i, unset, t)
 
-      pub has-form : f ≡ Nowhere → spellings.Has (o .relative) n ≡ spellingOf b
+      pub has-form : f ≡ Nowhere → spellings.Has (o .relative) n ≡ spellingOf m b
       unfolding spellingOf writeText form
       has-form q =
-          let t = no-float-form (floatIn (spots tree false (due (ari alone) 0) 0 0)) (sym (c .told (spots tree false (due (ari alone) 0) 0 0) all-laid) ∙ q) in
+          let t = no-float-form (floatIn (spots tree false (due (ari alone) 0) 0 0)) (sym (c .first-of (spots tree false (due (ari alone) 0) 0 0) all-laid) ∙ q) in
           let r : o .relative ≡ isRelative tree = ap (λ (x : Outer). x .relative) (e ∙ outer-right) in
-          rw (demand-two firstLimits Single b n bs .1 i, unset, t, r)
+          rw (demand-two m Single b n bs .1 i, unset, t, r)
 
 -- the reading's answer
-module _ (b : List ℕ) {a : Answer} (e : a ≡ answerOf (read firstLimits Single b)) where
+module _ (m : Limits) (b : List ℕ) {a : Answer} (e : a ≡ answerOf (read m Single b)) where
   accepted-by : (x : Rattle.ari.specs.Reader.Answer) {n : ℕ} → answerOf x ≡ answers.Accepted n → x ≡ accept n
   accepted-by (refuse r p) q = absurd (let z : _≡_ {A = ℕ} 0 1 = cc in omega arith)
   accepted-by (accept n) q = cc
@@ -288,22 +288,22 @@ module _ (b : List ℕ) {a : Answer} (e : a ≡ answerOf (read firstLimits Singl
   refused-by (refuse r p) q = cc
   refused-by (accept n) q = absurd (let z : _≡_ {A = ℕ} 0 1 = cc in omega arith)
 
-  pub is-accepted : {n : ℕ} → all isByte b ≡ true → a ≡ answers.Accepted n → Is firstLimits Single b (decode b) n
-  is-accepted {n} bs q = demand-two firstLimits Single b n bs .0 (accepted-by (read firstLimits Single b) (sym e ∙ q))
+  pub is-accepted : {n : ℕ} → all isByte b ≡ true → a ≡ answers.Accepted n → Is m Single b (decode b) n
+  is-accepted {n} bs q = demand-two m Single b n bs .0 (accepted-by (read m Single b) (sym e ∙ q))
 
-  pub is-refused : {r p : ℕ} → a ≡ answers.Refused r p → spellings.None r p ≡ spellingOf b
+  pub is-refused : {r p : ℕ} → a ≡ answers.Refused r p → spellings.None r p ≡ spellingOf m b
   unfolding spellingOf writeText
-  is-refused q = rw (refused-by (read firstLimits Single b) (sym e ∙ q))
+  is-refused q = rw (refused-by (read m Single b) (sym e ∙ q))
 
 -- the whole text
 pub scheme-none : (room : List ℕ) (x : Bool) → x ≡ true → Put room room 0 0 (schemeOf x)
 scheme-none room x e = rw e (put-nothing room 0)
 
-pub scheme-put : {a b : List ℕ} {r : ℕ} (x : Bool) → x ≡ false → Put a b 0 r (97 ∷ 114 ∷ 105 ∷ 58 ∷ []) → Put a b 0 r (schemeOf x)
+pub scheme-put : {a b : List ℕ} {r : ℕ} (x : Bool) → x ≡ false → Put a b 0 r (ascii "ari:") → Put a b 0 r (schemeOf x)
 scheme-put x e p = rw e p
 
-pub whole : (b : List ℕ) (x : Bool) {r : ℕ} {room room₁ room₂ : List ℕ} {w : Pos} → Put room room₁ 0 r (schemeOf x) → Said b anAriDue 12 0 r w room₁ room₂
-    → Whole b x (w .end) room room₂
-whole b x p s = record { told = λ g f e. put-both p (s .told g [] [] f (sym e ∙ sym (append-nil (encode g))) .1) }
+pub whole : (b : List ℕ) (d : ℕ) (x : Bool) {r : ℕ} {room room₁ room₂ : List ℕ} {w : Pos} → Put room room₁ 0 r (schemeOf x) → Writes b anAriDue d 0 r w room₁ room₂
+    → WritesWhole b d x (w .end) room room₂
+whole b d x p s = record { text-of = λ g f e. put-both p (s .text-of g [] [] f (sym e ∙ sym (append-nil (encode g))) .1) }
 
 pub ruleset forming = (set-20, set-21, no-set, member-good, member-bad, outer-bad, outer-leaf, outer-array, starts, over, float-no-head, a-float, float-short, float-on, next-in, string-in, string-on, a-set, has-float, has-form, is-accepted, is-refused, scheme-none, scheme-put, whole)

@@ -1,4 +1,4 @@
 pub mod Taking
-pub mod Saying
+pub mod Writing
 pub mod Forming
 pub mod Handing

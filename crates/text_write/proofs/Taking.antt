@@ -22,7 +22,7 @@ use Rattle.reader.specs.declared.End.the-variants.{At, Short}
 use Rattle.reader.specs.Steps.{stringEnd}
 use Rattle.text_write.specs.declared.Item.{Item}
 use Rattle.text_write.specs.declared.Item.the-variants.{Taken, Nothing}
-use Rattle.text_write.specs.Said.{Inside, ItemAt}
+use Rattle.text_write.specs.Walks.{Inside, ItemAt}
 
 -- a head that may be written is found as it is
 pub found : (b : List ℕ) (p : ℕ) (l : Lead) (y : List ℕ) → Rattle.cbor.specs.Head.Sound l → drop p b ≡ leadBytes l ++ y → headAt b p ≡ heads.Good (l .kind) (l .arg) (p + size l)
@@ -57,7 +57,7 @@ module _ (b : List ℕ) (p i d : ℕ) {x : Head} (e : x ≡ headAt b p) where
   pub no-head : {r : ℕ} → x ≡ Bad r → ItemAt b p i d Nothing
   no-head {r} q = record {
     inside = tt;
-    told = λ l str z prev g s f. absurd (let y = sym q ∙ e ∙ found b p l (str ++ z) (g .head) f in let z : _≡_ {A = ℕ} 0 1 = cc in omega arith);
+    takes = λ l str z prev g s f. absurd (let y = sym q ∙ e ∙ found b p l (str ++ z) (g .head) f in let z : _≡_ {A = ℕ} 0 1 = cc in omega arith);
   }
 
   module _ {k a n : ℕ} (q : x ≡ heads.Good k a n) where
@@ -76,7 +76,7 @@ module _ (b : List ℕ) (p i d : ℕ) {x : Head} (e : x ≡ headAt b p) where
     pub too-deep : {t : Bool} → t ≡ (isContainer k && eqb d 0) → t ≡ true → ItemAt b p i d Nothing
     too-deep {t} m h = record {
       inside = tt;
-      told = λ l str z prev g s f. absurd (true≢false (sym h ∙ m ∙ rw (same-kind l (str ++ z) (g .head) f) s));
+      takes = λ l str z prev g s f. absurd (true≢false (sym h ∙ m ∙ rw (same-kind l (str ++ z) (g .head) f) s));
     }
 
     module _ (c : Passed b p x) where
@@ -94,7 +94,7 @@ module _ (b : List ℕ) (p i d : ℕ) {x : Head} (e : x ≡ headAt b p) where
       pub too-short : {u : End} → u ≡ stringEnd b k a n → u ≡ Short → ItemAt b p i d Nothing
       too-short {u} m h = record {
         inside = tt;
-        told = λ l str z prev g s f. absurd (let y = sym h ∙ ends m l str z prev g f in let z : _≡_ {A = ℕ} 0 1 = cc in omega arith);
+        takes = λ l str z prev g s f. absurd (let y = sym h ∙ ends m l str z prev g f in let z : _≡_ {A = ℕ} 0 1 = cc in omega arith);
       }
 
       pub is-taken : {t : Bool} {u : End} {j : ℕ} → t ≡ (isContainer k && eqb d 0) → t ≡ false → u ≡ stringEnd b k a n → u ≡ At j
@@ -103,7 +103,7 @@ module _ (b : List ℕ) (p i d : ℕ) {x : Head} (e : x ≡ headAt b p) where
           let w = end-in b k a n (passed .1) (sym mu ∙ hu) in
           record {
             inside = (passed .0, w .0, w .1, sym mt ∙ ht);
-            told = λ l str z prev g s f.
+            takes = λ l str z prev g s f.
                 let q₁ = same-kind l (str ++ z) (g .head) f in
                 let q₂ = same-arg l (str ++ z) (g .head) f in
                 let q₃ = same-next l (str ++ z) (g .head) f in

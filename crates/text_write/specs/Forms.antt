@@ -1,11 +1,12 @@
--- Which ARIs have a text form, as the code finds it out from the heads alone.
+-- Which ARIs have a text form, found out from the heads alone: R64, R98. Private to src/: setBy, neither, memberBy, outerBy, outerOf, Laid, floatOf,
+-- FloatAt.
 use Prim.Native.Nat.{ℕ, _+_, _≤_}
 use mathlib.Core.Path.{_≡_}
 use mathlib.Core.Bool.{Bool, true, false, _&&_, _||_, cond}
 use mathlib.Core.List.{List, [], _∷_, _++_}
 use lib.ListN.{length, drop}
 use lib.Dec.{eqb}
-use Rattle.cbor.specs.Head.{Sound, leadBytes, stringSize}
+use Rattle.cbor.specs.Head.{array, simple, Sound, leadBytes, stringSize}
 use Rattle.cbor.specs.Answer.{headAt}
 use Rattle.cbor.specs.declared.Head.{Head}
 use Rattle.cbor.specs.declared.Head.the-variants.{Bad, Good}
@@ -15,20 +16,21 @@ use Rattle.text_write.specs.declared.Outer.{Outer}
 use Rattle.text_write.specs.declared.Float.{Float}
 use Rattle.text_write.specs.declared.Float.the-variants.{At, Nowhere}
 
--- an array of this length whose first member has such a head: a set, a relative reference
+-- by the length of an array and its first member's argument: an EXECSET (type 20) or an RPTSET (type 21)
 unfoldable pub setBy : ℕ → ℕ → Bool
 setBy n a = eqb n 2 && (eqb a 20 || eqb a 21)
 
+-- a set, a relative reference: by the length of an array and its first member's head
 abbrev pub neither : Outer
 neither = record { set = false; relative = false }
 
 abbrev pub memberBy : ℕ → Head → Outer
 memberBy n (Bad r) = neither
-memberBy n (Good k a q) = record { set = setBy n a; relative = eqb k 6 }
+memberBy n (Good k a q) = record { set = setBy n a; relative = eqb k simple }
 
 abbrev pub outerBy : List ℕ → Head → Outer
 outerBy b (Bad r) = neither
-outerBy b (Good k a q) = cond (eqb k 4) (memberBy a (headAt b q)) neither
+outerBy b (Good k a q) = cond (eqb k array) (memberBy a (headAt b q)) neither
 
 unfoldable pub outerOf : List ℕ → Outer
 outerOf b = outerBy b (headAt b 0)
@@ -46,4 +48,4 @@ floatOf (none-at p) = At p
 
 -- the first float from p on
 pub record FloatAt (b : List ℕ) (p : ℕ) (r : Float) : Type 0 where
-  pub told : (xs : List Spot) → Laid b p xs → r ≡ floatOf (floatIn xs)
+  pub first-of : (xs : List Spot) → Laid b p xs → r ≡ floatOf (floatIn xs)

@@ -1,3 +1,3 @@
-pub mod Said
+pub mod Walks
 pub mod Forms
 pub mod Written

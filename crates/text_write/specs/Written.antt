@@ -1,12 +1,12 @@
--- What writing a text, or reading one, answers, and what the lent room holds then.
+-- What writing a text, or reading one, answers, and what the lent room holds then: R48, R49. Interface: writtenOf, roomAfter. Private to src/: spellingBy,
+-- spellingOf, schemeOf, WritesWhole, small.
 use Prim.Native.Nat.{ℕ}
 use mathlib.Core.Path.{_≡_}
 use mathlib.Core.Bool.{Bool, cond}
-use mathlib.Core.List.{List, [], _∷_, _++_}
+use mathlib.Core.List.{List, [], _++_}
 use lib.ListN.{length, drop}
-use Rattle.ari.specs.Table.{due, ari, inside}
+use Rattle.ari.specs.declared.Limits.{Limits}
 use Rattle.ari.specs.Reader.{end, push}
-use Rattle.ari.specs.Limits.{firstLimits}
 use Rattle.ari.specs.Items.{Items, encode}
 use Rattle.ari.specs.Decode.{decode}
 use Rattle.ari.specs.Due.{Due}
@@ -34,17 +34,17 @@ abbrev pub spellingBy : Bool → Output → Spelling
 spellingBy x (refused r p) = None r p
 spellingBy x (output u n) = Has x n
 
-unfoldable pub spellingOf : List ℕ → Spelling
-spellingOf b = spellingBy (isRelative (decode b)) (writeText firstLimits b)
+unfoldable pub spellingOf : Limits → List ℕ → Spelling
+spellingOf m b = spellingBy (isRelative (decode b)) (writeText m b)
 
--- "Outermost `ari:`, except before a relative reference."
+-- R99: the scheme, which only a relative reference lacks
 abbrev pub schemeOf : Bool → List ℕ
 schemeOf x = cond x [] (ascii "ari:")
 
--- the text of each tree that may stand as the whole input was put
-pub record Whole (b : List ℕ) (x : Bool) (r : ℕ) (room room′ : List ℕ) : Type 0 where
-  pub told : (g : Items) → Due g (push anAriDue [] 12 end) → encode g ≡ b → Put room room′ 0 r (schemeOf x ++ texts g anAriDue)
+-- Of each tree that may stand as the whole input, and opens no more than d containers, the text was put.
+pub record WritesWhole (b : List ℕ) (d : ℕ) (x : Bool) (r : ℕ) (room room′ : List ℕ) : Type 0 where
+  pub text-of : (g : Items) → Due g (push anAriDue [] d end) → encode g ≡ b → Put room room′ 0 r (schemeOf x ++ texts g anAriDue)
 
-abbrev pub noneOf : Spelling → Written
-noneOf (None r p) = Refused r p
-noneOf (Has x n) = Refused 0 0
+-- the bytes of an ARI that is written through a small scratch
+abbrev pub small : ℕ
+small = 64

@@ -2,27 +2,27 @@
 ghost use mathlib.Core.Path.{_≡_};
 ghost use mathlib.Core.Bool.{true, false, _&&_};
 ghost use Rattle.buffer.specs.Bytes.{all, isByte};
-ghost use Prim.Native.Nat.{pred, _+_, _*_, _≤_, min};
+ghost use Prim.Native.Nat.{pred, _≤_, min};
 ghost use lib.ListN.{length};
 ghost use lib.Dec.{eqb};
 ghost use Rattle.cbor.specs.Head.{isContainer};
 ghost use Rattle.ari.specs.Table.{due};
 ghost use Rattle.grammar.specs.Code.{slotOf};
 ghost use Rattle.grammar.specs.Code.{IsSlot};
-ghost use Rattle.reader.specs.Steps.{part};
+ghost use Rattle.buffer.specs.Bytes.{part};
 ghost use Rattle.reader.specs.Walks.{insideLevel};
 ghost use Rattle.buffer.specs.Put.{Put};
 ghost use Rattle.text_write_item.specs.Ways.{wayAt, beforeBy, afterBy};
-ghost use Rattle.text_write.specs.Said.{ItemAt, Said};
-ghost use lib.ListN.{take};
-ghost use mathlib.Core.List.{_++_};
-ghost use Rattle.ari.specs.Limits.{firstLimits};
+ghost use Rattle.text_write.specs.Walks.{ItemAt, Writes};
+ghost use Rattle.ari.specs.Limits.{firstLimits, capped};
 ghost use Rattle.ari.specs.declared.Input.the-variants.{Single};
 ghost use Rattle.ari.specs.Rules.{Is};
 ghost use Rattle.ari.specs.Decode.{decode};
-ghost use Rattle.text.specs.Answer.{output, writeText, lent};
+ghost use Rattle.text.specs.Answer.{output, writeText, lent, cut, longest};
 ghost use Rattle.text_write.specs.Forms.{setBy, memberBy, outerOf, FloatAt};
-ghost use Rattle.text_write.specs.Written.{writtenOf, roomAfter, spellingOf, schemeOf, Whole, noneOf};
+ghost use Rattle.text_write.specs.Written.{writtenOf, roomAfter, spellingOf, schemeOf, WritesWhole, small};
+use ari::Input;
+use ari::Limits;
 use reader::Answer;
 
 // A head with the place of its string; or nothing that may stand there.
@@ -64,7 +64,7 @@ fn take_item(s: &[u8], at: usize, slot: u64, depth: usize) -> Item
     }
 }
 
-fn say_before(
+fn write_before(
     s: &[u8],
     slot: u64,
     kind: u8,
@@ -81,7 +81,7 @@ fn say_before(
     text_write_item::put_before(out, at, way, kind, arg, &s[from..to])
 }
 
-fn say_after(slot: u64, kind: u8, more: bool, out: &mut [u8], at: usize) -> usize
+fn write_after(slot: u64, kind: u8, more: bool, out: &mut [u8], at: usize) -> usize
     requires { ⌜ IsSlot slot ⌝ }
     ensures { λ r. ⌜ Put (now (out .entry)) (now (out .exit)) at r (afterBy (wayAt slot) kind more) ⌝ }
 {
@@ -90,7 +90,7 @@ fn say_after(slot: u64, kind: u8, more: bool, out: &mut [u8], at: usize) -> usiz
 }
 
 // The members of a head at a slot.
-fn say_inside(
+fn write_inside(
     s: &[u8],
     at: usize,
     depth: usize,
@@ -101,17 +101,17 @@ fn say_inside(
     end: usize,
 ) -> Pos
     requires { ⌜ IsSlot slot × (at ≤ length (now s)) × ((isContainer kind && eqb depth 0) ≡ false) ⌝ }
-    ensures { λ r. ⌜ Said (now (s .entry)) (insideLevel (slotOf slot) kind arg) (pred depth) at end r (now (out .entry)) (now (out .exit)) ⌝ }
+    ensures { λ r. ⌜ Writes (now (s .entry)) (insideLevel (slotOf slot) kind arg) (pred depth) at end r (now (out .entry)) (now (out .exit)) ⌝ }
 {
     let inner = grammar::inside(slot, kind, arg);
     match inner {
         grammar::Next::Done => Pos { next: at, end },
-        grammar::Next::Due { slot: a, more: b } => say_level(s, at, depth - 1, a, b, out, end),
+        grammar::Next::Due { slot: a, more: b } => write_level(s, at, depth - 1, a, b, out, end),
     }
 }
 
 // The items of a level from the slot on.
-fn say_level(
+fn write_level(
     s: &[u8],
     at: usize,
     depth: usize,
@@ -121,7 +121,7 @@ fn say_level(
     end: usize,
 ) -> Pos
     requires { ⌜ IsSlot slot × (at ≤ length (now s)) ⌝ }
-    ensures { λ r. ⌜ Said (now (s .entry)) (due (slotOf slot) more) depth at end r (now (out .entry)) (now (out .exit)) ⌝ }
+    ensures { λ r. ⌜ Writes (now (s .entry)) (due (slotOf slot) more) depth at end r (now (out .entry)) (now (out .exit)) ⌝ }
 {
     let mut p = at;
     let mut r = end;
@@ -138,17 +138,17 @@ fn say_level(
         else {
             return Pos { next: p, end: r };
         };
-        let q = say_before(s, place, kind, arg, from, to, out, r);
-        let w = say_inside(s, to, depth, place, kind, arg, out, q);
+        let q = write_before(s, place, kind, arg, from, to, out, r);
+        let w = write_inside(s, to, depth, place, kind, arg, out, q);
         let n = grammar::next_slot(place, arg, left);
         let grammar::Next::Due { slot: a, more: b } = n else {
-            let e = say_after(place, kind, false, out, w.end);
+            let e = write_after(place, kind, false, out, w.end);
             return Pos {
                 next: w.next,
                 end: e,
             };
         };
-        r = say_after(place, kind, true, out, w.end);
+        r = write_after(place, kind, true, out, w.end);
         p = w.next;
         place = a;
         left = b;
@@ -161,14 +161,21 @@ pub struct Outer {
     pub relative: bool,
 }
 
+// A typed literal's members, the type and the value; and the types of the sets.
+const TYPED: u64 = 2;
+
+const EXECSET: u64 = 20;
+
+const RPTSET: u64 = 21;
+
 fn is_set(length: u64, arg: u64) -> bool
     ensures { λ r. ⌜ r ≡ setBy length arg ⌝ }
 {
-    if length == 2 {
-        if arg == 20 {
+    if length == TYPED {
+        if arg == EXECSET {
             return true;
         }
-        return arg == 21;
+        return arg == RPTSET;
     }
     false
 }
@@ -180,7 +187,7 @@ fn outer_by(length: u64, h: cbor::Head) -> Outer
     match h {
         cbor::Head::Good { kind, arg, next: _ } => Outer {
             set: is_set(length, arg),
-            relative: kind == 6,
+            relative: kind == cbor::SIMPLE,
         },
         cbor::Head::Bad(_) => Outer {
             set: false,
@@ -199,7 +206,7 @@ fn outermost(s: &[u8]) -> Outer
             relative: false,
         };
     };
-    if kind == 4 {
+    if kind == cbor::ARRAY {
         return outer_by(arg, cbor::head_again(s, next));
     }
     Outer {
@@ -223,7 +230,7 @@ fn first_float(s: &[u8]) -> Float
         let cbor::Head::Good { kind, arg, next } = h else {
             return Float::Nowhere;
         };
-        if 7 <= kind {
+        if cbor::HALF <= kind {
             return Float::At(p);
         }
         let e = reader::string_end(s, kind, arg, next);
@@ -238,13 +245,13 @@ fn first_float(s: &[u8]) -> Float
 // An ARI has a text form, and is a relative reference or not; or it is refused.
 pub enum Spelling {
     Has { relative: bool, count: usize },
-    None { number: u64, place: usize },
+    None { number: u8, place: usize },
 }
 
 // An accepted ARI: test 14.
-fn form_of(s: &[u8], count: usize) -> Spelling
-    requires { ⌜ (all isByte (now s) ≡ true) × Is firstLimits Single (now s) (decode (now s)) count ⌝ }
-    ensures { λ r. ⌜ r ≡ spellingOf (now (s .entry)) ⌝ }
+fn form_of(limits: Limits, s: &[u8], count: usize) -> Spelling
+    requires { ⌜ (all isByte (now s) ≡ true) × Is limits Single (now s) (decode (now s)) count ⌝ }
+    ensures { λ r. ⌜ r ≡ spellingOf limits (now (s .entry)) ⌝ }
 {
     let o = outermost(s);
     if o.set {
@@ -264,13 +271,13 @@ fn form_of(s: &[u8], count: usize) -> Spelling
 }
 
 // The tests 1 to 14.
-pub fn judge(s: &[u8]) -> Spelling
-    ensures { λ r. ⌜ r ≡ spellingOf (now (s .entry)) ⌝ }
+fn judge(limits: Limits, s: &[u8]) -> Spelling
+    ensures { λ r. ⌜ r ≡ spellingOf limits (now (s .entry)) ⌝ }
 {
-    let a = reader::check_single(s);
+    let a = reader::check(Input::Single, limits, s);
     match a {
         Answer::Refused { number, place } => Spelling::None { number, place },
-        Answer::Accepted(count) => form_of(s, count),
+        Answer::Accepted(count) => form_of(limits, s, count),
     }
 }
 
@@ -284,32 +291,32 @@ fn put_scheme(relative: bool, out: &mut [u8]) -> usize
 }
 
 // The text of an ARI that has one.
-pub fn put_text(s: &[u8], relative: bool, out: &mut [u8]) -> usize
-    ensures { λ r. ⌜ Whole (now (s .entry)) relative r (now (out .entry)) (now (out .exit)) ⌝ }
+fn put_whole(s: &[u8], containers: usize, relative: bool, out: &mut [u8]) -> usize
+    ensures { λ r. ⌜ WritesWhole (now (s .entry)) containers relative r (now (out .entry)) (now (out .exit)) ⌝ }
 {
     let q = put_scheme(relative, out);
-    let w = say_level(s, 0, reader::CONTAINERS, 3, 0, out, q);
+    let w = write_level(s, 0, containers, grammar::ARI_INSIDE, 0, out, q);
     w.end
 }
 
 // So many bytes were written, of an ARI of so many items; or a refusal.
 pub enum Written {
     Bytes { length: usize, count: usize },
-    Refused { number: u64, place: usize },
+    Refused { number: u8, place: usize },
 }
 
-fn refused(f: Spelling) -> Written
-    ensures { λ r. ⌜ r ≡ noneOf f ⌝ }
+// The text of a single ARI in binary form at the front of lent room: as much of it as there is room for.
+pub fn put_text(limits: Limits, s: &[u8], out: &mut [u8]) -> Written
+    ensures { λ r. ⌜ r ≡ writtenOf (cut (length (now (out .entry))) (writeText limits (now (s .entry)))) ⌝ }
+    ensures { λ r. ⌜ now (out .exit) ≡ roomAfter (now (out .entry)) (cut (length (now (out .entry))) (writeText limits (now (s .entry)))) ⌝ }
 {
+    let f = judge(limits, s);
     match f {
         Spelling::None { number, place } => Written::Refused { number, place },
-        Spelling::Has {
-            relative: _,
-            count: _,
-        } => Written::Refused {
-            number: 0,
-            place: 0,
-        },
+        Spelling::Has { relative, count } => {
+            let length = put_whole(s, limits.containers, relative, out);
+            Written::Bytes { length, count }
+        }
     }
 }
 
@@ -328,27 +335,67 @@ pub fn hand_over(b: &[u8], count: usize, out: &mut [u8]) -> Written
     Written::Bytes { length: end, count }
 }
 
-fn write_in(s: &[u8], scratch: &mut [u8], out: &mut [u8]) -> Written
-    requires { ⌜ min 32768 (4 + 19 * length (now s)) ≤ length (now scratch) ⌝ }
-    ensures { λ r. ⌜ r ≡ writtenOf (lent (length (now (out .entry))) (writeText firstLimits (now (s .entry)))) ⌝ }
-    ensures { λ r. ⌜ now (out .exit) ≡ roomAfter (now (out .entry)) (lent (length (now (out .entry))) (writeText firstLimits (now (s .entry)))) ⌝ }
+// The text goes into the scratch, which holds any, and from there into the room: a refusal leaves that as it was.
+fn write_in(limits: Limits, s: &[u8], scratch: &mut [u8], out: &mut [u8]) -> Written
+    requires { ⌜ longest limits (length (now s)) ≤ length (now scratch) ⌝ }
+    ensures { λ r. ⌜ r ≡ writtenOf (lent (length (now (out .entry))) (writeText limits (now (s .entry)))) ⌝ }
+    ensures { λ r. ⌜ now (out .exit) ≡ roomAfter (now (out .entry)) (lent (length (now (out .entry))) (writeText limits (now (s .entry)))) ⌝ }
 {
-    let f = judge(s);
-    let Spelling::Has { relative, count } = f else {
-        return refused(f);
+    let w = put_text(limits, s, scratch);
+    let Written::Bytes { length, count } = w else {
+        return w;
     };
-    let size = put_text(s, relative, scratch);
-    hand_over(&scratch[0..size], count, out)
+    hand_over(&scratch[0..length], count, out)
 }
 
-// A text has at most 4 bytes, and 19 for each byte of the ARI: a small one needs a small scratch, which is cleared in a fraction of the time.
-fn write_small(s: &[u8], out: &mut [u8]) -> Written
-    requires { ⌜ length (now s) ≤ 64 ⌝ }
-    ensures { λ r. ⌜ r ≡ writtenOf (lent (length (now (out .entry))) (writeText firstLimits (now (s .entry)))) ⌝ }
-    ensures { λ r. ⌜ now (out .exit) ≡ roomAfter (now (out .entry)) (lent (length (now (out .entry))) (writeText firstLimits (now (s .entry)))) ⌝ }
+// An ARI of so few bytes is a small one.
+const SMALL: usize = 64;
+
+// No text of a small ARI is longer: 4 bytes, and 19 for each byte, of which 3 are for the byte and 16 for an item.
+const SMALL_TEXT: usize = 4 + 19 * SMALL;
+
+// A small ARI needs a small scratch, which is cleared in a fraction of the time.
+fn write_small(limits: Limits, s: &[u8], out: &mut [u8]) -> Written
+    requires { ⌜ length (now s) ≤ small ⌝ }
+    ensures { λ r. ⌜ r ≡ writtenOf (lent (length (now (out .entry))) (writeText limits (now (s .entry)))) ⌝ }
+    ensures { λ r. ⌜ now (out .exit) ≡ roomAfter (now (out .entry)) (lent (length (now (out .entry))) (writeText limits (now (s .entry)))) ⌝ }
 {
-    let mut scratch = [0u8; 1220];
-    write_in(s, &mut scratch, out)
+    let mut scratch = [0u8; SMALL_TEXT];
+    write_in(limits, s, &mut scratch, out)
+}
+
+fn least(a: usize, b: usize) -> usize
+    ensures { λ r. ⌜ r ≡ min a b ⌝ }
+{
+    if a < b {
+        return a;
+    }
+    b
+}
+
+// The most bytes that the text of an ARI of this size has.
+fn longest(limits: Limits, size: usize) -> usize
+    requires { ⌜ (limits .bytes ≤ firstLimits .bytes) × (limits .items ≤ firstLimits .items) ⌝ }
+    ensures { λ r. ⌜ r ≡ longest limits size ⌝ }
+{
+    4 + 3 * least(size, limits.bytes) + 16 * least(size, limits.items)
+}
+
+// The text of a single ARI in binary form, within these limits, none above the gate's own, is written into lent room: at once, if the room holds any
+// text of such an ARI.
+pub fn write_text_within(limits: Limits, s: &[u8], out: &mut [u8]) -> Written
+    ensures { λ r. ⌜ r ≡ writtenOf (lent (length (now (out .entry))) (writeText (capped limits) (now (s .entry)))) ⌝ }
+    ensures { λ r. ⌜ now (out .exit) ≡ roomAfter (now (out .entry)) (lent (length (now (out .entry))) (writeText (capped limits) (now (s .entry)))) ⌝ }
+{
+    let most = ari::cap(limits);
+    if longest(most, s.len()) <= out.len() {
+        return put_text(most, s, out);
+    }
+    if s.len() <= SMALL {
+        return write_small(most, s, out);
+    }
+    let mut scratch = [0u8; ari::TEXT];
+    write_in(most, s, &mut scratch, out)
 }
 
 // The text of a single ARI in binary form is written into lent room.
@@ -356,9 +403,5 @@ pub fn write_text(s: &[u8], out: &mut [u8]) -> Written
     ensures { λ r. ⌜ r ≡ writtenOf (lent (length (now (out .entry))) (writeText firstLimits (now (s .entry)))) ⌝ }
     ensures { λ r. ⌜ now (out .exit) ≡ roomAfter (now (out .entry)) (lent (length (now (out .entry))) (writeText firstLimits (now (s .entry)))) ⌝ }
 {
-    if s.len() <= 64 {
-        return write_small(s, out);
-    }
-    let mut scratch = [0u8; reader::TEXT];
-    write_in(s, &mut scratch, out)
+    write_text_within(ari::LIMITS, s, out)
 }

@@ -1,5 +1,5 @@
 -- The ways through the functions of one item's text; the premises are the facts that the code leaves.
-use Prim.Native.Nat.{ℕ, zero, suc, _+_, _-_, _*_, _/_, _%_, _^_, _≤_, _<_}
+use Prim.Native.Nat.{ℕ, _+_, _-_, _*_, _/_, _%_, _≤_, _<_}
 use mathlib.Core.Path.{_≡_, refl, sym, _∙_, ap}
 use mathlib.Core.Bool.{Bool, true, false, _||_, cond}
 use mathlib.Core.List.{List, [], _∷_, _++_, append-assoc, append-nil}
@@ -9,8 +9,9 @@ use lib.ListN.{length, take, getD}
 use lib.Seq.{take-suc, take-all}
 use lib.Dec.{ltb, eqb}
 use borrow.Author.Tests.{lt-ltb, le-ltb, eq-eqb, ne-eqb}
+use Rattle.buffer.specs.Decimal.{digits, decimal}
 use Rattle.ari.specs.Name.{continuesName}
-use Rattle.text.specs.Chars.{ascii, digits, decimal, integer, hex, hexes, bare, escape, each, textString, byteString, simpleText, literalText, nameText}
+use Rattle.text.specs.Chars.{ascii, integer, hex, hexes, bare, escape, each, textString, byteString, simpleText, literalText, nameText}
 use Rattle.text.specs.Text.{names, nameIn, typeName}
 use Rattle.buffer.specs.Put.{Put}
 use Rattle.buffer.proofs.Putting.{put-nothing, put-size, put-both}
@@ -35,35 +36,6 @@ module _ (f : ℕ → List ℕ) where
 
   pub each-end : {a b : List ℕ} {at r : ℕ} (s : List ℕ) (i : ℕ) → Put a b at r (each f (take i s)) → length s ≤ i → Put a b at r (each f s)
   each-end s i p h = rw (take-all i s h) at p
-
--- a number's digits
-pub few-digits : {a b : List ℕ} {at r x : ℕ} (f n : ℕ) → n < 10 → x ≡ 48 + n → Put a b at r (x ∷ []) → Put a b at r (digits f n)
-unfolding digits
-few-digits zero n h e p = rw e at p
-few-digits (suc f) n h e p = rw (lt-ltb n 10 h) (rw e at p)
-
-tenth : (f n : ℕ) → n < 10 ^ suc f → n / 10 < 10 ^ f
-tenth f n h = omega arith
-
-pub fewer : (f n : ℕ) → n < 10 ^ (f + 1) → 10 ≤ n → 1 ≤ f
-fewer zero n h l = absurd (omega arith)
-fewer (suc f) n h l = omega arith
-
-pub tenth-fits : (f n : ℕ) → n < 10 ^ (f + 1) → 10 ≤ n → n / 10 < 10 ^ (f - 1 + 1)
-tenth-fits zero n h l = absurd (omega arith)
-tenth-fits (suc f) n h l = let z : suc f - 1 + 1 ≡ suc f = omega arith in rw z (tenth (suc f) n (rw add-one at h))
-
-pub more-digits : {a b c : List ℕ} {at q r x : ℕ} (f n : ℕ) → 1 ≤ f → 10 ≤ n → Put a b at q (digits (f - 1) (n / 10)) → x ≡ 48 + n % 10 → Put b c q r (x ∷ [])
-    → Put a c at r (digits f n)
-unfolding digits
-more-digits zero n g h p e w = absurd (omega arith)
-more-digits (suc f) n g h p e w =
-    let z : suc f - 1 ≡ f = omega arith in
-    rw (le-ltb n 10 h) (put-both (rw z at p) (rw e at w))
-
-pub as-decimal : {a b : List ℕ} {at r : ℕ} (n : ℕ) → Put a b at r (digits 19 n) → Put a b at r (decimal n)
-unfolding decimal
-as-decimal n p = p
 
 -- hex digits
 pub low-hex : (ten d : ℕ) → d < 10 → 48 + d ≡ hex ten d
@@ -207,7 +179,4 @@ untyped room at t a b c d e f g h i j k l m n o p q r s =
       ne-eqb t 21 s,
     ) (put-nothing room at)
 
-pub down : (f t : ℕ) → 1 ≤ f → f ≡ t → f - 1 < t
-down f t h e = omega arith
-
-pub ruleset puts = (put-size, each-begin, each-on, each-end, few-digits, fewer, tenth-fits, more-digits, as-decimal, low-hex, high-hex, two-hexes, bare-name, bare-other, stands-bare, stands-escaped, a-text, some-bytes, negative-most, a-negative, below-zero, from-zero, is-false, is-true, is-null, is-undefined, literal-unsigned, literal-negative, literal-bytes, literal-text, literal-simple, name-text, name-number, no-literal, untyped)
+pub ruleset puts = (put-size, each-begin, each-on, each-end, low-hex, high-hex, two-hexes, bare-name, bare-other, stands-bare, stands-escaped, a-text, some-bytes, negative-most, a-negative, below-zero, from-zero, is-false, is-true, is-null, is-undefined, literal-unsigned, literal-negative, literal-bytes, literal-text, literal-simple, name-text, name-number, no-literal, untyped)

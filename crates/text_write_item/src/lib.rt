@@ -2,40 +2,15 @@
 ghost use mathlib.Core.Path.{_≡_};
 ghost use mathlib.Core.Bool.{cond};
 ghost use mathlib.Core.List.{[], _∷_};
-ghost use Prim.Native.Nat.{_+_, _<_, _≤_, _^_};
+ghost use Prim.Native.Nat.{_+_, _<_, _≤_};
 ghost use lib.ListN.{length};
 ghost use Rattle.buffer.specs.Put.{Put};
 ghost use Rattle.text_write_item.specs.Head.{headOf};
-ghost use Rattle.text.specs.Chars.{digits, decimal, integer, hex, hexes, bare, escape, each, textString, byteString, simpleText, literalText, nameText};
+ghost use Rattle.text.specs.Chars.{integer, hex, hexes, bare, escape, each, textString, byteString, simpleText, literalText, nameText};
 ghost use Rattle.text.specs.Text.{typeName};
 ghost use mathlib.Core.List.{_++_};
 ghost use Rattle.cbor.specs.Head.{isContainer};
 ghost use Rattle.text_write_item.specs.Ways.{wayAt, ariText, opening, spaceText, beforeBy, closing, afterBy};
-
-fn digit(n: u64) -> u8
-    requires { ⌜ n < 10 ⌝ }
-    ensures { λ r. ⌜ r ≡ 48 + n ⌝ }
-{
-    48 + n as u8
-}
-
-// The digits of a number, at most f and one.
-fn put_digits(out: &mut [u8], at: usize, f: usize, n: u64) -> usize
-    requires { ⌜ n < 10 ^ (f + 1) ⌝ }
-    ensures { λ r. ⌜ Put (now (out .entry)) (now (out .exit)) at r (digits f n) ⌝ }
-{
-    if n < 10 {
-        return buffer::put(out, at, digit(n));
-    }
-    let q = put_digits(out, at, f - 1, n / 10);
-    buffer::put(out, q, digit(n % 10))
-}
-
-fn put_decimal(out: &mut [u8], at: usize, n: u64) -> usize
-    ensures { λ r. ⌜ Put (now (out .entry)) (now (out .exit)) at r (decimal n) ⌝ }
-{
-    put_digits(out, at, 19, n)
-}
 
 // A hex digit, where ten is spelled so.
 fn hex_digit(ten: u8, d: u8) -> u8
@@ -125,7 +100,7 @@ fn put_negative(out: &mut [u8], at: usize, arg: u64) -> usize
     if arg == 18446744073709551615 {
         return buffer::put_all(out, q, b"18446744073709551616");
     }
-    put_decimal(out, q, arg + 1)
+    buffer::put_decimal(out, q, arg + 1)
 }
 
 fn put_integer(out: &mut [u8], at: usize, kind: u8, arg: u64) -> usize
@@ -134,7 +109,7 @@ fn put_integer(out: &mut [u8], at: usize, kind: u8, arg: u64) -> usize
     if kind == 1 {
         return put_negative(out, at, arg);
     }
-    put_decimal(out, at, arg)
+    buffer::put_decimal(out, at, arg)
 }
 
 fn put_simple(out: &mut [u8], at: usize, arg: u64) -> usize

@@ -1,8 +1,8 @@
--- `grant_text::behind` meets its contract.
+-- `grant_text::behind` meets its contract: a run, byte by byte.
 use Prim.Native.Nat.{_-_}
 use lib.ListN.{length}
 use Rattle.grant_text.specs.Rows.{isOf}
-use Rattle.grant_text.proofs.Ways.{Ahead}
+use Rattle.buffer.proofs.RunLaws.{Ahead}
 use Rattle.grant_text.proofs.Ways.{ways}
 use borrow.Author.Needs.{needs}
 use Rattle.grant_text.proofs.behind.Statement.{statement}

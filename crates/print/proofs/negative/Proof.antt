@@ -17,4 +17,4 @@ negative-spec =
     (λ c. search needs)
     (λ c κs. search needs)
     (λ c. search needs)
-    (λ c. put-then (c .before .before .before .before .before .before .put .ensures) (c .before .before .decimal .ensures)))
+    (λ c. put-then (c .before .before .before .before .before .before .put .ensures) (c .before .before .put-decimal .ensures)))

@@ -1,3 +1,5 @@
+-- `text_read::read_inside` and `read_level` meet their contracts, together: by the depth, and in the loop whatever is read from here on finishes what was
+-- begun.
 use Prim.Native.Nat.{ℕ, _+_, _*_, _<_, _≤_}
 use mathlib.Core.Path.{_≡_}
 use lib.ListN.{length, drop}

@@ -1,3 +1,4 @@
+-- `text_read::begin` meets its contract: by the first byte.
 use Rattle.text_read.proofs.Walking.{walking}
 use borrow.Author.Needs.{needs}
 use Rattle.text_read.proofs.begin.Statement.{statement}

@@ -1,3 +1,4 @@
+-- `text_read::put_candidate` meets its contract: the walk from behind the scheme over the level of one ARI is the candidate.
 use Rattle.text_read.proofs.Settled.{settling}
 use borrow.Author.Needs.{needs}
 use Rattle.text_read.proofs.put_candidate.Statement.{statement}

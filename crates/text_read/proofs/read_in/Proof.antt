@@ -1,4 +1,5 @@
-use Rattle.text_read.proofs.Settled.{long-refused, long-kept, full-refused, full-kept, tried-is}
+-- `text_read::read_in` meets its contract: the candidate's bytes come to the text's own answer, whole or cut.
+use Rattle.text_read.proofs.Settled.{read-answers, read-fills}
 use borrow.Author.Needs.{needs}
 use Rattle.text_read.proofs.read_in.Statement.{statement}
 use Rattle.text_read.proofs.read_in.Tie as tie
@@ -7,15 +8,12 @@ pub read-in-spec : {M : Type 1} → statement M
 read-in-spec =
     tie.close
     (tie.spec
-    (λ c. (search (long-refused, needs), search (long-kept, needs)))
     (λ c κs. search needs)
     (λ c. search needs)
-    (λ c. (search (full-refused, needs), search (full-kept, needs)))
+    (λ c. search needs)
+    (λ c. search needs)
+    (λ c κs. search needs)
     (λ c. search needs)
     (λ c. search needs)
     (λ c. search needs)
-    (λ c κs. (search needs, search (tried-is, needs)))
-    (λ c. search needs)
-    (λ c. search needs)
-    (λ c. search needs)
-    (λ c. search needs))
+    (λ c. (search (read-answers, needs), search (read-fills, needs))))

@@ -1,5 +1,5 @@
 -- `text_read::read_short` meets its contract: a candidate that leaves room is whole.
-use Rattle.text_read.proofs.Settled.{tried-short}
+use Rattle.text_read.proofs.Settled.{short-answers, short-fills}
 use borrow.Author.Needs.{needs}
 use Rattle.text_read.proofs.read_short.Statement.{statement}
 use Rattle.text_read.proofs.read_short.Tie as tie
@@ -17,6 +17,6 @@ read-short-spec =
     (λ c. search needs)
     (λ c. search needs)
     (λ c. search needs)
-    (λ c κs. (search needs, search (tried-short, needs)))
+    (λ c κs. search needs)
     (λ c. search needs)
-    (λ c. search needs))
+    (λ c. (search (short-answers, needs), search (short-fills, needs))))

@@ -1,3 +1,4 @@
+-- `text_read_item::put_word` meets its contract: the head, then the string.
 use Rattle.text_read_item.proofs.Ways.{reading}
 use borrow.Author.Needs.{needs}
 use Rattle.text_read_item.proofs.put_word.Statement.{statement}

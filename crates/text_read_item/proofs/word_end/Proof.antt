@@ -1,13 +1,15 @@
+-- `text_read_item::word_end` meets its contract: a run, byte by byte.
 use Prim.Native.Nat.{_-_}
 use lib.ListN.{length}
-use Rattle.text_read_item.proofs.Leaves.{Ahead}
+use Rattle.buffer.proofs.RunLaws.{Ahead}
+use Rattle.text.specs.Parse.{inWord}
 use Rattle.text_read_item.proofs.Leaves.{leaves}
 use borrow.Author.Needs.{needs}
 use Rattle.text_read_item.proofs.word_end.Statement.{statement}
 use Rattle.text_read_item.proofs.word_end.Tie as tie
 
 abbrev Inv-loop : tie.InvT-loop
-Inv-loop t at i₀ i = Ahead t at i
+Inv-loop t at i₀ i = Ahead inWord t at i
 
 abbrev μ-loop : tie.MeasureT-loop
 μ-loop t at i₀ i = length t - i

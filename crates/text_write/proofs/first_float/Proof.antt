@@ -1,3 +1,4 @@
+-- `text_write::first_float` meets its contract: whatever float is found from here on is the first of the whole input.
 use Prim.Native.Nat.{_-_, _≤_}
 use lib.ListN.{length}
 use Rattle.text_write.proofs.Forming.{Onto, forming}

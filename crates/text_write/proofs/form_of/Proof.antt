@@ -1,3 +1,4 @@
+-- `text_write::form_of` meets its contract: the heads show a set, a float, or neither.
 use Rattle.text_write.proofs.Forming.{forming}
 use borrow.Author.Needs.{needs}
 use Rattle.text_write.proofs.form_of.Statement.{statement}

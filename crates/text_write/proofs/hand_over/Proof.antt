@@ -1,3 +1,4 @@
+-- `text_write::hand_over` meets its contract: by whether the room holds the bytes.
 use Rattle.text_write.proofs.Handing.{handing, room-enough, room-filled}
 use borrow.Author.Needs.{needs}
 use Rattle.text_write.proofs.hand_over.Statement.{statement}

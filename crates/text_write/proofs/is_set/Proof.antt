@@ -1,3 +1,4 @@
+-- `text_write::is_set` meets its contract: by the length and the type.
 use Rattle.text_write.proofs.Forming.{forming}
 use borrow.Author.Needs.{needs}
 use Rattle.text_write.proofs.is_set.Statement.{statement}

@@ -1,3 +1,4 @@
+-- `text_write::outer_by` meets its contract: by the head.
 use Rattle.text_write.proofs.Forming.{forming}
 use borrow.Author.Needs.{needs}
 use Rattle.text_write.proofs.outer_by.Statement.{statement}

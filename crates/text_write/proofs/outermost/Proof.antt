@@ -1,3 +1,4 @@
+-- `text_write::outermost` meets its contract: by the first head, and by that of an array's first member.
 use Rattle.text_write.proofs.Forming.{forming}
 use borrow.Author.Needs.{needs}
 use Rattle.text_write.proofs.outermost.Statement.{statement}

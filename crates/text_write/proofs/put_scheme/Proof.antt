@@ -1,3 +1,4 @@
+-- `text_write::put_scheme` meets its contract: by whether the reference is relative.
 use Rattle.text_write.proofs.Forming.{forming}
 use borrow.Author.Needs.{needs}
 use Rattle.text_write.proofs.put_scheme.Statement.{statement}

@@ -1,3 +1,4 @@
+-- `text_write::take_item` meets its contract: by the head, the depth and the end of the string.
 use Rattle.text_write.proofs.Taking.{taking}
 use borrow.Author.Needs.{needs}
 use Rattle.text_write.proofs.take_item.Statement.{statement}

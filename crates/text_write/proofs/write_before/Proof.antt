@@ -1,0 +1,17 @@
+-- `text_write::write_before` meets its contract: the way of the slot is the one that the definition takes.
+use Rattle.text_write.proofs.Writing.{writing}
+use borrow.Author.Needs.{needs}
+use Rattle.text_write.proofs.write_before.Statement.{statement}
+use Rattle.text_write.proofs.write_before.Tie as tie
+
+pub write-before-spec : {M : Type 1} → statement M
+write-before-spec =
+    tie.close
+    (tie.spec
+    (λ c κs. search needs)
+    (λ c. search needs)
+    (λ c. search needs)
+    (λ c. search needs)
+    (λ c κs. search needs)
+    (λ c. search needs)
+    (λ c. search (writing, needs)))

@@ -1,7 +1,0 @@
-use Rattle.text_write_item.proofs.Puts.{puts}
-use borrow.Author.Needs.{needs}
-use Rattle.text_write_item.proofs.put_decimal.Statement.{statement}
-use Rattle.text_write_item.proofs.put_decimal.Tie as tie
-
-pub put-decimal-spec : {M : Type 1} → statement M
-put-decimal-spec = tie.close (tie.spec (λ c κs. search needs) (λ c. search needs) (λ c. search (puts, needs)))
