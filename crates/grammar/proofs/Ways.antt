@@ -11,7 +11,7 @@ use Rattle.ari.specs.Table.{inside, param, value, done, due, many, referenceLev
 use Rattle.grammar.specs.declared.Next.{Next}
 use Rattle.grammar.specs.declared.Next.the-variants.{Done, Due}
 use Rattle.grammar.specs.Code.{IsSlot, slotOf, slotNumber, nextOf, typeNumber, fitsCode, ownOf, spelledAs, asksOf, nextCode, insideCode}
-use Rattle.grammar.specs.Words.{field, inSpans, spans, rangeOf, bitsOf, smallOf, topOf, keptCode, followed, follows, Word, wordMeans, wordFor, manyOf, inAriOf, inArrayOf, inMapOf, Inner, innerMeans, innerFor}
+use Rattle.grammar.specs.Words.{field, inSpans, spans, rangeOf, bitsOf, smallOf, topOf, ifSet, followed, follows, Word, wordMeans, wordFor, manyOf, inAriOf, inArrayOf, inMapOf, Inner, innerMeans, innerFor}
 use Rattle.grammar.proofs.Ranges.{each-at, spans-fit, small-looks, top-looks}
 use Rattle.grammar.proofs.Right.{number-slot, no-kind}
 
@@ -87,10 +87,10 @@ pub one-more : (s n : ℕ) → IsSlot s → (n ≡ 0 → ⊥) → Due s (n - 1) 
 one-more s zero h e = absurd (e refl)
 one-more s (suc n) h e = rw (number-slot s h) (ap (Due s) (omega arith))
 
-pub gone : (b n : ℕ) → b ≡ 0 → 0 ≡ keptCode b n
+pub gone : (b n : ℕ) → b ≡ 0 → 0 ≡ ifSet b n
 gone b n e = simp (eq-eqb b 0 e)
 
-pub stays : (b n : ℕ) → (b ≡ 0 → ⊥) → n ≡ keptCode b n
+pub stays : (b n : ℕ) → (b ≡ 0 → ⊥) → n ≡ ifSet b n
 stays b n e = simp (ne-eqb b 0 e)
 
 pub a-type : (a : ℕ) → a < 22 → a ≡ typeNumber a
@@ -101,7 +101,7 @@ no-type a h = simp (le-ltb a 22 h)
 
 -- what follows, by the bits as the code has them and as they are meant
 abbrev followedCode : ℕ → ℕ → ℕ → ℕ → ℕ → ℕ → Next
-followedCode took stay add to a n = cond (ltb (keptCode stay n) took) Done (Due (to + keptCode add (typeNumber a)) (keptCode stay n - took))
+followedCode took stay add to a n = cond (ltb (ifSet stay n) took) Done (Due (to + ifSet add (typeNumber a)) (ifSet stay n - took))
 
 followed-is : (took stay add to a n : ℕ) → took < 2 → follows took stay add to ≡ true → followedCode took stay add to a n ≡ nextOf (followed took stay add to a n)
 unfolding slotNumber
@@ -135,7 +135,7 @@ followed-is took stay add to a n l f = go (eqb add 0) (eqb took 0) refl (eqb sta
     go false false p z g = absurd (true≢false (sym g))
 
 -- the ways of `next_slot`
-module _ (i a n w : ℕ) (e : wordMeans w ≡ wordFor (rule (slotOf i))) {r : ℕ} (q : (r ≡ keptCode (w / 2 ^ 58 % 2) n) × (r ≤ n)) where
+module _ (i a n w : ℕ) (e : wordMeans w ≡ wordFor (rule (slotOf i))) {r : ℕ} (q : (r ≡ ifSet (w / 2 ^ 58 % 2) n) × (r ≤ n)) where
   as-coded : followedCode (field w 57 2) (field w 58 2) (field w 59 2) (field w 50 128) a n ≡ nextCode i a n
   unfolding nextCode
   as-coded = followed-is (field w 57 2) (field w 58 2) (field w 59 2) (field w 50 128) a n (omega arith) (names-said i w e) ∙ ap nextOf (next-said i w e a n)
@@ -143,7 +143,7 @@ module _ (i a n w : ℕ) (e : wordMeans w ≡ wordFor (rule (slotOf i))) {r : �
   pub none-left : r < w / 2 ^ 57 % 2 → Done ≡ nextCode i a n
   none-left h = rw (← as-coded, ← q .0, lt-ltb r (w / 2 ^ 57 % 2) h)
 
-  pub next-due : w / 2 ^ 57 % 2 ≤ r → {t x : ℕ} → (t ≡ typeNumber a) × (t < 22) → (x ≡ keptCode (w / 2 ^ 59 % 2) t) × (x ≤ t)
+  pub next-due : w / 2 ^ 57 % 2 ≤ r → {t x : ℕ} → (t ≡ typeNumber a) × (t < 22) → (x ≡ ifSet (w / 2 ^ 59 % 2) t) × (x ≤ t)
       → Due (w / 2 ^ 50 % 128 + x) (r - w / 2 ^ 57 % 2) ≡ nextCode i a n
   next-due h t p = rw (← as-coded, ← q .0, le-ltb r (w / 2 ^ 57 % 2) h, p .0, t .0)
 

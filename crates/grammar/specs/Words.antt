@@ -68,14 +68,14 @@ abbrev pub topOf : ℕ → ℕ
 topOf c = topIn (rangeOf c)
 
 -- a number, or 0, by a bit
-abbrev pub keptCode : ℕ → ℕ → ℕ
-keptCode b n = cond (eqb b 0) 0 n
+abbrev pub ifSet : ℕ → ℕ → ℕ
+ifSet b n = cond (eqb b 0) 0 n
 
 -- What follows, by the bits: so many are taken of those that are left, which stay or not, and the argument, a type, is added to the slot or not.
 abbrev pub followed : ℕ → ℕ → ℕ → ℕ → ℕ → ℕ → Level
 followed took stay add to a n =
     cond (eqb add 0)
-    (cond (eqb took 0) (due (slotOf to) (keptCode stay n)) (cond (eqb stay 0) done (many (slotOf to) n)))
+    (cond (eqb took 0) (due (slotOf to) (ifSet stay n)) (cond (eqb stay 0) done (many (slotOf to) n)))
     (due (value a (cond (eqb to 28) inside param)) 0)
 
 -- it names a slot, and one of the values' where a type is added

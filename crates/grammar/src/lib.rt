@@ -7,7 +7,7 @@
 ghost use mathlib.Core.Path.{_≡_};
 ghost use Rattle.ari.specs.Table.{referenceLevel, rule};
 ghost use Rattle.grammar.specs.Code.{IsSlot, slotOf, nextOf, typeNumber, fitsCode, ownOf, spelledAs, asksOf, nextCode, insideCode};
-ghost use Rattle.grammar.specs.Words.{field, bitsOf, smallOf, topOf, keptCode, manyOf, inAriOf, inArrayOf, inMapOf, wordMeans, wordFor, innerMeans, innerFor};
+ghost use Rattle.grammar.specs.Words.{field, bitsOf, smallOf, topOf, ifSet, manyOf, inAriOf, inArrayOf, inMapOf, wordMeans, wordFor, innerMeans, innerFor};
 ghost use Prim.Native.Nat.{_-_, _%_, _≤_, _<_};
 ghost use mathlib.Core.Bool.{cond};
 ghost use lib.Dec.{ltb};
@@ -232,7 +232,7 @@ pub fn fits(slot: u64, kind: u8, arg: u64) -> bool
 }
 
 // The slot's own test, as NO_TEST and the constants behind it.
-pub fn own(slot: u64) -> u64
+pub fn extra_test(slot: u64) -> u64
     ensures { λ r. ⌜ r ≡ ownOf slot ⌝ }
 {
     (rule_word(slot) >> 60) % 4
@@ -246,7 +246,7 @@ pub fn spelling(slot: u64) -> u64
 }
 
 // Whether an ARI or an object reference is due.
-pub fn asks(slot: u64) -> bool
+pub fn takes_reference(slot: u64) -> bool
     ensures { λ r. ⌜ r ≡ asksOf slot ⌝ }
 {
     (inside_word(slot) >> 28) % 2 == 1
@@ -267,8 +267,8 @@ fn many(slot: u64, count: u64) -> Next
 }
 
 // A number, or 0, by a bit.
-fn kept(bit: u64, n: u64) -> u64
-    ensures { λ r. ⌜ (r ≡ keptCode bit n) × (r ≤ n) ⌝ }
+fn if_set(bit: u64, n: u64) -> u64
+    ensures { λ r. ⌜ (r ≡ ifSet bit n) × (r ≤ n) ⌝ }
 {
     if bit == 0 {
         return 0;
@@ -292,12 +292,12 @@ pub fn next_slot(slot: u64, arg: u64, more: u64) -> Next
 {
     let word = rule_word(slot);
     let took = (word >> 57) % 2;
-    let rest = kept((word >> 58) % 2, more);
+    let rest = if_set((word >> 58) % 2, more);
     if rest < took {
         return Next::Done;
     }
     Next::Due {
-        slot: (word >> 50) % 128 + kept((word >> 59) % 2, type_number(arg)),
+        slot: (word >> 50) % 128 + if_set((word >> 59) % 2, type_number(arg)),
         more: rest - took,
     }
 }

@@ -47,7 +47,7 @@ pub fn put(entries: &mut [u64], k: usize, first: usize, after: usize, around: us
 pub fn is_reference(slot: u64, kind: u8, arg: u64) -> bool
     ensures { λ r. ⌜ r ≡ referenceBy slot kind arg ⌝ }
 {
-    if !grammar::asks(slot) {
+    if !grammar::takes_reference(slot) {
         return false;
     }
     if kind == cbor::ARRAY {

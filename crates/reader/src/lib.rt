@@ -262,7 +262,7 @@ fn take_head(
             place: at,
         };
     }
-    let own = grammar::own(slot);
+    let own = grammar::extra_test(slot);
     if wrong_version(slot, own, arg) {
         return Step::Refused {
             number: 8,
@@ -277,7 +277,7 @@ fn key_after(slot: u64, prev: Span, from: usize, to: usize) -> Span
     requires { ⌜ IsSlot slot ⌝ }
     ensures { λ r. ⌜ (r .from ≡ keySpan (rule (slotOf slot) .own) (prev .from) from) × (r .to ≡ keySpan (rule (slotOf slot) .own) (prev .to) to) ⌝ }
 {
-    if grammar::own(slot) == 2 {
+    if grammar::extra_test(slot) == grammar::KEY_TEST {
         return Span { from, to };
     }
     prev

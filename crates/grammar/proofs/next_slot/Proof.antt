@@ -16,4 +16,4 @@ next-slot-spec =
     (λ c. search needs)
     (λ c.
     let start = c .before .before .before .before in
-    next-due _ _ _ _ (start .rule-word .ensures) (c .before .before .before .kept .ensures) (search needs) (c .before .type-number .ensures) (c .kept2 .ensures)))
+    next-due _ _ _ _ (start .rule-word .ensures) (c .before .before .before .if-set .ensures) (search needs) (c .before .type-number .ensures) (c .if-set2 .ensures)))

@@ -1,0 +1,12 @@
+-- `grammar::extra_test` meets its contract: two bits of the word.
+use borrow.Author.Needs.{needs}
+use Rattle.grammar.proofs.Ways.{own-said}
+use Rattle.grammar.proofs.extra_test.Statement.{statement}
+use Rattle.grammar.proofs.extra_test.Tie as tie
+
+pub extra-test-spec : {M : Type 1} → statement M
+extra-test-spec =
+    tie.close
+    (tie.spec
+    (λ c κs. search needs)
+    (λ c. own-said (c .before .args .slot) _ (c .rule-word .ensures)))
