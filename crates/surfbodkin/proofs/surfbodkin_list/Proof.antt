@@ -1,6 +1,6 @@
 -- `surfbodkin::surfbodkin_list` meets its contract: the answer as a number, and the room.
 use mathlib.Core.Path.{_∙_, ap}
-use Rattle.reader.proofs.Whole.{all-bytes}
+use Rattle.buffer.proofs.ByteLaws.{all-bytes}
 use Rattle.surfbodkin.specs.Code.{listCode}
 use Rattle.surfbodkin.proofs.Codes.{few-listed-of}
 use borrow.Author.Needs.{needs}

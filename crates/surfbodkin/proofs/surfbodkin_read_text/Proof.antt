@@ -2,7 +2,7 @@
 use lib.ListN.{length}
 use Rattle.ari.specs.Limits.{firstLimits}
 use Rattle.text.specs.Answer.{readText, lent}
-use Rattle.reader.proofs.Whole.{all-bytes}
+use Rattle.buffer.proofs.ByteLaws.{all-bytes}
 use Rattle.surfbodkin.proofs.Codes.{short-read, output-coded}
 use borrow.Author.Needs.{needs}
 use Rattle.surfbodkin.proofs.surfbodkin_read_text.Statement.{statement}

@@ -1,4 +1,4 @@
-use Rattle.reader.proofs.Whole.{all-bytes}
+use Rattle.buffer.proofs.ByteLaws.{all-bytes}
 use Rattle.text_write.proofs.Handing.{in-scratch}
 use Rattle.text_read.proofs.Settled.{none-confirmed, none-kept, text-answers, text-fills}
 use borrow.Author.Needs.{needs}
