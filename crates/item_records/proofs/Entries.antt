@@ -31,7 +31,7 @@ use Rattle.reader.specs.declared.Answer.{Answer}
 use Rattle.reader.specs.declared.Answer.the-variants.{Accepted}
 use Rattle.reader.specs.declared.Answer.the-variants as answers
 use Rattle.reader.specs.Answers.{answerOf, Kept}
-use Rattle.reader.proofs.Whole.{all-bytes}
+use Rattle.buffer.proofs.ByteLaws.{all-bytes}
 use Rattle.item_records.specs.declared.Literal.{Literal}
 use Rattle.item_records.specs.declared.Literal.the-variants.{Unsigned, Negative, Bytes, Text, Simple, Half, Single, Double}
 use Rattle.item_records.specs.declared.Container.the-variants.{Array, Map}

@@ -21,7 +21,7 @@ use Rattle.reader.specs.declared.Answer.{Answer}
 use Rattle.reader.specs.declared.Answer.the-variants.{Accepted}
 use Rattle.reader.specs.declared.Answer.the-variants as answers
 use Rattle.reader.specs.Answers.{answerOf, Kept}
-use Rattle.reader.proofs.Whole.{all-bytes}
+use Rattle.buffer.proofs.ByteLaws.{all-bytes}
 
 was-accepted : (x : reader.Answer) {n : ℕ} → Accepted n ≡ answerOf x → x ≡ accept n
 was-accepted (refuse r p) e = absurd (let z : _≡_ {A = ℕ} 0 1 = cc in omega arith)

@@ -37,11 +37,6 @@ use Rattle.reader.specs.Walks.{entries, Held, Walked, SetsHeld, SetsWalk
 use Rattle.reader.specs.Answers.{answerOf, refusalOf, Kept}
 use Rattle.reader.proofs.Tables.{spots-heads, map-append}
 
--- a slice's elements are bytes
-pub all-bytes : (b : List ℕ) → ((i : ℕ) → Fits w8 (getD b i 0)) → all isByte b ≡ true
-all-bytes [] h = refl
-all-bytes (x ∷ b) h = let z : x < 256 = h 0 .fits in rw (lt-ltb x 256 z) (all-bytes b (λ i. h (suc i)))
-
 -- a level and the sets behind it
 spots-join : (g h : Items) (v : Level) (prev : List ℕ) (d p around : ℕ) → Due g (push v prev d end)
     → spots (join g h) true v p around ≡ spots g false v p around ++ spots h true done (p + length (encode g)) around

@@ -20,7 +20,7 @@ use Rattle.ari.specs.Rules.{Stands, an-ari}
 use Rattle.ari.specs.Due.{Due}
 use Rattle.ari.proofs.Due.{Fit, unsplit}
 use Rattle.ari.proofs.RulesFit.{here-ari}
-use Rattle.reader.proofs.Whole.{all-bytes}
+use Rattle.buffer.proofs.ByteLaws.{all-bytes}
 use Rattle.text.specs.Text.{anAriDue, isRelative, isSet, textOf}
 use Rattle.text.specs.Answer.{Spelled, Output, refused, output, writeText, lent, cut, longest}
 use Rattle.text.proofs.Outer.{inward, texted}

@@ -1,5 +1,5 @@
 use native.Mathlib.Omega.{arith}
-use Rattle.reader.proofs.Whole.{all-bytes}
+use Rattle.buffer.proofs.ByteLaws.{all-bytes}
 use Rattle.ari.specs.Limits.{capped}
 use borrow.Author.Needs.{needs}
 use Rattle.grant_structs.proofs.Deciding.{bytes-decide}

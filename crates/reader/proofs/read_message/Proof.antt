@@ -1,6 +1,7 @@
 -- `reader::read_message` meets its contract: the version and the sets behind it.
 use borrow.Author.Needs.{needs}
-use Rattle.reader.proofs.Whole.{all-bytes, message-ways}
+use Rattle.buffer.proofs.ByteLaws.{all-bytes}
+use Rattle.reader.proofs.Whole.{message-ways}
 use Rattle.reader.proofs.Bounds.{bounds}
 use Rattle.reader.proofs.read_message.Statement.{statement}
 use Rattle.reader.proofs.read_message.Tie as tie

@@ -1,6 +1,7 @@
 -- `reader::read_single` meets its contract: the walk ends with the input, or before it.
 use borrow.Author.Needs.{needs}
-use Rattle.reader.proofs.Whole.{all-bytes, single-ways}
+use Rattle.buffer.proofs.ByteLaws.{all-bytes}
+use Rattle.reader.proofs.Whole.{single-ways}
 use Rattle.reader.proofs.read_single.Statement.{statement}
 use Rattle.reader.proofs.read_single.Tie as tie
 

@@ -1,4 +1,4 @@
-use Rattle.reader.proofs.Whole.{all-bytes}
+use Rattle.buffer.proofs.ByteLaws.{all-bytes}
 use Rattle.text_read_item.proofs.Found.{type-named}
 use borrow.Author.Needs.{needs}
 use Rattle.text_read_item.proofs.type_number.Statement.{statement}

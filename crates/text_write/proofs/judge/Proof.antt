@@ -1,5 +1,5 @@
 -- `text_write::judge` meets its contract: the reading's refusal, or the form of an accepted ARI.
-use Rattle.reader.proofs.Whole.{all-bytes}
+use Rattle.buffer.proofs.ByteLaws.{all-bytes}
 use Rattle.text_write.proofs.Forming.{forming, is-accepted}
 use borrow.Author.Needs.{needs}
 use Rattle.text_write.proofs.judge.Statement.{statement}
