@@ -6,7 +6,8 @@
 
      cc -std=c11 -o relay relay.c libsurfbodkin.a
 
-   relay.c is an example, and the script run beside it builds and runs that.
+   relay.c is an example, and the script run beside it builds and runs that. The rules
+   behind every answer are in docs/RULES.md: test n below is its rule R(50 + n).
 
    WHAT HOLDS OF EVERY CALL
 
