@@ -13,14 +13,14 @@ use mir.Syntax.{named, w64, tyBool}
 use mir.Val.{Val, vint, vbool, ofZ, hbits}
 use mir.ValLaws.{ofZ-fits}
 use base.Logic.{SProp, ent, emp, via, fst∗, id⊢}
-use base.Fml.{Lft, GName, Share, ftrue, fat, flft}
+use base.Fml.{Lft, Share, ftrue, fat, flft}
 use prog.Memory.{Memory}
 use prog.Routine.{Routine}
 use prog.Wp.{Heap, WpFn, Tables}
 use ghost.Atoms.{Atoms}
 use contract.Monad.{Fun, factI}
 use contract.Running.{givenOf, tables, tablesOf}
-use types.Kit.{Given, ‵, raw, _⊛_, ⋆, _$_, _∵_, !, qed, by, move, drop, use2, split, join, rewrite, fsplit, fjoin, suffices, frame, done}
+use types.Kit.{Given, ‵, raw, _⊛_, ⋆, _$_, _∵_, !, qed, by, move, drop, use2, split, rewrite, fsplit}
 use types.Part.{agg, whole, sub, look-in}
 use types.Run.{look, init, forget, stop, fld, from, load, false-lit, of-opd, and-then, no-more, assigns, land, returns, enter, alloc1, alloc0, params1, pass1, pass0, free1, free0}
 use sound.WpLaws.{fmOf}
@@ -30,19 +30,18 @@ use denote.Signed.{sint-vals, sint-tells}
 use denote.Builtin.{u64, i64, bool}
 use denote.Ref.{RefT}
 use denote.Slice.{Room, sliceVal, ShrSlice, slice-vals, shr-slice-tells}
-use denote.Signature.{plain}
-use denote.Steps.{only, nothing}
+use denote.Steps.{only}
 use denote.Triple.Statement.{Triple}
 use denote.Triple.Call.{calls-at}
 use denote.Triple.Entry.{Vals, onEntry}
 use denote.Triple.Spec.{Meets, tripleOf}
 use denote.Triple.Table.{entered, cited}
-use denote.Triple.Walked.{says, walkOf}
+use denote.Triple.Walked.{walkOf}
 use Rattle.ari.specs.Listing.{number}
 use Rattle.grants.specs.Grants.{holds, granted as grantedBy}
 use Rattle.grant_structs.specs.declared.Grant.{Grant}
 use Rattle.grant_structs.specs.Structs.{grants}
-use Rattle.grant_structs.proofs.Over.{R, Own, fine, row-typed, own-word, own-int, own-bool, copies-rows, answered-κ}
+use Rattle.grant_structs.proofs.Over.{R, fine, row-typed, answered-κ}
 use Rattle.grant_structs.proofs.Leaving.{Gone, leaves, meets-by, of-κ}
 use Rattle.grant_structs.proofs.Searched.{of-all}
 use Rattle.grant_structs.proofs.Asking.{SomeRow, to, asked, gives}

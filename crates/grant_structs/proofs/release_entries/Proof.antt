@@ -20,7 +20,7 @@ use prog.Wp.{Heap, Out, Env, afterSeq, afterBlock, afterTurn, atReturn, Wp, WpFn
 use ghost.Atoms.{Atoms}
 use contract.Monad.{Fun, factI}
 use contract.Running.{givenOf, tables, tablesOf}
-use types.Kit.{Given, Item, Sq, ‵, raw, _⊛_, ⋆, anyQ, atRet, runs, _$_, _∵_, !, qed, by, move, keep, drop, use0, use2, split, join, rewrite, fsplit, fjoin, suffices, frame, done}
+use types.Kit.{Given, Item, Sq, ‵, raw, _⊛_, ⋆, anyQ, atRet, runs, _$_, _∵_, !, qed, by, move, keep, drop, use0, use2, split, join, rewrite, fsplit, fjoin, frame, done}
 use types.Part.{whole, sub, look-in}
 use types.Run.{look, store, init, forget, stop, fld, from, load, lit, false-lit, of-opd, un, bin, and-then, no-more, assigns, assigns-last, land, first, blocks, returns, enter, alloc1, alloc0, params1, pass1, pass0, free1, free0, exec, Below, again, loops}
 use sound.WpLaws.{fmOf}
@@ -32,8 +32,7 @@ use denote.Plain.{uint-vals, uint-tells, uint-lawful, bool-lawful}
 use denote.Builtin.{u8, u64, usize, bool}
 use denote.Ref.{RefT}
 use denote.Slice.{Room, sliceTy, sliceVal, ShrSlice, slice-vals, shr-slice-tells}
-use denote.Signature.{plain}
-use denote.Steps.{only, owned, nothing}
+use denote.Steps.{only, nothing}
 use denote.Struct.Laws as LL
 use denote.Enum.Laws as EL
 use denote.Triple.Statement.{Contract, Triple}

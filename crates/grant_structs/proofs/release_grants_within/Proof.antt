@@ -17,7 +17,7 @@ use prog.Wp.{Heap, WpFn, Tables}
 use ghost.Atoms.{Atoms, sem}
 use contract.Monad.{Fun, fact, factI}
 use contract.Running.{givenOf, tables, tablesOf}
-use types.Kit.{Given, Item, Goal, Soaks, Seq, ‵, raw, _⊛_, some, later, ⋆, _$_, _∵_, !, qed, by, move, keep, drop, use0, use1, use3, split, pick, join, rewrite, fsplit, fjoin, feqL, suffices, frame, await, done}
+use types.Kit.{Given, Item, Goal, Soaks, Seq, ‵, raw, _⊛_, some, later, ⋆, _$_, _∵_, !, qed, by, move, keep, drop, use0, use1, use3, split, pick, join, rewrite, fsplit, fjoin, feqL, frame, await, done}
 use types.Part.{agg}
 use types.Run.{look, init, forget, stop, from, load, addr, and-then, no-more, assigns, land, returns, enter, alloc1, alloc0, params1, pass1, pass0, free1, free0}
 use sound.WpLaws.{fmOf}
@@ -27,7 +27,6 @@ use denote.Plain.{uint-vals, uint-tells, uint-lawful}
 use denote.Builtin.{u8, u64, usize}
 use denote.Ref.{RefT}
 use denote.Slice.{Room, sliceTy, sliceVal, ShrSlice, MutSlice, finally, slice-vals, shr-slice-tells}
-use denote.Signature.{plain}
 use denote.Steps.{only, owned, facts, heard, nothing}
 use denote.Enum.Laws as EL
 use denote.Triple.Statement.{Contract, Triple}
@@ -195,7 +194,7 @@ module _ {M : Type 1} (𝓤 : URA M) (H : Heap 𝓤) (A : Atoms 𝓤) (W : Given
   many : length (zeros room) ≡ room
   many = length-zeros room
 
-  -- what the callees said, together
+  -- what the callees answer, together
   together : (c : Listed) (zs : List ℕ) → Decides (capped m) (b .now) c zs → (n : ℕ) → n ≡ entriesOf c → (g r : Released) → answerOf g ≡ judgedFrom (grantedAt (grants (a .now)) s zs) 0 n → answerOf r ≡ answerBy c (answerOf g) → answerOf r ≡ answer
   together c zs d n e g r eg er = er ∙ ap (answerBy c) (eg ∙ ap (λ (k : ℕ). judgedFrom (grantedAt (grants (a .now)) s zs) 0 k) e) ∙ d .decides (grants (a .now)) s
 

@@ -1,7 +1,7 @@
 -- A walk of the MIR, by hand. Each turn reads row i whole and calls `meets`, of which the proof knows only its contract (`Over.antt` has the steps over the slice).
 -- The invariant at i: what is left from row i on decides. A turn whose row meets g leaves by the label.
 use mathlib.Core.Path.{_≡_, refl, sym, _∙_, ap}
-use Prim.Native.Nat.{ℕ, suc, _<_, _≤_, _+_, _-_, _*_, _^_}
+use Prim.Native.Nat.{ℕ, suc, _<_, _≤_, _+_, _*_, _^_}
 use native.Mathlib.Numerals.{add-one}
 use native.Mathlib.Omega.{arith}
 use mathlib.Core.Bool.{Bool}
@@ -20,7 +20,7 @@ use prog.Wp.{Heap, Out, Env, afterSeq, afterBlock, afterTurn, atReturn, Wp, WpFn
 use ghost.Atoms.{Atoms}
 use contract.Monad.{Fun, factI}
 use contract.Running.{givenOf, tables, tablesOf}
-use types.Kit.{Given, Item, Sq, ‵, raw, _⊛_, ⋆, anyQ, atRet, runs, _$_, _∵_, !, qed, by, move, keep, drop, use0, join, rewrite, fsplit, fjoin, suffices, frame, done}
+use types.Kit.{Given, Item, Sq, ‵, raw, _⊛_, ⋆, anyQ, atRet, runs, _$_, _∵_, !, qed, by, move, keep, drop, use0, join, rewrite, fsplit, fjoin, frame, done}
 use types.Part.{whole, sub, look-in}
 use types.Run.{look, look-raw, store, init, forget, stop, hop, fld, from, load, lit, of-opd, bin, and-then, no-more, assigns, assigns-last, land, first, blocks, returns, enter, alloc1, alloc0, params1, pass1, pass0, free1, free0, exec, Below, again, loops}
 use sound.WpLaws.{fmOf}
@@ -29,21 +29,20 @@ use denote.Plain.{uint-vals, uint-tells, bool-vals, bool-tells, bool-lawful, boo
 use denote.Builtin.{usize, bool}
 use denote.Ref.{RefT}
 use denote.Slice.{Room, sliceVal, ShrSlice, slice-vals, shr-slice-tells}
-use denote.Signature.{plain}
 use denote.Steps.{only, nothing}
 use denote.Triple.Statement.{Contract, Triple}
 use denote.Triple.Call.{calls-at}
 use denote.Triple.Entry.{Vals, onEntry}
 use denote.Triple.Spec.{Meets, tripleOf}
 use denote.Triple.Table.{entered, cited}
-use denote.Triple.Walked.{says, needs, walkOf}
+use denote.Triple.Walked.{needs, walkOf}
 use denote.Struct.Laws as LL
 use Rattle.grants.specs.Grants.{some}
 use Rattle.grant_structs.specs.declared.Grant.{Grant}
 use Rattle.grant_structs.specs.Structs.{grantOf, grants, meetsBy, rowAt}
 use Rattle.grant_structs.proofs.Grant as T
 use Rattle.grant_structs.proofs.Grant.Laws as T′
-use Rattle.grant_structs.proofs.Over.{R, low, slice, Fine, Own, Shr, at-row, row-typed, own-word, own-bool, own-grant, opens-rows, looks-row, shuts-row, answered}
+use Rattle.grant_structs.proofs.Over.{R, low, slice, Fine, Own, Shr, at-row, row-typed, own-bool, own-grant, opens-rows, looks-row, shuts-row, answered}
 use Rattle.grant_structs.proofs.Leaving.{Gone, leaves, meets-by, of-κ}
 use Rattle.grant_structs.proofs.Turn.{tests, breaks, Upto, nearer, nearer-wf, is-true, is-false}
 use Rattle.grant_structs.proofs.Searched.{Sought, missed, hit, none-left}
