@@ -1,8 +1,8 @@
 -- A message's listing as bytes decides as the message does. The idea: kind and word of entry i are read where its bytes stand, so judging the entries in
 -- place is judging the listing; and the room is enough for every listing, so it is there whole.
-use Prim.Native.Nat.{ℕ, zero, suc, _+_, _-_, _*_, _/_, _≤_, _<_, _^_}
+use Prim.Native.Nat.{ℕ, suc, _+_, _-_, _*_, _/_, _≤_, _<_, _^_}
 use mathlib.Core.Path.{_≡_, refl, sym, _∙_, ap}
-use mathlib.Core.Bool.{Bool, true, false, _&&_, cond}
+use mathlib.Core.Bool.{true}
 use mathlib.Core.List.{List, [], _∷_, _++_, append-assoc, List·Memᴰ, List·Memᴰ·head, List·Memᴰ·tail}
 use native.Mathlib.Omega.{arith}
 use lib.ListN.{length, drop, take, length-append, length-drop}
@@ -16,21 +16,21 @@ use Rattle.ari.specs.declared.Input.the-variants.{Message}
 use Rattle.ari.specs.Reader.{Answer, accept, refuse, read}
 use Rattle.ari.specs.Decode.{decode}
 use Rattle.ari.specs.Rules.{Is}
-use Rattle.ari.specs.Signed.{signed, word}
+use Rattle.ari.specs.Signed.{word}
 use Rattle.ari.specs.Listing.{Space, number, name, relative, Entry, listing}
 use Rattle.ari.proofs.Demand.{demand-two}
 use Rattle.ari.proofs.ListingBound.{at-most-half}
 use Rattle.ari.proofs.Named.{InRange, numbers-in-range}
-use Rattle.grants.specs.Grants.{Grant, some, holds, granted}
+use Rattle.grants.specs.Grants.{Grant, granted}
 use Rattle.buffer.specs.Bytes.{loadAt}
 use Rattle.grants.proofs.Signed.{signed-word}
 use Rattle.buffer.proofs.Numbers.{load-there}
 use Rattle.listing.specs.declared.Listed.{Listed}
 use Rattle.listing.specs.declared.Listed.the-variants.{Entries, Refused}
-use Rattle.listing.specs.Bytes.{kindOf, wordOf, spaceBytes, entryBytes, listingBytes}
+use Rattle.listing.specs.Bytes.{kindOf, wordOf, entryBytes, listingBytes}
 use Rattle.listing.specs.Answers.{listedOf, listOf, writtenBy, writtenOf}
-use Rattle.release.specs.Release.{Release, no, judgeFrom, judge, release}
-use Rattle.grant_structs.specs.Structs.{isNumber, numberAt, grantedAt, judgedFrom, answerBy, Decides}
+use Rattle.release.specs.Release.{Release, judgeFrom, judge, release}
+use Rattle.grant_structs.specs.Structs.{grantedAt, judgedFrom, answerBy, Decides}
 use Rattle.grant_structs.proofs.Same.{word-fits}
 
 length-entry : (e : Entry) → length (entryBytes e) ≡ 24

@@ -6,13 +6,12 @@ use mathlib.Core.List.{List}
 use native.Mathlib.Omega.{arith}
 use lib.IntN.{ℤ}
 use lib.ListN.{length, take}
-use lib.Dec.{ltb}
 use lib.Seq.{take-length}
 use borrow.Author.Tests.{lt-ltb, le-ltb, eq-eqb, ne-eqb}
 use Rattle.ari.specs.Signed.{signed}
-use Rattle.grants.specs.Grants.{Grant, some, holds}
+use Rattle.grants.specs.Grants.{some, holds}
 use Rattle.buffer.specs.Bytes.{loadAt}
-use Rattle.release.specs.Release.{Release, yes, no}
+use Rattle.release.specs.Release.{yes, no}
 use Rattle.grant_structs.specs.declared.Grant.{Grant as Row}
 use Rattle.grant_structs.specs.Structs.{grants, numberKind, isNumber, numberAt, wantedAt, rowsFor, grantedAt, judgedFrom, heldAt}
 

@@ -9,3 +9,4 @@ pub mod Over
 pub mod Same
 pub mod Searched
 pub mod Turn
+pub mod Walk

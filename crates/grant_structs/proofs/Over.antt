@@ -1,7 +1,7 @@
--- Steps of a walk over a `&[Grant]`, said once. `R` is the row of Grant; a slice's pointer is (b, o) and its list ys.
---     fine                 a row of numbers that fit
+-- Steps of a walk over a `&[Grant]`, once for all walks. `R` is the row of Grant, LR that of the limits; a slice's pointer is (b, o) and its list ys.
+--     fine, fine-limits    a row of numbers that fit, and such limits
 --     slice ℓ, Own, Shr    the MIR type of a `&ℓ [Grant]`; what one owns; and the fractured borrow in it
---     own-word, own-int, own-bool, own-grant      what a number, a bool or a row owns is had for nothing, where its relation holds
+--     own-word, own-int, own-bool, own-grant, own-limits      what a number, a bool, a row or limits own is had for nothing, where its relation holds
 --     opens-rows       at entry: the slice's `own` and the token.        A `&` is Copy: Own is kept whole, for the exit and for a callee, and Shr beside it
 --     copies-rows, copies-bytes     what a slice owns, twice
 --     looks-row, shuts-row     row i is taken out, with its cell at its place, and put back

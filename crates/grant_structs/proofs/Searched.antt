@@ -1,14 +1,14 @@
 -- A search, turn by turn: what is left to look at decides, until a turn hits or nothing is left.
 use Prim.Native.Nat.{ℕ, suc, _<_, _≤_}
 use mathlib.Core.Path.{_≡_, refl, sym, _∙_, ap}
-use mathlib.Core.Bool.{Bool, true, false, cond}
-use mathlib.Core.List.{List, [], _∷_, _++_, map}
+use mathlib.Core.Bool.{Bool, true, false}
+use mathlib.Core.List.{List, [], _∷_, _++_}
 use native.Mathlib.Omega.{arith}
-use lib.ListN.{length, take, drop, getD}
+use lib.ListN.{length, take, drop}
 use lib.Seq.{drop-cons, drop-length, getD-take, length-take-le, take-length, take-suc}
 use lib.Dec.{ltb}
 use borrow.Author.Tests.{lt-ltb, le-ltb}
-use Rattle.grants.specs.Grants.{Grant, some, clash, Check, passes, refused, checkFrom, check}
+use Rattle.grants.specs.Grants.{Grant, some, clash, passes, refused, checkFrom, check}
 use Rattle.grant_structs.specs.declared.Grant.{Grant as Row}
 use Rattle.grant_structs.specs.Structs.{grantOf, grants, none, rowAt, foundAt}
 

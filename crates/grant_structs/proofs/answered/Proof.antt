@@ -1,3 +1,4 @@
+-- `grant_structs::answered` meets its contract: by the listing's answer.
 use borrow.Author.Needs.{needs}
 use Rattle.grant_structs.proofs.Deciding.{answers}
 use Rattle.grant_structs.proofs.answered.Statement.{statement}

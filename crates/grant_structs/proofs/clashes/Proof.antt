@@ -1,3 +1,4 @@
+-- `grant_structs::clashes` meets its contract: by the subscribers, then by the namespace's sign.
 use borrow.Author.Needs.{needs}
 use Rattle.grant_structs.proofs.Decided.{clash-same, clash-by, clash-positive}
 use Rattle.grant_structs.proofs.clashes.Statement.{statement}

@@ -1,3 +1,4 @@
+-- `grant_structs::holds_both` meets its contract: by the subscribers, then by the bits of the namespaces.
 use borrow.Author.Needs.{needs}
 use Rattle.grant_structs.proofs.Decided.{holds-by, holds-not}
 use Rattle.grant_structs.proofs.holds_both.Statement.{statement}

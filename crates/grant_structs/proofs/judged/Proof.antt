@@ -1,3 +1,4 @@
+-- `grant_structs::judged` meets its contract: the search ended before the last entry, or it did not.
 use borrow.Author.Needs.{needs}
 use Rattle.grant_structs.proofs.Entries.{held-below, held-none}
 use Rattle.grant_structs.proofs.judged.Statement.{statement}

@@ -1,3 +1,4 @@
+-- `grant_structs::listed_in` meets its contract: the room is enough for every listing, so the listing's contract gives that its bytes decide.
 use native.Mathlib.Omega.{arith}
 use Rattle.buffer.proofs.ByteLaws.{all-bytes}
 use Rattle.ari.specs.Limits.{capped}

@@ -1,3 +1,4 @@
+-- `grant_structs::meets` meets its contract: by the test that is asked for.
 use borrow.Author.Needs.{needs}
 use Rattle.grant_structs.proofs.Decided.{meets-clash, meets-holds}
 use Rattle.grant_structs.proofs.meets.Statement.{statement}

@@ -1,3 +1,4 @@
+-- `grant_structs::rows_for` meets its contract: by the entry's kind.
 use borrow.Author.Needs.{needs}
 use Rattle.grant_structs.proofs.Entries.{rows-number, rows-other}
 use Rattle.grant_structs.proofs.rows_for.Statement.{statement}

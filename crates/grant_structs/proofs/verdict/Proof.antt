@@ -1,3 +1,4 @@
+-- `grant_structs::verdict` meets its contract: the search ended before the last row, or it did not.
 use borrow.Author.Needs.{needs}
 use Rattle.grant_structs.proofs.Searched.{found-below, found-none}
 use Rattle.grant_structs.proofs.verdict.Statement.{statement}

@@ -1,3 +1,4 @@
+-- `grant_structs::wanted` meets its contract: the entry's word as a number.
 use borrow.Author.Needs.{needs}
 use Rattle.grant_structs.proofs.Entries.{wanted-row}
 use Rattle.grant_structs.proofs.wanted.Statement.{statement}
