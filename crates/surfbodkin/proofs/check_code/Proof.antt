@@ -1,0 +1,15 @@
+-- `surfbodkin::check_code` meets its contract: by the answer.
+use borrow.Author.Needs.{needs}
+use Rattle.surfbodkin.proofs.check_code.Statement.{statement}
+use Rattle.surfbodkin.proofs.check_code.Tie as tie
+
+pub check-code-spec : {M : Type 1} → statement M
+check-code-spec =
+    tie.close
+    (tie.spec
+    (λ c. search needs)
+    (λ c κs. search needs)
+    (λ c. search needs)
+    (λ c κs. search needs)
+    (λ c. cc)
+    (λ c. cc))
