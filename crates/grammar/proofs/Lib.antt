@@ -1,5 +1,5 @@
 pub mod Hits
 pub mod Ranges
 pub mod Right
-pub mod Ways
+pub mod TableWays
 pub mod NameWays

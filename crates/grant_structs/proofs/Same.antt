@@ -18,7 +18,7 @@ use Rattle.ari.proofs.Named.{InRange}
 use Rattle.grants.specs.Grants.{Grant, granted, check}
 use Rattle.ari.specs.Signed.{word}
 use Rattle.grants.specs.Bytes.{rowBy, rowOf, rowsOf, rows, ragged, checkBytes}
-use Rattle.grants.specs.Verdict.{said as checkOf}
+use Rattle.grants.specs.Verdict.{checkOf}
 use Rattle.grants.specs.declared.Verdict.{Verdict}
 use Rattle.grants.specs.declared.Verdict.the-variants.{Passes, Refused}
 use Rattle.grants.proofs.Signed.{signed-word}

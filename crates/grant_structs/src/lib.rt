@@ -7,7 +7,7 @@ ghost use Rattle.ari.specs.Limits.{firstLimits, capped};
 ghost use Rattle.ari.specs.Listing.{number};
 ghost use Rattle.ari.specs.Signed.{signed};
 ghost use Rattle.grants.specs.Grants.{some, clash, holds, granted, check};
-ghost use Rattle.grants.specs.Verdict.{said};
+ghost use Rattle.grants.specs.Verdict.{checkOf};
 ghost use Rattle.release.specs.Release.{release, answerOf};
 ghost use Rattle.grant_structs.specs.Structs.{rowBy, grantOf, grants, meetsBy, foundAt, wantedAt, rowsFor, grantedAt, judgedFrom, heldAt, entriesOf, answerBy, Decides};
 use ari::Limits;

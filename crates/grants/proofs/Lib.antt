@@ -1,4 +1,4 @@
 pub mod Grants
 pub mod Checked
 pub mod Signed
-pub mod Ways
+pub mod RowWays

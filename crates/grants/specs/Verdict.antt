@@ -4,6 +4,6 @@ use Rattle.grants.specs.declared.Verdict.the-variants.{Passes, Refused}
 use Rattle.grants.specs.Grants.{Check, passes, refused}
 
 -- the table passes, or 18 with a row
-abbrev pub said : Verdict → Check
-said Passes = passes
-said (Refused i) = refused 18 i
+abbrev pub checkOf : Verdict → Check
+checkOf Passes = passes
+checkOf (Refused i) = refused 18 i

@@ -6,7 +6,7 @@ ghost use Rattle.ari.specs.Listing.{number};
 ghost use Rattle.grants.specs.Grants.{some, clash, holds, granted};
 ghost use Rattle.ari.specs.Signed.{signed};
 ghost use Rattle.grants.specs.Bytes.{rowOf, holdsAt, rows, rowBy, checkBytes};
-ghost use Rattle.grants.specs.Verdict.{said};
+ghost use Rattle.grants.specs.Verdict.{checkOf};
 
 // The check's answer: the table passes, or 18 with a row.
 pub enum Verdict {
@@ -91,7 +91,7 @@ fn is_second(t: &[u8], at: usize) -> bool
 
 // The first row with a partner among the rows before it. Bytes that are no whole rows are no table.
 pub fn check_table(t: &[u8]) -> Verdict
-    ensures { λ r. ⌜ said r ≡ checkBytes (now (t .entry)) ⌝ }
+    ensures { λ r. ⌜ checkOf r ≡ checkBytes (now (t .entry)) ⌝ }
 {
     if t.len() % 16 != 0 {
         return Verdict::Refused((t.len() / 16) as u64);

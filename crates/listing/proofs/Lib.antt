@@ -1,4 +1,4 @@
-pub mod Ways
+pub mod ReferenceWays
 pub mod Stored
 pub mod Table
 pub mod Written

@@ -71,11 +71,18 @@ pub fn reference_at(s: &[u8], entry: u64) -> Reference
     ensures { λ r. ⌜ r ≡ referenceFrom (now (s .entry)) entry ⌝ }
 {
     let x = item_table::item_of(entry);
+    if !grammar::takes_reference(x.slot) {
+        // most items: their heads need not be read again
+        return Reference::Nothing;
+    }
     let h = cbor::head_again(s, x.first);
     let cbor::Head::Good { kind, arg, next } = h else {
         return Reference::Nothing;
     };
-    if !item_table::is_reference(x.slot, kind, arg) {
+    if kind != cbor::ARRAY {
+        return Reference::Nothing;
+    }
+    if arg == 2 {
         return Reference::Nothing;
     }
     let namespace = namespace_at(s, next);

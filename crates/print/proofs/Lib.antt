@@ -2,4 +2,4 @@ pub mod Lines
 pub mod Numerals
 pub mod Putting
 pub mod Lined
-pub mod Ways
+pub mod IntegerWays

@@ -28,7 +28,7 @@ use Rattle.listing.proofs.Table.{listingFrom, Here, from-start, from-end, no-re
 use Rattle.grants.specs.Grants.{Grant, some, holds, granted}
 use Rattle.grants.specs.Bytes.{rowOf, holdsAt, rows}
 use Rattle.grants.proofs.Signed.{signed-word}
-use Rattle.grants.proofs.Ways.{row-holds, some-end, some-here, some-behind}
+use Rattle.grants.proofs.RowWays.{row-holds, some-end, some-here, some-behind}
 use Rattle.release.specs.declared.RowSought.{RowSought}
 use Rattle.release.specs.Rows.{soughtBy}
 use Rattle.release.specs.Release.{Release, yes, no, judgeFrom, release, releaseBytes}

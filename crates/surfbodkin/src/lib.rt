@@ -7,7 +7,7 @@ ghost use Rattle.ari.specs.Reader.{read};
 ghost use Rattle.ari.specs.Limits.{firstLimits};
 ghost use Rattle.reader.specs.Answers.{answerOf};
 ghost use Rattle.grants.specs.Bytes.{checkBytes};
-ghost use Rattle.grants.specs.Verdict.{said};
+ghost use Rattle.grants.specs.Verdict.{checkOf};
 ghost use Rattle.listing.specs.Answers.{listOf, writtenOf as listedIn};
 ghost use Rattle.release.specs.Release.{releaseBytes, answerOf as releasedOf};
 ghost use Rattle.text.specs.Answer.{writeText, readText, lent};
@@ -83,7 +83,7 @@ pub extern "C" fn surfbodkin_list(message: &[u8], out: &mut [u8]) -> u64
 }
 
 fn table_code(a: Verdict) -> u64
-    ensures { λ r. ⌜ r ≡ tableCode (said a) ⌝ }
+    ensures { λ r. ⌜ r ≡ tableCode (checkOf a) ⌝ }
 {
     match a {
         Verdict::Passes => 0,

@@ -21,7 +21,7 @@ use Rattle.grammar.specs.Code.{IsSlot}
 use Rattle.grammar.proofs.Right.{Stands, Slotted, next-stands, inside-right}
 use Rattle.reader.specs.Walks.{insideLevel}
 use Rattle.buffer.specs.Put.{Put}
-use Rattle.text_write_item.specs.Ways.{wayAt, afterBy}
+use Rattle.text_write_item.specs.Spellings.{wayAt, afterBy}
 use Rattle.buffer.proofs.Putting.{put-nothing, put-out, put-other, put-size, put-end, put-over, put-both}
 use Rattle.text_write_item.proofs.Spelled.{isDue, after-is}
 use Rattle.text.specs.Text.{spell}
@@ -29,7 +29,7 @@ use Rattle.text.specs.Parse.{starts, startsBy, Taken, takeAt, Run, nothing, lev
 use Rattle.text_read_item.specs.declared.Item as read
 use Rattle.text_read_item.specs.Words.{NextTo, Read}
 use Rattle.buffer.proofs.RunLaws.{here, beyond}
-use Rattle.text_read_item.proofs.Ways.{type-arg}
+use Rattle.text_read_item.proofs.WordWays.{type-arg}
 use Rattle.text_read.specs.declared.Pos.{Pos}
 use Rattle.text_read.specs.Parsed.{Parsed, Begins}
 

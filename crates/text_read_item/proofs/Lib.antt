@@ -1,3 +1,3 @@
 pub mod Leaves
 pub mod Found
-pub mod Ways
+pub mod WordWays

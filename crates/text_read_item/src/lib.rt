@@ -8,7 +8,7 @@ ghost use Rattle.buffer.specs.Bytes.{part};
 ghost use Rattle.cbor.specs.Head.{leadBytes, leadOf};
 ghost use Rattle.grammar.specs.Code.{slotOf};
 ghost use Rattle.buffer.specs.Put.{Put};
-ghost use Rattle.text_write_item.specs.Ways.{wayAt, afterBy};
+ghost use Rattle.text_write_item.specs.Spellings.{wayAt, afterBy};
 ghost use Rattle.text.specs.Parse.{ends, inWord, starts, number, unhex, any, unescape, unhexes, integerOf, literalOf, nameOf, typeOf, typeNumber, startsNumber, opened, commas, count, parts, takeWord, takeReference, takeAri, takeGroup, takeAt};
 ghost use Rattle.text.specs.Text.{names};
 ghost use Rattle.text_read_item.specs.Words.{firstOf, NextTo, EscapeAt, strBy, Small, Bounded, Found, plainAt, wordAt, textWord, bytesWord, keyOf, keyIn, commaOf, takeValue, takeSpace, takeParams, groupOf, takeWay, Read};
@@ -63,11 +63,11 @@ fn is_end(x: u8) -> bool
     ensures { λ r. ⌜ r ≡ ends x ⌝ }
 {
     match x {
-        40 => true,
-        41 => true,
-        44 => true,
-        47 => true,
-        _ => x == 61,
+        b'(' => true,
+        b')' => true,
+        b',' => true,
+        b'/' => true,
+        _ => x == b'=',
     }
 }
 
@@ -295,12 +295,12 @@ fn literal_of(t: &[u8], from: usize, to: usize) -> Word
     ensures { λ r. ⌜ Found (now (t .entry)) (wordAt literalOf (now (t .entry)) from to) r ⌝ }
 {
     match first(&t[from..to]) {
-        37 => text_of(t, from, to),
-        104 => bytes_of(t, from, to),
-        102 => plain(t, 6, 20, to),
-        116 => plain(t, 6, 21, to),
-        110 => plain(t, 6, 22, to),
-        117 => plain(t, 6, 23, to),
+        b'%' => text_of(t, from, to),
+        b'h' => bytes_of(t, from, to),
+        b'f' => plain(t, cbor::SIMPLE, 20, to),
+        b't' => plain(t, cbor::SIMPLE, 21, to),
+        b'n' => plain(t, cbor::SIMPLE, 22, to),
+        b'u' => plain(t, cbor::SIMPLE, 23, to),
         _ => integer_of(t, from, to),
     }
 }
@@ -408,8 +408,8 @@ fn opened(e: usize, x: u8) -> usize
         return 0;
     }
     match x {
-        40 => e + 1,
-        41 => e - 1,
+        b'(' => e + 1,
+        b')' => e - 1,
         _ => e,
     }
 }
@@ -601,17 +601,17 @@ fn take_way(t: &[u8], at: usize, way: u8, kind: u8) -> Word
     ensures { λ r. ⌜ Found (now (t .entry)) (takeWay way kind (drop at (now (t .entry)))) r ⌝ }
 {
     match way {
-        1 => ari_at(t, at),
-        2 => type_at(t, at),
-        3 => value_at(t, at, kind),
-        4 => label_at(t, at, kind),
-        5 => absolute_at(t, at),
-        6 => space_at(t, at),
-        7 => name_at(t, at),
-        8 => name_at(t, at),
-        9 => params_at(t, at),
-        10 => literal_at(t, at),
-        _ => plain(t, 6, 22, at),
+        text_write_item::AS_ARI => ari_at(t, at),
+        text_write_item::AS_TYPE => type_at(t, at),
+        text_write_item::AS_VALUE => value_at(t, at, kind),
+        text_write_item::AS_LABEL => label_at(t, at, kind),
+        text_write_item::AS_NAMESPACE => absolute_at(t, at),
+        text_write_item::AS_OBJECT_NAMESPACE => space_at(t, at),
+        text_write_item::AS_OBJECT_TYPE => name_at(t, at),
+        text_write_item::AS_OBJECT_ID => name_at(t, at),
+        text_write_item::AS_PARAMETERS => params_at(t, at),
+        text_write_item::AS_KEY => literal_at(t, at),
+        _ => plain(t, cbor::SIMPLE, 22, at),
     }
 }
 
@@ -620,9 +620,9 @@ fn group_of(slot: u64) -> u8
     ensures { λ r. ⌜ (r ≡ groupOf slot) × (r ≤ 5) ⌝ }
 {
     match slot {
-        45 => 4,
-        67 => 4,
-        _ => 5,
+        45 => cbor::ARRAY,
+        67 => cbor::ARRAY,
+        _ => cbor::MAP,
     }
 }
 
@@ -656,15 +656,15 @@ pub fn size_after(slot: u64, kind: u8, more: bool) -> usize
     ensures { λ r. ⌜ r ≡ length (afterBy (wayAt slot) kind more) ⌝ }
 {
     match text_write_item::way_of(slot) {
-        1 => more as usize,
-        2 => 1,
-        3 => text_write_item::is_container(kind) as usize,
-        4 => text_write_item::is_container(kind) as usize,
-        5 => 1,
-        6 => 1,
-        7 => 1,
-        9 => 1,
-        10 => 1,
+        text_write_item::AS_ARI => more as usize,
+        text_write_item::AS_TYPE => 1,
+        text_write_item::AS_VALUE => text_write_item::is_container(kind) as usize,
+        text_write_item::AS_LABEL => text_write_item::is_container(kind) as usize,
+        text_write_item::AS_NAMESPACE => 1,
+        text_write_item::AS_OBJECT_NAMESPACE => 1,
+        text_write_item::AS_OBJECT_TYPE => 1,
+        text_write_item::AS_PARAMETERS => 1,
+        text_write_item::AS_KEY => 1,
         _ => 0,
     }
 }

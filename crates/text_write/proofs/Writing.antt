@@ -25,7 +25,7 @@ use Rattle.buffer.specs.Bytes.{part}
 use Rattle.reader.specs.Walks.{insideLevel}
 use Rattle.text.specs.Text.{spell, texts}
 use Rattle.buffer.specs.Put.{Put}
-use Rattle.text_write_item.specs.Ways.{wayAt, beforeBy, afterBy}
+use Rattle.text_write_item.specs.Spellings.{wayAt, beforeBy, afterBy}
 use Rattle.buffer.proofs.Putting.{put-nothing, put-both}
 use Rattle.text_write_item.proofs.Spelled.{isDue, before-is, after-is}
 use Rattle.text_write.specs.declared.Item.{Item}

@@ -12,7 +12,7 @@ ghost use Rattle.grammar.specs.Code.{IsSlot};
 ghost use Rattle.buffer.specs.Bytes.{part};
 ghost use Rattle.reader.specs.Walks.{insideLevel};
 ghost use Rattle.buffer.specs.Put.{Put};
-ghost use Rattle.text_write_item.specs.Ways.{wayAt, beforeBy, afterBy};
+ghost use Rattle.text_write_item.specs.Spellings.{wayAt, beforeBy, afterBy};
 ghost use Rattle.text_write.specs.Walks.{ItemAt, Writes};
 ghost use Rattle.ari.specs.Limits.{firstLimits, capped};
 ghost use Rattle.ari.specs.declared.Input.the-variants.{Single};

@@ -15,7 +15,7 @@ use Rattle.text.specs.Chars.{ascii, literalText, nameText}
 use Rattle.text.specs.Text.{typeName, spell}
 use Rattle.buffer.specs.Put.{Put}
 use Rattle.text_write_item.specs.Head.{headOf}
-use Rattle.text_write_item.specs.Ways.{ways, wayAt, ariText, opening, spaceText, beforeBy, closing, afterBy}
+use Rattle.text_write_item.specs.Spellings.{ways, wayAt, ariText, opening, spaceText, beforeBy, closing, afterBy}
 use Rattle.buffer.proofs.Putting.{put-nothing, put-both}
 
 pub no-container : (k : ℕ) → k < 4 → false ≡ isContainer k

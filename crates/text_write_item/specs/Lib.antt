@@ -1,2 +1,2 @@
 pub mod Head
-pub mod Ways
+pub mod Spellings

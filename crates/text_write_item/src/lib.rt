@@ -10,7 +10,7 @@ ghost use Rattle.text.specs.Chars.{integer, hex, hexes, bare, escape, each, tex
 ghost use Rattle.text.specs.Text.{typeName};
 ghost use mathlib.Core.List.{_++_};
 ghost use Rattle.cbor.specs.Head.{isContainer};
-ghost use Rattle.text_write_item.specs.Ways.{wayAt, ariText, opening, spaceText, beforeBy, closing, afterBy};
+ghost use Rattle.text_write_item.specs.Spellings.{wayAt, ariText, opening, spaceText, beforeBy, closing, afterBy};
 
 // A hex digit, where ten is spelled so.
 fn hex_digit(ten: u8, d: u8) -> u8
@@ -175,15 +175,38 @@ fn put_type(out: &mut [u8], at: usize, arg: u64) -> usize
     }
 }
 
+// How the heads of a slot are spelled, by what is due there. What stands in sets alone has no text.
+pub const NOT_SPELLED: u8 = 0;
+
+pub const AS_ARI: u8 = 1;
+
+pub const AS_TYPE: u8 = 2;
+
+pub const AS_VALUE: u8 = 3;
+
+pub const AS_LABEL: u8 = 4;
+
+pub const AS_NAMESPACE: u8 = 5;
+
+pub const AS_OBJECT_NAMESPACE: u8 = 6;
+
+pub const AS_OBJECT_TYPE: u8 = 7;
+
+pub const AS_OBJECT_ID: u8 = 8;
+
+pub const AS_PARAMETERS: u8 = 9;
+
+pub const AS_KEY: u8 = 10;
+
 // The ways of the values of types: a LABEL is bare.
 fn value_way(slot: u64) -> u8
     requires { ⌜ (28 ≤ slot) × (slot < 72) ⌝ }
     ensures { λ r. ⌜ r ≡ wayAt slot ⌝ }
 {
     match slot {
-        42 => 4,
-        64 => 4,
-        _ => 3,
+        42 => AS_LABEL,
+        64 => AS_LABEL,
+        _ => AS_VALUE,
     }
 }
 
@@ -200,7 +223,7 @@ pub fn way_of(slot: u64) -> u8
     if slot < 72 {
         return value_way(slot);
     }
-    0
+    NOT_SPELLED
 }
 
 pub fn is_container(kind: u8) -> bool
@@ -263,16 +286,16 @@ pub fn put_before(out: &mut [u8], at: usize, way: u8, kind: u8, arg: u64, s: &[u
     ensures { λ r. ⌜ Put (now (out .entry)) (now (out .exit)) at r (beforeBy way kind arg (now (s .entry))) ⌝ }
 {
     match way {
-        1 => put_ari(out, at, kind, arg, s),
-        2 => put_type(out, at, arg),
-        3 => put_value(out, at, kind, arg, s),
-        4 => put_label(out, at, kind, s),
-        5 => put_absolute(out, at, kind, arg, s),
-        6 => put_space(out, at, kind, arg, s),
-        7 => put_name(out, at, kind, arg, s),
-        8 => put_name(out, at, kind, arg, s),
-        9 => buffer::put(out, at, b'('),
-        10 => put_literal(out, at, kind, arg, s),
+        AS_ARI => put_ari(out, at, kind, arg, s),
+        AS_TYPE => put_type(out, at, arg),
+        AS_VALUE => put_value(out, at, kind, arg, s),
+        AS_LABEL => put_label(out, at, kind, s),
+        AS_NAMESPACE => put_absolute(out, at, kind, arg, s),
+        AS_OBJECT_NAMESPACE => put_space(out, at, kind, arg, s),
+        AS_OBJECT_TYPE => put_name(out, at, kind, arg, s),
+        AS_OBJECT_ID => put_name(out, at, kind, arg, s),
+        AS_PARAMETERS => buffer::put(out, at, b'('),
+        AS_KEY => put_literal(out, at, kind, arg, s),
         _ => at,
     }
 }
@@ -300,15 +323,15 @@ pub fn put_after(out: &mut [u8], at: usize, way: u8, kind: u8, more: bool) -> us
     ensures { λ r. ⌜ Put (now (out .entry)) (now (out .exit)) at r (afterBy way kind more) ⌝ }
 {
     match way {
-        1 => put_comma(out, at, more),
-        2 => buffer::put(out, at, b'/'),
-        3 => put_closing(out, at, kind),
-        4 => put_closing(out, at, kind),
-        5 => buffer::put(out, at, b'/'),
-        6 => buffer::put(out, at, b'/'),
-        7 => buffer::put(out, at, b'/'),
-        9 => buffer::put(out, at, b')'),
-        10 => buffer::put(out, at, b'='),
+        AS_ARI => put_comma(out, at, more),
+        AS_TYPE => buffer::put(out, at, b'/'),
+        AS_VALUE => put_closing(out, at, kind),
+        AS_LABEL => put_closing(out, at, kind),
+        AS_NAMESPACE => buffer::put(out, at, b'/'),
+        AS_OBJECT_NAMESPACE => buffer::put(out, at, b'/'),
+        AS_OBJECT_TYPE => buffer::put(out, at, b'/'),
+        AS_PARAMETERS => buffer::put(out, at, b')'),
+        AS_KEY => buffer::put(out, at, b'='),
         _ => at,
     }
 }

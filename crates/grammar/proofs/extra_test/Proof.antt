@@ -1,6 +1,6 @@
 -- `grammar::extra_test` meets its contract: two bits of the word.
 use borrow.Author.Needs.{needs}
-use Rattle.grammar.proofs.Ways.{own-said}
+use Rattle.grammar.proofs.TableWays.{own-said}
 use Rattle.grammar.proofs.extra_test.Statement.{statement}
 use Rattle.grammar.proofs.extra_test.Tie as tie
 

@@ -1,6 +1,6 @@
 -- `grammar::fits` meets its contract: each way through the tests has its law.
 use borrow.Author.Needs.{needs}
-use Rattle.grammar.proofs.Ways.{fit-ways}
+use Rattle.grammar.proofs.TableWays.{fit-ways}
 use Rattle.grammar.proofs.fits.Statement.{statement}
 use Rattle.grammar.proofs.fits.Tie as tie
 

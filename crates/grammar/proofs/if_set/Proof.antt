@@ -1,6 +1,6 @@
 -- `grammar::if_set` meets its contract: a number stays or is gone.
 use borrow.Author.Needs.{needs}
-use Rattle.grammar.proofs.Ways.{gone, stays}
+use Rattle.grammar.proofs.TableWays.{gone, stays}
 use Rattle.grammar.proofs.if_set.Statement.{statement}
 use Rattle.grammar.proofs.if_set.Tie as tie
 

@@ -1,6 +1,6 @@
 -- `grammar::in_ari` meets its contract: by the length.
 use borrow.Author.Needs.{needs}
-use Rattle.grammar.proofs.Ways.{reference-ways}
+use Rattle.grammar.proofs.TableWays.{reference-ways}
 use Rattle.grammar.proofs.in_ari.Statement.{statement}
 use Rattle.grammar.proofs.in_ari.Tie as tie
 

@@ -1,6 +1,6 @@
 -- `grammar::in_array` meets its contract: by the way of the word.
 use borrow.Author.Needs.{needs}
-use Rattle.grammar.proofs.Ways.{array-ways}
+use Rattle.grammar.proofs.TableWays.{array-ways}
 use Rattle.grammar.proofs.in_array.Statement.{statement}
 use Rattle.grammar.proofs.in_array.Tie as tie
 

@@ -1,6 +1,6 @@
 -- `grammar::in_map` meets its contract: a map holds pairs or nothing.
 use borrow.Author.Needs.{needs}
-use Rattle.grammar.proofs.Ways.{pairs, no-pairs}
+use Rattle.grammar.proofs.TableWays.{pairs, no-pairs}
 use Rattle.grammar.proofs.in_map.Statement.{statement}
 use Rattle.grammar.proofs.in_map.Tie as tie
 

@@ -1,6 +1,6 @@
 -- `grammar::in_reference` meets its contract: by the length.
 use borrow.Author.Needs.{needs}
-use Rattle.grammar.proofs.Ways.{reference-ways, without}
+use Rattle.grammar.proofs.TableWays.{reference-ways, without}
 use Rattle.grammar.proofs.in_reference.Statement.{statement}
 use Rattle.grammar.proofs.in_reference.Tie as tie
 

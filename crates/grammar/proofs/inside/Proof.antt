@@ -1,6 +1,6 @@
 -- `grammar::inside` meets its contract: by the kind.
 use borrow.Author.Needs.{needs}
-use Rattle.grammar.proofs.Ways.{inside-ways}
+use Rattle.grammar.proofs.TableWays.{inside-ways}
 use Rattle.grammar.proofs.inside.Statement.{statement}
 use Rattle.grammar.proofs.inside.Tie as tie
 

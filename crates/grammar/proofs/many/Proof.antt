@@ -1,6 +1,6 @@
 -- `grammar::many` meets its contract: nothing of none, or one and the others.
 use borrow.Author.Needs.{needs}
-use Rattle.grammar.proofs.Ways.{no-more, one-more}
+use Rattle.grammar.proofs.TableWays.{no-more, one-more}
 use Rattle.grammar.proofs.many.Statement.{statement}
 use Rattle.grammar.proofs.many.Tie as tie
 

@@ -1,5 +1,5 @@
 -- `grammar::next_slot` meets its contract: the bits of the word say what follows.
-use Rattle.grammar.proofs.Ways.{none-left, next-due}
+use Rattle.grammar.proofs.TableWays.{none-left, next-due}
 use borrow.Author.Needs.{needs}
 use Rattle.grammar.proofs.next_slot.Statement.{statement}
 use Rattle.grammar.proofs.next_slot.Tie as tie

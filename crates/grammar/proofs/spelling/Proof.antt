@@ -1,6 +1,6 @@
 -- `grammar::spelling` meets its contract: the highest bits of the word.
 use borrow.Author.Needs.{needs}
-use Rattle.grammar.proofs.Ways.{spelling-said}
+use Rattle.grammar.proofs.TableWays.{spelling-said}
 use Rattle.grammar.proofs.spelling.Statement.{statement}
 use Rattle.grammar.proofs.spelling.Tie as tie
 

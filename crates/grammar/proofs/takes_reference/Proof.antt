@@ -1,6 +1,6 @@
 -- `grammar::takes_reference` meets its contract: a bit of the inner word.
 use borrow.Author.Needs.{needs}
-use Rattle.grammar.proofs.Ways.{asks-said}
+use Rattle.grammar.proofs.TableWays.{asks-said}
 use Rattle.grammar.proofs.takes_reference.Statement.{statement}
 use Rattle.grammar.proofs.takes_reference.Tie as tie
 

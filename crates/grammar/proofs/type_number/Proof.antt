@@ -1,5 +1,5 @@
 -- `grammar::type_number` meets its contract: below 22 the number itself, and 0 from there on.
-use Rattle.grammar.proofs.Ways.{a-type, no-type}
+use Rattle.grammar.proofs.TableWays.{a-type, no-type}
 use borrow.Author.Needs.{needs}
 use Rattle.grammar.proofs.type_number.Statement.{statement}
 use Rattle.grammar.proofs.type_number.Tie as tie

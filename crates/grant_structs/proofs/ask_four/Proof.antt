@@ -11,7 +11,7 @@ use Rattle.ari.specs.Limits.{firstLimits}
 use Rattle.ari.specs.Listing.{number}
 use Rattle.grants.specs.Grants.{check, granted as grantedBy}
 use Rattle.grants.specs.declared.Verdict.{Verdict}
-use Rattle.grants.specs.Verdict.{said as checkOf}
+use Rattle.grants.specs.Verdict.{checkOf}
 use Rattle.grants.proofs.Verdict as C
 use Rattle.grants.proofs.Verdict.Laws as C′
 use Rattle.release.specs.declared.Released.{Released}

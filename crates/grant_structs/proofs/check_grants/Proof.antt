@@ -11,7 +11,7 @@ use types.Run.{true-lit}
 use denote.Enum.Laws as EL
 use Rattle.grants.specs.declared.Verdict.{Verdict}
 use Rattle.grants.specs.Grants.{some, clash, check}
-use Rattle.grants.specs.Verdict.{said as checkOf}
+use Rattle.grants.specs.Verdict.{checkOf}
 use Rattle.grants.proofs.Verdict as S
 use Rattle.grants.proofs.Verdict.Laws as S′
 use Rattle.grant_structs.specs.declared.Grant.{Grant}

@@ -3,7 +3,7 @@ use Prim.Native.Nat.{_-_}
 use lib.ListN.{length}
 use Rattle.grant_text.specs.Rows.{isOf}
 use Rattle.buffer.proofs.RunLaws.{Ahead}
-use Rattle.grant_text.proofs.Ways.{ways}
+use Rattle.grant_text.proofs.LineWays.{ways}
 use borrow.Author.Needs.{needs}
 use Rattle.grant_text.proofs.behind.Statement.{statement}
 use Rattle.grant_text.proofs.behind.Tie as tie

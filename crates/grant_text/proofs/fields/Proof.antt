@@ -1,5 +1,5 @@
 -- `grant_text::fields` meets its contract.
-use Rattle.grant_text.proofs.Ways.{ways}
+use Rattle.grant_text.proofs.LineWays.{ways}
 use borrow.Author.Needs.{needs}
 use Rattle.grant_text.proofs.fields.Statement.{statement}
 use Rattle.grant_text.proofs.fields.Tie as tie

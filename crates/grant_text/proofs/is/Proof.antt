@@ -1,5 +1,5 @@
 -- `grant_text::is` meets its contract.
-use Rattle.grant_text.proofs.Ways.{ways}
+use Rattle.grant_text.proofs.LineWays.{ways}
 use borrow.Author.Needs.{needs}
 use Rattle.grant_text.proofs.is.Statement.{statement}
 use Rattle.grant_text.proofs.is.Tie as tie

@@ -1,4 +1,4 @@
-use Rattle.grants.proofs.Ways.{ways}
+use Rattle.grants.proofs.RowWays.{ways}
 use borrow.Author.Needs.{needs}
 use Prim.Native.Nat.{_-_, _≤_}
 use mathlib.Core.Path.{_≡_}

@@ -1,5 +1,5 @@
 -- `grants::holds_at` meets its contract.
-use Rattle.grants.proofs.Ways.{ways}
+use Rattle.grants.proofs.RowWays.{ways}
 use borrow.Author.Needs.{needs}
 use Rattle.grants.proofs.holds_at.Statement.{statement}
 use Rattle.grants.proofs.holds_at.Tie as tie

@@ -1,4 +1,4 @@
-use Rattle.grants.proofs.Ways.{ways}
+use Rattle.grants.proofs.RowWays.{ways}
 use borrow.Author.Needs.{needs}
 use Rattle.grants.proofs.is_second.Statement.{statement}
 use Rattle.grants.proofs.is_second.Tie as tie

@@ -1,5 +1,5 @@
 -- `listing::namespace_at` meets its contract: by the head.
-use Rattle.listing.proofs.Ways.{ways}
+use Rattle.listing.proofs.ReferenceWays.{ways}
 use borrow.Author.Needs.{needs}
 use Rattle.listing.proofs.namespace_at.Statement.{statement}
 use Rattle.listing.proofs.namespace_at.Tie as tie

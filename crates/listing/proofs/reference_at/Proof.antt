@@ -1,5 +1,5 @@
--- `listing::reference_at` meets its contract: by the head and what it is at its slot.
-use Rattle.listing.proofs.Ways.{ways}
+-- `listing::reference_at` meets its contract: by the slot, the head, its kind and its length.
+use Rattle.listing.proofs.ReferenceWays.{ways}
 use borrow.Author.Needs.{needs}
 use Rattle.listing.proofs.reference_at.Statement.{statement}
 use Rattle.listing.proofs.reference_at.Tie as tie
@@ -10,10 +10,12 @@ reference-at-spec =
     (tie.spec
     (λ c κs. search needs)
     (λ c κs. search needs)
+    (λ c. search (ways, needs))
+    (λ c κs. search needs)
     (λ c. search needs)
     (λ c. search needs)
     (λ c. search (ways, needs))
-    (λ c κs. search needs)
+    (λ c. search (ways, needs))
     (λ c. search (ways, needs))
     (λ c κs. search needs)
     (λ c. search (ways, needs)))

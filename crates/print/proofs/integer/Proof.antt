@@ -1,5 +1,5 @@
 -- `print::integer` meets its contract: by the sign.
-use Rattle.print.proofs.Ways.{ways}
+use Rattle.print.proofs.IntegerWays.{ways}
 use borrow.Author.Needs.{needs}
 use Rattle.print.proofs.integer.Statement.{statement}
 use Rattle.print.proofs.integer.Tie as tie

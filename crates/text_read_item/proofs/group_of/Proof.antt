@@ -1,4 +1,4 @@
-use Rattle.text_read_item.proofs.Ways.{reading}
+use Rattle.text_read_item.proofs.WordWays.{reading}
 use borrow.Author.Needs.{needs}
 use Rattle.text_read_item.proofs.group_of.Statement.{statement}
 use Rattle.text_read_item.proofs.group_of.Tie as tie

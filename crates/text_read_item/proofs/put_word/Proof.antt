@@ -1,5 +1,5 @@
 -- `text_read_item::put_word` meets its contract: the head, then the string.
-use Rattle.text_read_item.proofs.Ways.{reading}
+use Rattle.text_read_item.proofs.WordWays.{reading}
 use borrow.Author.Needs.{needs}
 use Rattle.text_read_item.proofs.put_word.Statement.{statement}
 use Rattle.text_read_item.proofs.put_word.Tie as tie

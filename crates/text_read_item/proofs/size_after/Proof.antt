@@ -1,5 +1,5 @@
-use Rattle.text_write_item.specs.Ways.{afterBy}
-use Rattle.text_read_item.proofs.Ways.{reading, after-one}
+use Rattle.text_write_item.specs.Spellings.{afterBy}
+use Rattle.text_read_item.proofs.WordWays.{reading, after-one}
 use borrow.Author.Needs.{needs}
 use Rattle.text_read_item.proofs.size_after.Statement.{statement}
 use Rattle.text_read_item.proofs.size_after.Tie as tie

@@ -1,4 +1,4 @@
-use Rattle.text_write_item.specs.Ways.{afterBy}
+use Rattle.text_write_item.specs.Spellings.{afterBy}
 use Rattle.text_write_item.proofs.Spelled.{ways-through, after-by}
 use borrow.Author.Needs.{needs}
 use Rattle.text_write_item.proofs.put_after.Statement.{statement}

@@ -1,4 +1,4 @@
-use Rattle.text_write_item.specs.Ways.{beforeBy}
+use Rattle.text_write_item.specs.Spellings.{beforeBy}
 use Rattle.text_write_item.proofs.Spelled.{ways-through, before-by}
 use borrow.Author.Needs.{needs}
 use Rattle.text_write_item.proofs.put_before.Statement.{statement}

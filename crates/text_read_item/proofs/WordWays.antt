@@ -17,7 +17,7 @@ use Rattle.cbor.proofs.Computed.{allFrom, all-at}
 use Rattle.ari.specs.Table.{Slot, version, ari, type, value, namespace, objectNamespace, objectType, objectId, params, key, entry, nonce, setTime, target, report, reportTime, reportSource}
 use Rattle.grammar.specs.Code.{slots, slotOf}
 use Rattle.buffer.specs.Put.{Put}
-use Rattle.text_write_item.specs.Ways.{ways, wayAt, closing, afterBy}
+use Rattle.text_write_item.specs.Spellings.{ways, wayAt, closing, afterBy}
 use Rattle.buffer.proofs.Putting.{put-both}
 use Rattle.text_write_item.proofs.Spelled.{wayOf, way-is}
 use Rattle.text.specs.Chars.{ascii}

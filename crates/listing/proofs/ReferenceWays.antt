@@ -1,0 +1,63 @@
+-- What is read off a word of the item table and the bytes, way by way.
+use Prim.Native.Nat.{ℕ, _-_}
+use mathlib.Core.Path.{_≡_, refl}
+use mathlib.Core.Bool.{Bool, true, false, not}
+use mathlib.Core.List.{List}
+use borrow.Author.Tests.{eq-eqb, ne-eqb, not-true, not-false}
+use Rattle.cbor.specs.declared.Head.{Head}
+use Rattle.cbor.specs.declared.Head.the-variants.{Bad, Good}
+use Rattle.cbor.specs.Answer.{headAt}
+use Rattle.ari.specs.Table.{max64}
+use Rattle.item_table.specs.declared.Item.{Item}
+use Rattle.grammar.specs.Code.{asksOf}
+use Rattle.item_table.specs.Entries.{itemOf}
+use Rattle.listing.specs.declared.Namespace.{Namespace}
+use Rattle.listing.specs.declared.Namespace.the-variants.{Number, Name, Relative}
+use Rattle.listing.specs.declared.Reference.the-variants.{Nothing, To}
+use Rattle.listing.specs.Entries.{namespaceOf, referenceOf, referenceFrom}
+
+module _ (b : List ℕ) (e : ℕ) {x : Item} (i : x ≡ itemOf e) {y : Bool} (c : y ≡ asksOf (x .slot)) where
+  pub unasked : not y ≡ true → Nothing ≡ referenceFrom b e
+  unfolding referenceFrom
+  unasked n = rw (← i) (go (headAt b (x .first)))
+    where
+      go : (h : Head) → Nothing ≡ referenceOf b x h
+      go (Bad r) = refl
+      go (Good k a q) = rw (← c, not-true y n)
+
+  module _ (n : not y ≡ false) {h : Head} (g : h ≡ headAt b (x .first)) where
+    pub no-head : {r : ℕ} → h ≡ Bad r → Nothing ≡ referenceFrom b e
+    unfolding referenceFrom
+    no-head f = rw (← i, ← g, f)
+
+    module _ {k a q : ℕ} (f : h ≡ Good k a q) where
+      pub no-array : (k ≡ 4 → ⊥) → Nothing ≡ referenceFrom b e
+      unfolding referenceFrom
+      no-array m = rw (← i, ← g, f, ← c, not-false y n, ne-eqb k 4 m)
+
+      pub a-literal : k ≡ 4 → a ≡ 2 → Nothing ≡ referenceFrom b e
+      unfolding referenceFrom
+      a-literal m w = rw (← i, ← g, f, ← c, not-false y n, eq-eqb k 4 m, eq-eqb a 2 w)
+
+      pub a-reference : k ≡ 4 → (a ≡ 2 → ⊥) → {z : Namespace} → z ≡ namespaceOf q (headAt b q) → To (x .first) (x .after) z ≡ referenceFrom b e
+      unfolding referenceFrom
+      a-reference m w u = rw (u, ← i, ← g, f, ← c, not-false y n, eq-eqb k 4 m, ne-eqb a 2 w)
+
+module _ (b : List ℕ) (p : ℕ) {h : Head} (g : h ≡ headAt b p) where
+  pub no-namespace : {r : ℕ} → h ≡ Bad r → Relative ≡ namespaceOf p (headAt b p)
+  no-namespace f = rw (← g, f)
+
+  module _ {k a n : ℕ} (f : h ≡ Good k a n) where
+    pub not-negative : k ≡ 0 → Number a ≡ namespaceOf p (headAt b p)
+    not-negative e = rw (← g, f, e)
+
+    pub a-negative : k ≡ 1 → Number (max64 - a) ≡ namespaceOf p (headAt b p)
+    a-negative e = rw (← g, f, e)
+
+    pub a-name : k ≡ 3 → Name p a ≡ namespaceOf p (headAt b p)
+    a-name e = rw (← g, f, e)
+
+    pub not-named : (k ≡ 0 → ⊥) → (k ≡ 1 → ⊥) → (k ≡ 3 → ⊥) → Relative ≡ namespaceOf p (headAt b p)
+    not-named u v w = rw (← g, f, ne-eqb k 0 u, ne-eqb k 1 v, ne-eqb k 3 w)
+
+pub ruleset ways = (unasked, no-head, no-array, a-literal, a-reference, no-namespace, not-negative, a-negative, a-name, not-named)
