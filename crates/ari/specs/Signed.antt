@@ -1,4 +1,4 @@
--- Namespace numbers in 64 bits, as tables and listings have them: two's complement (R93, R94).
+-- Namespace numbers in 64 bits, as tables and listings have them: two's complement (R93, R94). Interface: word, signed.
 use Prim.Native.Nat.{ℕ, _-_}
 use mathlib.Core.Bool.{cond}
 use lib.IntN.{ℤ, pos, negsuc}

@@ -1,4 +1,4 @@
--- What a writer does to lent room.
+-- What a writer does to lent room. Interface: Put.
 use Prim.Native.Nat.{ℕ, _+_, min, max}
 use mathlib.Core.Path.{_≡_}
 use mathlib.Core.List.{List}

@@ -1,4 +1,5 @@
--- What the functions answer: the definitions at a place of the input, and their parts.
+-- What the functions answer: the definitions at a place of the input, and their parts. Interface: headAt, Passed. Private to src/: answer, judged, counted,
+-- follows, Tail, Sequence.
 use Prim.Native.Nat.{ℕ, _+_, _-_, _<_, _≤_}
 use mathlib.Core.Bool.{Bool, _&&_, _||_, cond}
 use mathlib.Core.Path.{_≡_}

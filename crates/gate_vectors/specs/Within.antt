@@ -1,4 +1,4 @@
--- What is known of places in the buffers.
+-- Private to src/: what is known of places in the buffers.
 use Prim.Native.Nat.{ℕ, _≤_}
 use Rattle.gate_vectors.specs.declared.Bytes.{Bytes}
 use Rattle.gate_vectors.specs.declared.Bytes.the-variants.{Count, Bad}

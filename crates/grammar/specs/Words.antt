@@ -1,4 +1,4 @@
--- The words that the code keeps for the slots, for its private functions: what their bits mean, in the rules' terms. No word stands here: that
+-- Private to src/: the words that the code keeps for the slots, what their bits mean in the rules' terms. No word stands here: that
 -- each means what its slot's rule says is the contract of the function that has it.
 use Prim.Native.Nat.{ℕ, zero, suc, _-_, _*_, _/_, _%_, _^_}
 use mathlib.Core.Bool.{Bool, true, false, _&&_, _||_, cond}

@@ -1,4 +1,4 @@
--- The table of a text.
+-- The table of a text: R125, R126. Interface: lines, contents, tableOf, packed, roomAfter. Private to src/: Turned, TakenAt.
 use Prim.Native.Nat.{ℕ, _+_, _≤_, _<_}
 use mathlib.Core.Path.{_≡_}
 use mathlib.Core.Bool.{Bool, true, false, cond}

@@ -1,4 +1,4 @@
--- What the functions answer, in the paper's numbers.
+-- What the functions answer, in the rules' numbers. Interface: checkOf.
 use Rattle.grants.specs.declared.Verdict.{Verdict}
 use Rattle.grants.specs.declared.Verdict.the-variants.{Passes, Refused}
 use Rattle.grants.specs.Grants.{Check, passes, refused}

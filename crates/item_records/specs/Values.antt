@@ -1,5 +1,5 @@
 -- What each case of a record's kind means: its value (R15 for numbers), a float's bits, a string's length, or a container's length and whether
--- it is a reference.
+-- it is a reference. Interface: all of it.
 use Prim.Native.Nat.{ℕ}
 use lib.IntN.{ℤ, pos, negsuc}
 use Rattle.item_records.specs.declared.Literal.{Literal}

@@ -1,4 +1,4 @@
--- The line of a listing's entry: first byte, byte after, namespace.
+-- The line of a listing's entry: first byte, byte after, namespace. Interface: all of it.
 use Prim.Native.Nat.{ℕ, _+_, _/_, _%_}
 use mathlib.Core.Bool.{cond}
 use mathlib.Core.List.{List, [], _∷_, _++_}

@@ -1,4 +1,4 @@
--- Words of 64 bits, written in decimal.
+-- Words of 64 bits, written in decimal. Interface: all of it.
 use Prim.Native.Nat.{ℕ, _-_}
 use mathlib.Core.Bool.{cond}
 use mathlib.Core.List.{List}

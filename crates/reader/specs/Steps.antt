@@ -1,4 +1,4 @@
--- One head at a place, as the code answers it.
+-- One head at a place, as the code answers it. Interface: stringEnd. Private to src/: the others.
 use Prim.Native.Nat.{ℕ, _+_, _-_, _<_, _≤_}
 use mathlib.Core.Path.{_≡_}
 use mathlib.Core.Bool.{Bool, true, false, not, _&&_, cond}

@@ -1,4 +1,4 @@
--- What the walk answers and keeps. Its contract says that the reader's run from here is its run from there, whatever is due afterwards.
+-- Private to src/, and insideLevel to the walks over texts: what the walk answers and keeps. Its contract says that the reader's run from here is its run from there, whatever is due afterwards.
 use Prim.Native.Nat.{ℕ, suc, _+_, _-_, _*_, _≤_, _<_}
 use mathlib.Core.Path.{_≡_}
 use mathlib.Core.Bool.{Bool, true, false, cond}

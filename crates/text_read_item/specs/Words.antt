@@ -1,4 +1,4 @@
--- What the functions of a word find in a text, from a place on. That these are the reading's own definitions is proved in proofs/WordWays.antt.
+-- What the functions of a word find in a text, from a place on. Interface: NextTo, Read. Private to src/: the others. That these are the reading's own definitions is proved in proofs/WordWays.antt.
 use Prim.Native.Nat.{ℕ, suc, _+_, _*_, _≤_, _<_, _^_}
 use Prim.Native.Char.{code}
 use mathlib.Core.Path.{_≡_}

@@ -1,4 +1,4 @@
--- a head by its kind and argument: no text depends on its size
+-- A head by its kind and argument: no text depends on its size. Interface: headOf.
 use Prim.Native.Nat.{ℕ}
 use Rattle.cbor.specs.Head.{Lead}
 

@@ -1,4 +1,4 @@
--- The ways in which heads are spelled, as the code numbers them. That they are those of the slots is proved in proofs/Spelled.antt.
+-- How the heads of each slot are spelled, by the numbers that the code has for it. Interface: wayAt, beforeBy, afterBy. Private to src/: the others. That they are those of the slots is proved in proofs/Spelled.antt.
 use Prim.Native.Nat.{ℕ}
 use mathlib.Core.Bool.{Bool, true, false, cond}
 use mathlib.Core.List.{List, [], _∷_, _++_}
