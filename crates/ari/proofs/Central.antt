@@ -61,12 +61,12 @@ pub record Judged (left d : ℕ) (s : Slot) (prev : List ℕ) (l : Lead) (r str 
   pub spare : eqb left 0 ≡ false
   pub shallow : (isContainer (l .kind) && eqb d 0) ≡ false
   pub fitting : fits (l .kind) (l .arg) (rule s .rows) ≡ true
-  pub versioned : wrongVersion (rule s .own) (l .arg) ≡ false
+  pub versioned : wrongVersion (rule s .extra) (l .arg) ≡ false
   pub there : stringSize l ≤ length r
   pub string : str ≡ take (stringSize l) r
   pub spelled : (eqb (l .kind) text && not (rule s .spelling str)) ≡ false
-  pub rising : notGreater (rule s .own) prev (keyBytes l str) ≡ false
-  pub filled : isEmpty (rule s .own) (l .arg) ≡ false
+  pub rising : notGreater (rule s .extra) prev (keyBytes l str) ≡ false
+  pub filled : isEmpty (rule s .extra) (l .arg) ≡ false
 
 pub judged : (left d : ℕ) (s : Slot) (prev : List ℕ) (l : Lead) (r : List ℕ) {k : Lead} {str : List ℕ}
     → judge left d s prev l r ≡ yes k str → (l ≡ k) × Judged left d s prev l r str
@@ -76,11 +76,11 @@ judged left d s prev l r {k} {str} e =
     let (t5, e5) = past (eqb left 0) _ _ not-yes e in
     let (t6, e6) = past (isContainer (l .kind) && eqb d 0) _ _ not-yes e5 in
     let (t7, e7) = past (not (fits (l .kind) (l .arg) (rule s .rows))) _ _ not-yes e6 in
-    let (t8, e8) = past (wrongVersion (rule s .own) (l .arg)) _ _ not-yes e7 in
+    let (t8, e8) = past (wrongVersion (rule s .extra) (l .arg)) _ _ not-yes e7 in
     let (t9, e9) = past (ltb (length r) (stringSize l)) _ _ not-yes e8 in
     let (t10, e10) = past (eqb (l .kind) text && not (rule s .spelling cut)) _ _ not-yes e9 in
-    let (t11, e11) = past (notGreater (rule s .own) prev (keyBytes l cut)) _ _ not-yes e10 in
-    let (t12, e12) = past (isEmpty (rule s .own) (l .arg)) _ _ not-yes e11 in
+    let (t11, e11) = past (notGreater (rule s .extra) prev (keyBytes l cut)) _ _ not-yes e10 in
+    let (t12, e12) = past (isEmpty (rule s .extra) (l .arg)) _ _ not-yes e11 in
     let q : str ≡ take (stringSize l) r = cc in (
       cc,
       record {

@@ -22,7 +22,7 @@ due-sets d (item l str ms rs) f = f
 
 -- the key before, for what is due next on the level
 abbrev pub prevAfter : Slot → List ℕ → Lead → List ℕ → List ℕ
-prevAfter s prev l str = keyAfter (rule s .own) prev (keyBytes l str)
+prevAfter s prev l str = keyAfter (rule s .extra) prev (keyBytes l str)
 
 -- the items are those of a level, after a key before; where more is true, the sets of a message follow
 abbrev pub Fit : Items → Bool → Level → List ℕ → Type 0

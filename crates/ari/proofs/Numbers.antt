@@ -59,11 +59,11 @@ small-judge left d s prev l r =
     either Step13 (eqb left 0) (no-13 5 (omega arith))
     (either Step13 (isContainer (l .kind) && eqb d 0) (no-13 6 (omega arith))
     (either Step13 (not (fits (l .kind) (l .arg) (rule s .rows))) (no-13 7 (omega arith))
-    (either Step13 (wrongVersion (rule s .own) (l .arg)) (no-13 8 (omega arith))
+    (either Step13 (wrongVersion (rule s .extra) (l .arg)) (no-13 8 (omega arith))
     (either Step13 (ltb (length r) (stringSize l)) (no-13 9 (omega arith))
     (either Step13 (eqb (l .kind) text && not (rule s .spelling str)) (no-13 10 (omega arith))
-    (either Step13 (notGreater (rule s .own) prev (keyBytes l str)) (no-13 11 (omega arith))
-    (either Step13 (isEmpty (rule s .own) (l .arg)) (no-13 12 (omega arith)) (record { small = tt }))))))))
+    (either Step13 (notGreater (rule s .extra) prev (keyBytes l str)) (no-13 11 (omega arith))
+    (either Step13 (isEmpty (rule s .extra) (l .arg)) (no-13 12 (omega arith)) (record { small = tt }))))))))
 
 small-got : (left d : ℕ) (s : Slot) (prev : List ℕ) (x : Got) (b : List ℕ) → SmallGot x → SmallStep (judgeGot left d s prev x b)
 unfolding judgeGot

@@ -47,12 +47,12 @@ judge-more : (left d : ℕ) (s : Slot) (prev : List ℕ) (l : Lead) (r c : List 
 unfolding judge judgeContent
 judge-more left d s prev l r c n =
     guard (eqb left 0) _ _ _ n λ n5. guard (isContainer (l .kind) && eqb d 0) _ _ _ n5 λ n6. guard (not (fits (l .kind) (l .arg) (rule s .rows))) _ _ _ n6
-    λ n7. guard (wrongVersion (rule s .own) (l .arg)) _ _ _ n7 λ n8. strings (ltb (length r) (stringSize l)) refl n8
+    λ n7. guard (wrongVersion (rule s .extra) (l .arg)) _ _ _ n7 λ n8. strings (ltb (length r) (stringSize l)) refl n8
   where
     after : List ℕ → Step
     after str =
         cond (eqb (l .kind) text && not (rule s .spelling str)) (no 10)
-        (cond (notGreater (rule s .own) prev (keyBytes l str)) (no 11) (cond (isEmpty (rule s .own) (l .arg)) (no 12) (yes l str)))
+        (cond (notGreater (rule s .extra) prev (keyBytes l str)) (no 11) (cond (isEmpty (rule s .extra) (l .arg)) (no 12) (yes l str)))
 
     strings : (t : Bool) → ltb (length r) (stringSize l) ≡ t → (cond t (no 9) (after (take (stringSize l) r)) ≡ no 9 → ⊥)
         → cond (ltb (length (r ++ c)) (stringSize l)) (no 9) (after (take (stringSize l) (r ++ c))) ≡ cond (ltb (length r) (stringSize l)) (no 9) (after (take (stringSize l) r))

@@ -38,15 +38,15 @@ inside-held s {l = l} c h = members-held s l (rw (h .kind-is) c) ∙ rw (h .kind
 
 -- whether an item is a reference
 module _ (s : Slot) where
-  not-asked : (l : Lead) → rule s .asks ≡ false → isReference s l ≡ false
+  not-asked : (l : Lead) → rule s .takesReference ≡ false → isReference s l ≡ false
   unfolding isReference
   not-asked l a = rw a
 
   pub not-array : (l : Lead) → isContainer (l .kind) ≡ false → isReference s l ≡ false
   unfolding isReference isContainer
-  not-array l c = rw (ne-eqb (l .kind) array (λ e. true≢false (rw e at c))) (and-false (rule s .asks))
+  not-array l c = rw (ne-eqb (l .kind) array (λ e. true≢false (rw e at c))) (and-false (rule s .takesReference))
 
-  an-array : {n : ℕ} {l : Lead} {str : List ℕ} → rule s .asks ≡ true → Holds array n l str → isReference s l ≡ not (eqb n 2)
+  an-array : {n : ℕ} {l : Lead} {str : List ℕ} → rule s .takesReference ≡ true → Holds array n l str → isReference s l ≡ not (eqb n 2)
   unfolding isReference
   an-array a h = rw (a, h .kind-is, h .arg-is)
 
@@ -64,7 +64,7 @@ module _ (s : Slot) (p d : ℕ) (l : Lead) (str : List ℕ) (ms : Items) where
   last-one n {xs} e = both n false none e refl ∙ append-nil xs
 
 -- a reference, with those inside
-reference : (s : Slot) (p d : ℕ) {n : ℕ} {l : Lead} {str : List ℕ} {ms : Items} {v : Level} {xs : List Placed} → rule s .asks ≡ true → Holds array n l str → eqb n 2 ≡ false
+reference : (s : Slot) (p d : ℕ) {n : ℕ} {l : Lead} {str : List ℕ} {ms : Items} {v : Level} {xs : List Placed} → rule s .takesReference ≡ true → Holds array n l str → eqb n 2 ≡ false
     → rule s .inArray n ≡ v → found (spots ms false v (insideAt p l str) (suc d)) ≡ xs → found (within s p d l str ms) ≡ placed p l str ms ∷ xs
 unfolding isContainer
 reference s p d a h e i f = rw (an-array s a h, e, inside-held s refl h, i, f)
@@ -76,7 +76,7 @@ container s p d ms c e h i f = rw (e, inside-held s c h, i, f)
 
 -- a leaf, where no reference is asked for
 skip : (s : Slot) (n : ℕ) (more : Bool) (p d : ℕ) {rs : List Row} {sp : List ℕ → Bool} {l : Lead} {str : List ℕ} {ms : Items} (g : Items)
-    → rule s .asks ≡ false → Plain rs sp l str ms
+    → rule s .takesReference ≡ false → Plain rs sp l str ms
     → found (spots (item l str ms g) more (due s n) p d) ≡ found (spots g more (rule s .next (l .arg) n) (past p l str ms) d)
 skip s n more p d {l = l} g a x = rw (not-asked s l a, x .bare)
 
@@ -88,7 +88,7 @@ literal-none s p d {l = l} c x = rw (not-array s l c, members-leaf s l c, x .bar
 mutual
   unfolding rule types isContainer
 
-  found-ari : {w : Place} {l : Lead} {str : List ℕ} {ms : Items} (a : Ari w l str ms) (s : Slot) (p d : ℕ) → rule s .asks ≡ true → rule s .inArray ≡ ariLevel w
+  found-ari : {w : Place} {l : Lead} {str : List ℕ} {ms : Items} (a : Ari w l str ms) (s : Slot) (p d : ℕ) → rule s .takesReference ≡ true → rule s .inArray ≡ ariLevel w
       → found (within s p d l str ms) ≡ inAri a p
   found-ari (literal {l = l} f x) s p d a i = literal-none s p d (no-container (l .kind) (l .arg) literals refl (x .fitting)) x
   found-ari (namespace-ref {l = l} {s = str} f h n) s p d a i =
@@ -99,7 +99,7 @@ mutual
       (skip (type w) 0 false q (suc d) (item l₂ s₂ m₂ none) refl t ∙ last-one (value (l₁ .arg) (inner w)) (past q l₁ s₁ m₁) (suc d) l₂ s₂ m₂ 0 (found-value v (past q l₁ s₁ m₁) (suc d)))
   found-ari (object-ref f o) s p d a i = found-object o s p d a (rw i) (rw i)
 
-  found-object : {l : Lead} {str : List ℕ} {ms : Items} (o : Object l str ms) (s : Slot) (p d : ℕ) → rule s .asks ≡ true
+  found-object : {l : Lead} {str : List ℕ} {ms : Items} (o : Object l str ms) (s : Slot) (p d : ℕ) → rule s .takesReference ≡ true
       → rule s .inArray 3 ≡ referenceLevel 3 → rule s .inArray 4 ≡ referenceLevel 4 → found (within s p d l str ms) ≡ inObject o p
   found-object (plain {l = l} {l₁ = l₁} {l₂ = l₂} {l₃ = l₃} {s = str} {s₁ = s₁} {s₂ = s₂} {s₃ = s₃} {m₁ = m₁} {m₂ = m₂} {m₃ = m₃} h n t i) s p d a e f =
       let q : ℕ = insideAt p l str in

@@ -11,7 +11,7 @@ use Rattle.cbor.specs.Byte.{below}
 use Rattle.cbor.specs.Head.{array, Lead, isContainer}
 use Rattle.buffer.proofs.ByteLaws.{or-right, within-true, within-is}
 use Rattle.cbor.proofs.HeadLaws.{sound-64}
-use Rattle.ari.specs.Table.{Place, alone, message, inside, param, anywhere, Slot, ari, type, value, namespace, objectNamespace, objectType, objectId, params, key, entry, nonce, setTime, target, report, reportTime, reportSource, Row, row, max64, arrays, literals, ariRows, types, Own, none, one, rising, filled, many, referenceLevel, rule, fits, members}
+use Rattle.ari.specs.Table.{Place, alone, message, inside, param, anywhere, Slot, ari, type, value, namespace, objectNamespace, objectType, objectId, params, key, entry, nonce, setTime, target, report, reportTime, reportSource, Row, row, max64, arrays, literals, ariRows, types, ExtraTest, none, one, rising, filled, many, referenceLevel, rule, fits, members}
 use Rattle.cbor.specs.Head.{keyBytes}
 use Rattle.ari.specs.Reader.{wrongVersion, notGreater, isEmpty}
 use Rattle.ari.specs.Items.{Items, item}
@@ -26,7 +26,7 @@ pub record Here (s : Slot) (prev : List ℕ) (l : Lead) (str : List ℕ) (ms : I
   pub holds : Fit ms false (members s l) []
 
 -- a slot's own test is passed
-pub record Passes (o : Own) (prev kb : List ℕ) (a : ℕ) : Type 0 where
+pub record Passes (o : ExtraTest) (prev kb : List ℕ) (a : ℕ) : Type 0 where
   versioned : wrongVersion o a ≡ false
   rising : notGreater o prev kb ≡ false
   filled : isEmpty o a ≡ false
@@ -37,17 +37,17 @@ no-test = record { versioned = refl; rising = refl; filled = refl }
 pub is-one : {prev kb : List ℕ} {a : ℕ} → a ≡ 1 → Passes one prev kb a
 is-one {a = a} e = record { versioned = rw (eq-eqb a 1 e); rising = refl; filled = refl }
 
-is-rising : {prev kb : List ℕ} {a : ℕ} → below prev kb ≡ true → Passes Own.rising prev kb a
+is-rising : {prev kb : List ℕ} {a : ℕ} → below prev kb ≡ true → Passes ExtraTest.rising prev kb a
 is-rising h = record { versioned = refl; rising = rw h; filled = refl }
 
-is-filled : {prev kb : List ℕ} {n : ℕ} → Passes Own.filled prev kb (suc n)
+is-filled : {prev kb : List ℕ} {n : ℕ} → Passes ExtraTest.filled prev kb (suc n)
 is-filled {n = n} = record { versioned = refl; rising = refl; filled = ne-eqb (suc n) 0 (λ e. omega arith) }
 
 -- slots that ask the same of an item, and differ in what follows it
 pub record Alike (s t : Slot) : Type 0 where
   pub rows : rule s .rows ≡ rule t .rows
   pub spelling : rule s .spelling ≡ rule t .spelling
-  pub own : rule s .own ≡ rule t .own
+  pub extra : rule s .extra ≡ rule t .extra
   pub inArray : rule s .inArray ≡ rule t .inArray
   pub inMap : rule s .inMap ≡ rule t .inMap
 
@@ -59,28 +59,28 @@ here-as prev a h =
       good = record {
         head = g .head;
         fitting = rw (← a .rows) (g .fitting);
-        versioned = rw (← a .own) (g .versioned);
+        versioned = rw (← a .extra) (g .versioned);
         sized = g .sized;
         spelled = rw (← a .spelling) (g .spelled);
-        rising = rw (← a .own) (g .rising);
-        filled = rw (← a .own) (g .filled);
+        rising = rw (← a .extra) (g .rising);
+        filled = rw (← a .extra) (g .filled);
       };
       holds = rw (← a .inArray, ← a .inMap) (h .holds);
     }
 
 pub alike-sym : {s t : Slot} → Alike s t → Alike t s
-alike-sym a = record { rows = sym (a .rows); spelling = sym (a .spelling); own = sym (a .own); inArray = sym (a .inArray); inMap = sym (a .inMap) }
+alike-sym a = record { rows = sym (a .rows); spelling = sym (a .spelling); extra = sym (a .extra); inArray = sym (a .inArray); inMap = sym (a .inMap) }
 
 pub entry-alike : (w : Place) → Alike (ari w) (entry w)
 unfolding rule
-entry-alike w = record { rows = refl; spelling = refl; own = refl; inArray = refl; inMap = refl }
+entry-alike w = record { rows = refl; spelling = refl; extra = refl; inArray = refl; inMap = refl }
 
 pub source-alike : Alike target reportSource
 unfolding rule
-source-alike = record { rows = refl; spelling = refl; own = refl; inArray = refl; inMap = refl }
+source-alike = record { rows = refl; spelling = refl; extra = refl; inArray = refl; inMap = refl }
 
 -- an item with no members
-module _ (s : Slot) (prev : List ℕ) {l : Lead} {str : List ℕ} {ms : Items} (o : Passes (rule s .own) prev (keyBytes l str) (l .arg))
+module _ (s : Slot) (prev : List ℕ) {l : Lead} {str : List ℕ} {ms : Items} (o : Passes (rule s .extra) prev (keyBytes l str) (l .arg))
     (p : Plain (rule s .rows) (rule s .spelling) l str ms) where
   here-leaf : isContainer (l .kind) ≡ false → Here s prev l str ms
   here-leaf c = record {
@@ -93,7 +93,7 @@ module _ (s : Slot) (prev : List ℕ) {l : Lead} {str : List ℕ} {ms : Items} (
 
 -- an array or a map
 here-held : (s : Slot) (prev : List ℕ) {k n : ℕ} {l : Lead} {str : List ℕ} {ms : Items} → isContainer k ≡ true → Holds k n l str
-    → Passes (rule s .own) prev (keyBytes l str) n → fits k n (rule s .rows) ≡ true → Fit ms false (memberLevel s k n) [] → Here s prev l str ms
+    → Passes (rule s .extra) prev (keyBytes l str) n → fits k n (rule s .rows) ≡ true → Fit ms false (memberLevel s k n) [] → Here s prev l str ms
 unfolding isContainer
 here-held s prev {k} {l = l} c h o f g =
     let c′ : isContainer (l .kind) ≡ true = rw (h .kind-is) c in

@@ -16,11 +16,11 @@ use Rattle.ari.specs.Items.{Items, none, item}
 pub record Good (s : Slot) (prev : List ℕ) (l : Lead) (str : List ℕ) : Type 0 where
   pub head : Sound l
   pub fitting : fits (l .kind) (l .arg) (rule s .rows) ≡ true
-  pub versioned : wrongVersion (rule s .own) (l .arg) ≡ false
+  pub versioned : wrongVersion (rule s .extra) (l .arg) ≡ false
   pub sized : length str ≡ stringSize l
   pub spelled : (eqb (l .kind) text && not (rule s .spelling str)) ≡ false
-  pub rising : notGreater (rule s .own) prev (keyBytes l str) ≡ false
-  pub filled : isEmpty (rule s .own) (l .arg) ≡ false
+  pub rising : notGreater (rule s .extra) prev (keyBytes l str) ≡ false
+  pub filled : isEmpty (rule s .extra) (l .arg) ≡ false
 
 -- the items are what is due, and open no more containers than it may still open
 abbrev pub Due : Items → Dues → Type 0

@@ -10,7 +10,7 @@ use Rattle.cbor.specs.Head.{text, Lead, size, Got, bad, got, getHead, keyBytes,
 use Rattle.ari.specs.declared.Limits.{Limits}
 use Rattle.ari.specs.declared.Input.{Input}
 use Rattle.ari.specs.declared.Input.the-variants.{Single, Message}
-use Rattle.ari.specs.Table.{alone, message, Slot, version, ari, Own, none, one, rising, filled, Level, done, due, rule, fits, members}
+use Rattle.ari.specs.Table.{alone, message, Slot, version, ari, ExtraTest, none, one, rising, filled, Level, done, due, rule, fits, members}
 
 -- What is due from here: a slot, how often again, the key before on its level, the containers that it may still open, and what is due behind
 -- its level. At the bottom nothing more (a single ARI) or more sets (a message).
@@ -24,28 +24,28 @@ push done prev d ds = ds
 push (due s n) prev d ds = frame s n prev d ds
 
 -- test 8
-abbrev pub wrongVersion : Own → ℕ → Bool
+abbrev pub wrongVersion : ExtraTest → ℕ → Bool
 wrongVersion none a = false
 wrongVersion one a = not (eqb a 1)
 wrongVersion rising a = false
 wrongVersion filled a = false
 
 -- test 11
-abbrev pub notGreater : Own → List ℕ → List ℕ → Bool
+abbrev pub notGreater : ExtraTest → List ℕ → List ℕ → Bool
 notGreater none prev kb = false
 notGreater one prev kb = false
 notGreater rising prev kb = not (below prev kb)
 notGreater filled prev kb = false
 
 -- test 12
-abbrev pub isEmpty : Own → ℕ → Bool
+abbrev pub isEmpty : ExtraTest → ℕ → Bool
 isEmpty none a = false
 isEmpty one a = false
 isEmpty rising a = false
 isEmpty filled a = eqb a 0
 
 -- the key before, for what is due next on the level
-abbrev pub keyAfter : Own → List ℕ → List ℕ → List ℕ
+abbrev pub keyAfter : ExtraTest → List ℕ → List ℕ → List ℕ
 keyAfter none prev kb = prev
 keyAfter one prev kb = prev
 keyAfter rising prev kb = kb
@@ -61,8 +61,8 @@ judgeContent s prev l r =
     let str = take (stringSize l) r in
     cond (ltb (length r) (stringSize l)) (no 9)
     (cond (eqb (l .kind) text && not (rule s .spelling str)) (no 10)
-    (cond (notGreater (rule s .own) prev (keyBytes l str)) (no 11)
-    (cond (isEmpty (rule s .own) (l .arg)) (no 12)
+    (cond (notGreater (rule s .extra) prev (keyBytes l str)) (no 11)
+    (cond (isEmpty (rule s .extra) (l .arg)) (no 12)
     (yes l str))))
 
 -- the tests 5 to 12: items that may still come, containers that may still be opened
@@ -71,7 +71,7 @@ judge left d s prev l r =
     cond (eqb left 0) (no 5)
     (cond (isContainer (l .kind) && eqb d 0) (no 6)
     (cond (not (fits (l .kind) (l .arg) (rule s .rows))) (no 7)
-    (cond (wrongVersion (rule s .own) (l .arg)) (no 8) (judgeContent s prev l r))))
+    (cond (wrongVersion (rule s .extra) (l .arg)) (no 8) (judgeContent s prev l r))))
 
 unfoldable pub judgeGot : ℕ → ℕ → Slot → List ℕ → Got → List ℕ → Step
 judgeGot left d s prev (bad r) b = no r
@@ -79,7 +79,7 @@ judgeGot left d s prev (got l) b = judge left d s prev l (drop (size l) b)
 
 -- what is due behind an item's members
 abbrev pub behind : Slot → Lead → List ℕ → ℕ → List ℕ → ℕ → Dues → Dues
-behind s l str n prev d ds = push (rule s .next (l .arg) n) (keyAfter (rule s .own) prev (keyBytes l str)) d ds
+behind s l str n prev d ds = push (rule s .next (l .arg) n) (keyAfter (rule s .extra) prev (keyBytes l str)) d ds
 
 pub data Answer : Type 0 where
   refuse : ℕ → ℕ → Answer  -- number, place

@@ -185,9 +185,9 @@ valueRows t (entryOf n p rs ∷ es) = cond (eqb t n) rs (valueRows t es)
 abbrev pub valueSpelling : ℕ → List ℕ → Bool
 valueSpelling t s = cond (eqb t 14) (identifier s) (utf8 s)
 
--- A slot's own test: that the version is 1 (8), that a key is greater than the one before (11), that parameters are not empty (12).
-pub data Own : Type 0 where
-  none one rising filled : Own
+-- A slot's extra test: that the version is 1 (8), that a key is greater than the one before (11), that parameters are not empty (12).
+pub data ExtraTest : Type 0 where
+  none one rising filled : ExtraTest
 
 -- What is due on one level: nothing more, or a slot and how often again.
 pub data Level : Type 0 where
@@ -214,34 +214,34 @@ valueLevel t w a = cond (eqb t 20) (due (nonce 20) (a - 1)) (cond (eqb t 21) (du
 pub record Rule : Type 0 where
   pub rows : List Row  -- test 7: the kinds and ranges, an array's lengths. Empty parameters and a wrong version pass here
   pub spelling : List ℕ → Bool  -- test 10, of a text string
-  pub own : Own  -- test 8, 11 or 12
-  pub asks : Bool  -- an ARI or an object reference is due here
+  pub extra : ExtraTest  -- test 8, 11 or 12
+  pub takesReference : Bool  -- an ARI or an object reference is due here
   pub inArray : ℕ → Level  -- the members of an array of this length
   pub inMap : ℕ → Level  -- the members of a map of so many pairs
   pub next : ℕ → ℕ → Level  -- what is due beside it: its argument, how often again
 
--- a slot that holds nothing and asks nothing else
+-- a slot that holds nothing and has no extra test
 abbrev pub leaf : List Row → (List ℕ → Bool) → Level → Rule
-leaf rs sp l = record { rows = rs; spelling = sp; own = none; asks = false; inArray = λ a. done; inMap = λ a. done; next = λ a n. l }
+leaf rs sp l = record { rows = rs; spelling = sp; extra = none; takesReference = false; inArray = λ a. done; inMap = λ a. done; next = λ a n. l }
 
 -- so many more behind it, of the slot
 abbrev pub counting : List Row → (List ℕ → Bool) → (ℕ → Level) → Rule
-counting rs sp f = record { rows = rs; spelling = sp; own = none; asks = false; inArray = λ a. done; inMap = λ a. done; next = λ a n. f n }
+counting rs sp f = record { rows = rs; spelling = sp; extra = none; takesReference = false; inArray = λ a. done; inMap = λ a. done; next = λ a n. f n }
 
 -- an ARI or an object reference
-abbrev pub asking : List Row → (ℕ → Level) → (ℕ → Level) → Rule
-asking rs f g = record { rows = rs; spelling = utf8; own = none; asks = true; inArray = f; inMap = λ a. done; next = λ a n. g n }
+abbrev pub takingReference : List Row → (ℕ → Level) → (ℕ → Level) → Rule
+takingReference rs f g = record { rows = rs; spelling = utf8; extra = none; takesReference = true; inArray = f; inMap = λ a. done; next = λ a n. g n }
 
 unfoldable pub rule : Slot → Rule
 unfolding types
 -- R45: 1; another unsigned is 8 (R58)
-rule version = record { rows = uintTo max64 ∷ []; spelling = utf8; own = one; asks = false; inArray = λ a. done; inMap = λ a. done; next = λ a n. done }
-rule (ari w) = asking (ariRows w) (ariLevel w) (many (ari w))
+rule version = record { rows = uintTo max64 ∷ []; spelling = utf8; extra = one; takesReference = false; inArray = λ a. done; inMap = λ a. done; next = λ a n. done }
+rule (ari w) = takingReference (ariRows w) (ariLevel w) (many (ari w))
 rule (type w) = record {
   rows = typeRows w types;
   spelling = utf8;
-  own = none;
-  asks = false;
+  extra = none;
+  takesReference = false;
   inArray = λ a. done;
   inMap = λ a. done;
   next = λ a n. due (value a (inner w)) 0;
@@ -249,8 +249,8 @@ rule (type w) = record {
 rule (value t w) = record {
   rows = valueRows t types;
   spelling = valueSpelling t;
-  own = none;
-  asks = false;
+  extra = none;
+  takesReference = false;
   inArray = valueLevel t w;
   inMap = many (key w);
   next = λ a n. done;
@@ -263,8 +263,8 @@ rule (objectId p) = leaf objectIds identifier (cond p (due params 0) done)
 rule params = record {
   rows = arrays 0 max64 ∷ anyMap ∷ [];
   spelling = utf8;
-  own = filled;
-  asks = false;
+  extra = filled;
+  takesReference = false;
   inArray = many (ari param);
   inMap = many (key param);
   next = λ a n. done;
@@ -273,28 +273,28 @@ rule params = record {
 rule (key w) = record {
   rows = keys;
   spelling = utf8;
-  own = rising;
-  asks = false;
+  extra = rising;
+  takesReference = false;
   inArray = λ a. done;
   inMap = λ a. done;
   next = λ a n. due (entry w) n;
 }
-rule (entry w) = asking (ariRows w) (ariLevel w) (many (key w))
+rule (entry w) = takingReference (ariRows w) (ariLevel w) (many (key w))
 rule (nonce t) = counting nonces utf8 (λ n. cond (eqb t 21) (due setTime n) (many target n))
 rule setTime = counting vast utf8 (many report)
-rule target = asking (arrays 3 4 ∷ []) referenceLevel (many target)
+rule target = takingReference (arrays 3 4 ∷ []) referenceLevel (many target)
 -- R42
 rule report = record {
   rows = arrays 2 max64 ∷ [];
   spelling = utf8;
-  own = none;
-  asks = false;
+  extra = none;
+  takesReference = false;
   inArray = λ a. due reportTime (a - 2);
   inMap = λ a. done;
   next = λ a n. many report n;
 }
 rule reportTime = counting vast utf8 (due reportSource)
-rule reportSource = asking (arrays 3 4 ∷ []) referenceLevel (many (ari inside))
+rule reportSource = takingReference (arrays 3 4 ∷ []) referenceLevel (many (ari inside))
 
 abbrev pub fitsRow : ℕ → ℕ → Row → Bool
 fitsRow k a (row k′ lo hi) = eqb k k′ && within lo hi a
@@ -310,4 +310,4 @@ members s l = cond (eqb (l .kind) array) (rule s .inArray (l .arg)) (cond (eqb (
 
 -- R77
 unfoldable pub isReference : Slot → Lead → Bool
-isReference s l = rule s .asks && (eqb (l .kind) array && not (eqb (l .arg) 2))
+isReference s l = rule s .takesReference && (eqb (l .kind) array && not (eqb (l .arg) 2))

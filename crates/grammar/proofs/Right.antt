@@ -11,13 +11,13 @@ use Rattle.buffer.specs.Bytes.{within}
 use Rattle.cbor.specs.Head.{Lead, isContainer}
 use Rattle.buffer.proofs.ByteLaws.{within-true}
 use Rattle.cbor.proofs.Computed.{all-at}
-use Rattle.ari.specs.Table.{Place, alone, message, inside, param, inner, Slot, version, ari, type, value, namespace, objectNamespace, objectType, objectId, params, key, entry, nonce, setTime, target, report, reportTime, reportSource, Row, row, types, typeRows, Own, none, one, rising, filled, Level, done, due, many, referenceLevel, ariLevel, rule, fits, members}
+use Rattle.ari.specs.Table.{Place, alone, message, inside, param, inner, Slot, version, ari, type, value, namespace, objectNamespace, objectType, objectId, params, key, entry, nonce, setTime, target, report, reportTime, reportSource, Row, row, types, typeRows, ExtraTest, none, one, rising, filled, Level, done, due, many, referenceLevel, ariLevel, rule, fits, members}
 use Rattle.ari.proofs.Rows.{every, fits-by}
 use Rattle.grammar.specs.declared.Next.{Next}
 use Rattle.grammar.specs.declared.Next.the-variants.{Done, Due}
 unfoldable pub use Rattle.grammar.specs.Code.{IsSlot}
 use Rattle.grammar.proofs.Ranges.{each-at}
-use Rattle.grammar.specs.Code.{slots, slotOf, inParam, typeNumber, slotNumber, levelOf, nextOf, fitsCode, ownNumber, ownOf, asksOf, nextCode, insideCode}
+use Rattle.grammar.specs.Code.{slots, slotOf, inParam, typeNumber, slotNumber, levelOf, nextOf, fitsCode, extraNumber, extraOf, takesReferenceOf, nextCode, insideCode}
 
 pub no-slot : (i : ℕ) → 72 ≤ i → version ≡ slotOf i
 no-slot i h = sym (List·getD-eq-default slots version h)
@@ -197,17 +197,17 @@ pub fits-right : (i k a : ℕ) → IsSlot i → k ≤ 9 → fitsCode i k a ≡ f
 unfolding fitsCode
 fits-right i k a v h = refl
 
-pub own-right : (i : ℕ) → IsSlot i → rule (slotOf i) .own ≡ getD (none ∷ one ∷ rising ∷ filled ∷ []) (ownOf i) none
-own-right i v = go (rule (slotOf i) .own)
+pub extra-right : (i : ℕ) → IsSlot i → rule (slotOf i) .extra ≡ getD (none ∷ one ∷ rising ∷ filled ∷ []) (extraOf i) none
+extra-right i v = go (rule (slotOf i) .extra)
   where
-    go : (o : Own) → o ≡ getD (none ∷ one ∷ rising ∷ filled ∷ []) (ownNumber o) none
+    go : (o : ExtraTest) → o ≡ getD (none ∷ one ∷ rising ∷ filled ∷ []) (extraNumber o) none
     go none = refl
     go one = refl
     go rising = refl
     go filled = refl
 
-pub asks-right : (i : ℕ) → IsSlot i → rule (slotOf i) .asks ≡ asksOf i
-asks-right i v = refl
+pub takes-reference-right : (i : ℕ) → IsSlot i → rule (slotOf i) .takesReference ≡ takesReferenceOf i
+takes-reference-right i v = refl
 
 -- The types' slots are 5 to 8.
 type-place : (w : Place) → within 5 8 (slotNumber (type w)) ≡ true

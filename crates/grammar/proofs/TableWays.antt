@@ -10,38 +10,38 @@ use Rattle.buffer.proofs.ByteLaws.{and-true, or-true}
 use Rattle.ari.specs.Table.{inside, param, value, done, due, many, referenceLevel, rule, members}
 use Rattle.grammar.specs.declared.Next.{Next}
 use Rattle.grammar.specs.declared.Next.the-variants.{Done, Due}
-use Rattle.grammar.specs.Code.{IsSlot, slotOf, slotNumber, nextOf, typeNumber, fitsCode, ownOf, spelledAs, asksOf, nextCode, insideCode}
+use Rattle.grammar.specs.Code.{IsSlot, slotOf, slotNumber, nextOf, typeNumber, fitsCode, extraOf, spelledAs, takesReferenceOf, nextCode, insideCode}
 use Rattle.grammar.specs.Words.{field, inSpans, spans, rangeOf, bitsOf, smallOf, topOf, ifSet, followed, follows, Word, wordMeans, wordFor, manyOf, inAriOf, inArrayOf, inMapOf, Inner, innerMeans, innerFor}
 use Rattle.grammar.proofs.Ranges.{each-at, spans-fit, small-looks, top-looks}
 use Rattle.grammar.proofs.Right.{number-slot, no-kind}
 
 -- what a slot's word says
 module _ (i w : ℕ) (e : wordMeans w ≡ wordFor (rule (slotOf i))) where
-  pub own-said : field w 60 4 ≡ ownOf i
+  pub own-means : field w 60 4 ≡ extraOf i
   unfolding wordMeans wordFor
-  own-said = ap (λ (x : Word). x .own) e
+  own-means = ap (λ (x : Word). x .extra) e
 
-  pub spelling-said : spelledAs (w / 2 ^ 62) ≡ rule (slotOf i) .spelling
+  pub spelling-means : spelledAs (w / 2 ^ 62) ≡ rule (slotOf i) .spelling
   unfolding wordMeans wordFor
-  spelling-said = ap (λ (x : Word). x .spelling) e
+  spelling-means = ap (λ (x : Word). x .spelling) e
 
-  range-said : (k : ℕ) → k ≤ 9 → rangeOf (field w (k * 5) 32) ≡ spans k (rule (slotOf i) .rows)
+  range-means : (k : ℕ) → k ≤ 9 → rangeOf (field w (k * 5) 32) ≡ spans k (rule (slotOf i) .rows)
   unfolding wordMeans wordFor
-  range-said k h = each-at 10 (λ j. rangeOf (field w (j * 5) 32)) (λ j. spans j (rule (slotOf i) .rows)) (ap (λ (x : Word). x .ranges) e) k (omega arith)
+  range-means k h = each-at 10 (λ j. rangeOf (field w (j * 5) 32)) (λ j. spans j (rule (slotOf i) .rows)) (ap (λ (x : Word). x .ranges) e) k (omega arith)
 
-  next-said : (a n : ℕ) → followed (field w 57 2) (field w 58 2) (field w 59 2) (field w 50 128) a n ≡ rule (slotOf i) .next a n
+  next-means : (a n : ℕ) → followed (field w 57 2) (field w 58 2) (field w 59 2) (field w 50 128) a n ≡ rule (slotOf i) .next a n
   unfolding wordMeans wordFor
-  next-said a n = ap (λ (x : Word). x .next a n) e
+  next-means a n = ap (λ (x : Word). x .next a n) e
 
-  names-said : follows (field w 57 2) (field w 58 2) (field w 59 2) (field w 50 128) ≡ true
+  names-means : follows (field w 57 2) (field w 58 2) (field w 59 2) (field w 50 128) ≡ true
   unfolding wordMeans wordFor
-  names-said = ap (λ (x : Word). x .names) e
+  names-means = ap (λ (x : Word). x .names) e
 
 -- what its inner word says
 module _ (i w : ℕ) (e : innerMeans w ≡ innerFor (rule (slotOf i))) where
-  pub asks-said : eqb (field w 28 2) 1 ≡ asksOf i
+  pub asks-means : eqb (field w 28 2) 1 ≡ takesReferenceOf i
   unfolding innerMeans innerFor
-  asks-said = ap (λ (x : Inner). x .asks) e
+  asks-means = ap (λ (x : Inner). x .takesReference) e
 
   both-named : (ltb (w % 256) 72 && ltb (field w 16 256) 72) ≡ true
   unfolding innerMeans innerFor
@@ -53,13 +53,13 @@ module _ (i w : ℕ) (e : innerMeans w ≡ innerFor (rule (slotOf i))) where
   pub map-slot : IsSlot (field w 16 256)
   map-slot = ltb-true (field w 16 256) 72 (and-true (ltb (w % 256) 72) _ both-named .1)
 
-  array-said : (a : ℕ) → inArrayOf w a ≡ rule (slotOf i) .inArray a
+  array-means : (a : ℕ) → inArrayOf w a ≡ rule (slotOf i) .inArray a
   unfolding innerMeans innerFor
-  array-said a = ap (λ (x : Inner). x .inArray a) e
+  array-means a = ap (λ (x : Inner). x .inArray a) e
 
-  map-said : (a : ℕ) → inMapOf w a ≡ rule (slotOf i) .inMap a
+  map-means : (a : ℕ) → inMapOf w a ≡ rule (slotOf i) .inMap a
   unfolding innerMeans innerFor
-  map-said a = ap (λ (x : Inner). x .inMap a) e
+  map-means a = ap (λ (x : Inner). x .inMap a) e
 
 -- the ways of `fits`
 module _ (i k a : ℕ) where
@@ -69,7 +69,7 @@ module _ (i k a : ℕ) where
   module _ (h : k ≤ 9) (w : ℕ) (e : wordMeans w ≡ wordFor (rule (slotOf i))) (m : ℕ) where
     looked : {x : Bool} → x ≡ inSpans a (rangeOf (w / 2 ^ (k * 5) % 32)) → x ≡ fitsCode i k a
     unfolding fitsCode
-    looked q = q ∙ rw (range-said i w e k h) (spans-fit k a (rule (slotOf i) .rows))
+    looked q = q ∙ rw (range-means i w e k h) (spans-fit k a (rule (slotOf i) .rows))
 
     pub below-32 : a < 32 → bitsOf m ≡ smallOf (w / 2 ^ (k * 5) % 32) → eqb (m / 2 ^ a % 2) 1 ≡ fitsCode i k a
     below-32 g q = looked (small-looks (w / 2 ^ (k * 5) % 32) a m g q)
@@ -138,7 +138,7 @@ followed-is took stay add to a n l f = go (eqb add 0) (eqb took 0) refl (eqb sta
 module _ (i a n w : ℕ) (e : wordMeans w ≡ wordFor (rule (slotOf i))) {r : ℕ} (q : (r ≡ ifSet (w / 2 ^ 58 % 2) n) × (r ≤ n)) where
   as-coded : followedCode (field w 57 2) (field w 58 2) (field w 59 2) (field w 50 128) a n ≡ nextCode i a n
   unfolding nextCode
-  as-coded = followed-is (field w 57 2) (field w 58 2) (field w 59 2) (field w 50 128) a n (omega arith) (names-said i w e) ∙ ap nextOf (next-said i w e a n)
+  as-coded = followed-is (field w 57 2) (field w 58 2) (field w 59 2) (field w 50 128) a n (omega arith) (names-means i w e) ∙ ap nextOf (next-means i w e a n)
 
   pub none-left : r < w / 2 ^ 57 % 2 → Done ≡ nextCode i a n
   none-left h = rw (← as-coded, ← q .0, lt-ltb r (w / 2 ^ 57 % 2) h)
@@ -201,11 +201,11 @@ module _ (i k a : ℕ) where
   module _ (w : ℕ) (e : innerMeans w ≡ innerFor (rule (slotOf i))) {r : Next} where
     pub array-inside : k ≡ 4 → r ≡ nextOf (inArrayOf w a) → r ≡ insideCode i k a
     unfolding insideCode members
-    array-inside h q = q ∙ rw (h, array-said i w e a)
+    array-inside h q = q ∙ rw (h, array-means i w e a)
 
     pub map-inside : 4 ≤ k → k ≤ 5 → (k ≡ 4 → ⊥) → r ≡ nextOf (inMapOf w a) → r ≡ insideCode i k a
     unfolding insideCode members
-    map-inside h g n q = let z : k ≡ 5 = omega arith in q ∙ rw (z, map-said i w e a)
+    map-inside h g n q = let z : k ≡ 5 = omega arith in q ∙ rw (z, map-means i w e a)
 
   pub below-containers : k < 4 → Done ≡ insideCode i k a
   unfolding insideCode members

@@ -1,5 +1,5 @@
 -- The grammar's slots as numbers, and what the functions say of them: `rule` of crate ari, by number.
--- Interface: slots, slotOf, slotNumber, IsSlot, levelOf, nextOf, fitsCode, ownOf, spelledAs, asksOf, nextCode, insideCode. The words that the
+-- Interface: slots, slotOf, slotNumber, IsSlot, levelOf, nextOf, fitsCode, extraOf, spelledAs, takesReferenceOf, nextCode, insideCode. The words that the
 -- code keeps for the slots are in Words.
 use Prim.Native.Nat.{ℕ, _+_, _*_, _<_}
 use mathlib.Core.Bool.{Bool, true, false, cond}
@@ -8,7 +8,7 @@ use lib.ListN.{getD}
 use lib.Dec.{ltb, eqb}
 use Rattle.cbor.specs.Utf8.{utf8}
 use Rattle.ari.specs.Name.{identifier, namespaceName}
-use Rattle.ari.specs.Table.{Place, alone, message, inside, param, Slot, version, ari, type, value, namespace, objectNamespace, objectType, objectId, params, key, entry, nonce, setTime, target, report, reportTime, reportSource, Own, none, one, rising, filled, Level, done, due, rule, fits, members}
+use Rattle.ari.specs.Table.{Place, alone, message, inside, param, Slot, version, ari, type, value, namespace, objectNamespace, objectType, objectId, params, key, entry, nonce, setTime, target, report, reportTime, reportSource, ExtraTest, none, one, rising, filled, Level, done, due, rule, fits, members}
 use Rattle.grammar.specs.declared.Next.{Next}
 use Rattle.grammar.specs.declared.Next.the-variants.{Done, Due}
 
@@ -96,22 +96,22 @@ nextOf (due s n) = Due (slotNumber s) n
 unfoldable pub fitsCode : ℕ → ℕ → ℕ → Bool
 fitsCode i k a = fits k a (rule (slotOf i) .rows)
 
--- a slot's own test: none, that the version is 1, that keys rise, that parameters are not empty
-abbrev pub ownNumber : Own → ℕ
-ownNumber none = 0
-ownNumber one = 1
-ownNumber rising = 2
-ownNumber filled = 3
+-- a slot's extra test: none, that the version is 1, that keys rise, that parameters are not empty
+abbrev pub extraNumber : ExtraTest → ℕ
+extraNumber none = 0
+extraNumber one = 1
+extraNumber rising = 2
+extraNumber filled = 3
 
-abbrev pub ownOf : ℕ → ℕ
-ownOf i = ownNumber (rule (slotOf i) .own)
+abbrev pub extraOf : ℕ → ℕ
+extraOf i = extraNumber (rule (slotOf i) .extra)
 
 -- the spellings of a text string by number
 abbrev pub spelledAs : ℕ → List ℕ → Bool
 spelledAs n = getD (utf8 ∷ identifier ∷ namespaceName ∷ []) n utf8
 
-abbrev pub asksOf : ℕ → Bool
-asksOf i = rule (slotOf i) .asks
+abbrev pub takesReferenceOf : ℕ → Bool
+takesReferenceOf i = rule (slotOf i) .takesReference
 
 -- what is due beside a head at a slot, and inside it
 unfoldable pub nextCode : ℕ → ℕ → ℕ → Next

@@ -9,7 +9,7 @@ use Rattle.buffer.specs.Bytes.{within}
 use Rattle.cbor.specs.Head.{unsigned}
 use Rattle.ari.specs.Table.{Place, alone, message, inside, param, value, Row, row, max64, max63, max32, max31, types, typeRows, Level, done, due, many, referenceLevel, Rule}
 use Rattle.grammar.specs.declared.Next.{Next}
-use Rattle.grammar.specs.Code.{slotOf, nextOf, ownNumber, spelledAs}
+use Rattle.grammar.specs.Code.{slotOf, nextOf, extraNumber, spelledAs}
 
 -- bits of a word
 abbrev pub field : ℕ → ℕ → ℕ → ℕ
@@ -87,7 +87,7 @@ pub record Word : Type 0 where
   pub ranges : List (List Span)
   pub next : ℕ → ℕ → Level
   pub names : Bool
-  pub own : ℕ
+  pub extra : ℕ
   pub spelling : List ℕ → Bool
 
 unfoldable pub wordMeans : ℕ → Word
@@ -95,12 +95,12 @@ wordMeans w = record {
   ranges = each 10 (λ k. rangeOf (field w (k * 5) 32));
   next = λ a n. followed (field w 57 2) (field w 58 2) (field w 59 2) (field w 50 128) a n;
   names = follows (field w 57 2) (field w 58 2) (field w 59 2) (field w 50 128);
-  own = field w 60 4;
+  extra = field w 60 4;
   spelling = spelledAs (w / 2 ^ 62);
 }
 
 unfoldable pub wordFor : Rule → Word
-wordFor r = record { ranges = each 10 (λ k. spans k (r .rows)); next = r .next; names = true; own = ownNumber (r .own); spelling = r .spelling }
+wordFor r = record { ranges = each 10 (λ k. spans k (r .rows)); next = r .next; names = true; extra = extraNumber (r .extra); spelling = r .spelling }
 
 -- so many of a slot
 abbrev pub manyOf : ℕ → ℕ → Next
@@ -111,10 +111,10 @@ abbrev pub inAriOf : ℕ → ℕ → Level
 inAriOf to a = cond (eqb a 2) (due (slotOf to) 0) (referenceLevel a)
 
 abbrev pub inArrayBy : ℕ → ℕ → ℕ → Level
-inArrayBy way to a =
-    cond (ltb way 3)
-    (cond (eqb way 1) (inAriOf to a) (cond (eqb way 0) done (referenceLevel a)))
-    (cond (eqb way 3) (many (slotOf to) a) (due (slotOf to) (a - (way - 3))))
+inArrayBy form to a =
+    cond (ltb form 3)
+    (cond (eqb form 1) (inAriOf to a) (cond (eqb form 0) done (referenceLevel a)))
+    (cond (eqb form 3) (many (slotOf to) a) (due (slotOf to) (a - (form - 3))))
 
 abbrev pub inArrayOf : ℕ → ℕ → Level
 inArrayOf w a = inArrayBy (field w 8 16) (w % 256) a
@@ -127,15 +127,15 @@ pub record Inner : Type 0 where
   pub inArray : ℕ → Level
   pub inMap : ℕ → Level
   pub names : Bool
-  pub asks : Bool
+  pub takesReference : Bool
 
 unfoldable pub innerMeans : ℕ → Inner
 innerMeans w = record {
   inArray = inArrayOf w;
   inMap = inMapOf w;
   names = ltb (w % 256) 72 && ltb (field w 16 256) 72;
-  asks = eqb (field w 28 2) 1;
+  takesReference = eqb (field w 28 2) 1;
 }
 
 unfoldable pub innerFor : Rule → Inner
-innerFor r = record { inArray = r .inArray; inMap = r .inMap; names = true; asks = r .asks }
+innerFor r = record { inArray = r .inArray; inMap = r .inMap; names = true; takesReference = r .takesReference }

@@ -6,7 +6,7 @@
 // is spelled (10). The words stand here alone: that they say what `rule` of the definitions says is the contract of `rule_word`.
 ghost use mathlib.Core.Path.{_≡_};
 ghost use Rattle.ari.specs.Table.{referenceLevel, rule};
-ghost use Rattle.grammar.specs.Code.{IsSlot, slotOf, nextOf, typeNumber, fitsCode, ownOf, spelledAs, asksOf, nextCode, insideCode};
+ghost use Rattle.grammar.specs.Code.{IsSlot, slotOf, nextOf, typeNumber, fitsCode, extraOf, spelledAs, takesReferenceOf, nextCode, insideCode};
 ghost use Rattle.grammar.specs.Words.{field, bitsOf, smallOf, topOf, ifSet, manyOf, inAriOf, inArrayOf, inMapOf, wordMeans, wordFor, innerMeans, innerFor};
 ghost use Prim.Native.Nat.{_-_, _%_, _≤_, _<_};
 ghost use mathlib.Core.Bool.{cond};
@@ -233,7 +233,7 @@ pub fn fits(slot: u64, kind: u8, arg: u64) -> bool
 
 // The slot's own test, as NO_TEST and the constants behind it.
 pub fn extra_test(slot: u64) -> u64
-    ensures { λ r. ⌜ r ≡ ownOf slot ⌝ }
+    ensures { λ r. ⌜ r ≡ extraOf slot ⌝ }
 {
     (rule_word(slot) >> 60) % 4
 }
@@ -247,7 +247,7 @@ pub fn spelling(slot: u64) -> u64
 
 // Whether an ARI or an object reference is due.
 pub fn takes_reference(slot: u64) -> bool
-    ensures { λ r. ⌜ r ≡ asksOf slot ⌝ }
+    ensures { λ r. ⌜ r ≡ takesReferenceOf slot ⌝ }
 {
     (inside_word(slot) >> 28) % 2 == 1
 }
@@ -348,23 +348,23 @@ fn in_array(word: u64, length: u64) -> Next
     requires { ⌜ IsSlot (word % 256) ⌝ }
     ensures { λ r. ⌜ r ≡ nextOf (inArrayOf word length) ⌝ }
 {
-    let way = (word >> 8) % 16;
+    let form = (word >> 8) % 16;
     let to = word % 256;
-    if way < AS_LIST {
-        if way == AS_ARI {
+    if form < AS_LIST {
+        if form == AS_ARI {
             return in_ari(to, length);
         }
-        if way == NO_MEMBERS {
+        if form == NO_MEMBERS {
             return Next::Done;
         }
         return in_reference(length);
     }
-    if way == AS_LIST {
+    if form == AS_LIST {
         return many(to, length);
     }
     Next::Due {
         slot: to,
-        more: minus(length, way - AS_LIST),
+        more: minus(length, form - AS_LIST),
     }
 }
 
@@ -372,9 +372,9 @@ fn in_map(word: u64, pairs: u64) -> Next
     requires { ⌜ IsSlot (field word 16 256) ⌝ }
     ensures { λ r. ⌜ r ≡ nextOf (inMapOf word pairs) ⌝ }
 {
-    let way = (word >> 24) % 16;
+    let form = (word >> 24) % 16;
     let to = (word >> 16) % 256;
-    if way == AS_LIST {
+    if form == AS_LIST {
         return many(to, pairs);
     }
     Next::Done

@@ -87,7 +87,7 @@ pub fn granted(t: &[Grant], subscriber: u64, namespace: i64) -> bool
 
 // What a search over so many rows tells that ended at a row.
 fn verdict(row: usize, rows: usize) -> Verdict
-    ensures { λ r. ⌜ said r ≡ foundAt row rows ⌝ }
+    ensures { λ r. ⌜ checkOf r ≡ foundAt row rows ⌝ }
 {
     if row < rows {
         Verdict::Refused(row as u64)
@@ -98,7 +98,7 @@ fn verdict(row: usize, rows: usize) -> Verdict
 
 // The first row with a partner among the rows before it.
 pub fn check_grants(t: &[Grant]) -> Verdict
-    ensures { λ r. ⌜ said r ≡ check (grants (now (t .entry))) ⌝ }
+    ensures { λ r. ⌜ checkOf r ≡ check (grants (now (t .entry))) ⌝ }
 {
     let n = t.len();
     let mut i = 0;
@@ -249,7 +249,7 @@ pub struct Answers {
 
 // The three of a table of four rows by value, for a caller that is covered, as a program's main: the array is lent. A shorter table repeats a row.
 pub fn ask_four(message: &[u8], t: [Grant; 4], subscriber: u64, namespace: i64) -> Answers
-    ensures { λ r. ⌜ (said (r .check) ≡ check (grants t)) × (r .granted ≡ granted (grants t) subscriber (number namespace)) × (answerOf (r .release) ≡ release firstLimits (now (message .entry)) (grants t) subscriber) ⌝ }
+    ensures { λ r. ⌜ (checkOf (r .check) ≡ check (grants t)) × (r .granted ≡ granted (grants t) subscriber (number namespace)) × (answerOf (r .release) ≡ release firstLimits (now (message .entry)) (grants t) subscriber) ⌝ }
 {
     let rows: &[Grant] = &t;
     Answers {

@@ -28,9 +28,9 @@ use Rattle.ari.proofs.Demand.{stands-fit}
 use Rattle.ari.proofs.Spots.{All, no-spot, spot-too, all-append, Between, Covers, spot-between, spot-covers, spot-count}
 use Rattle.grammar.specs.declared.Next.{Next}
 use Rattle.grammar.specs.declared.Next.the-variants.{Done, Due}
-use Rattle.grammar.specs.Code.{slotOf, levelOf, fitsCode, asksOf, nextCode, insideCode}
+use Rattle.grammar.specs.Code.{slotOf, levelOf, fitsCode, takesReferenceOf, nextCode, insideCode}
 use Rattle.grammar.specs.Code.{IsSlot}
-use Rattle.grammar.proofs.Right.{number-slot, Slotted, Stands, fits-right, next-right, inside-right, asks-right}
+use Rattle.grammar.proofs.Right.{number-slot, Slotted, Stands, fits-right, next-right, inside-right, takes-reference-right}
 use Rattle.item_table.specs.declared.Item.{Item}
 use Rattle.grammar.specs.Code.{slotNumber}
 use Rattle.item_table.specs.Entries.{packed, itemOf, entryOf, referenceBy, noSpot, spotNumber, Tabled}
@@ -143,7 +143,7 @@ module _ (f a r s : ℕ) (hf : f < 65536) (ha : a < 65536) (hr : r < 256) (hs : 
   slot-field = omega arith
 
 -- whether an item is a reference, way by way
-module _ (i k a : ℕ) {x : Bool} (e : x ≡ asksOf i) where
+module _ (i k a : ℕ) {x : Bool} (e : x ≡ takesReferenceOf i) where
   pub unasked : not x ≡ true → false ≡ referenceBy i k a
   unasked q = rw (← e, not-true x q)
 
@@ -161,7 +161,7 @@ head-is b p l r e h = rw (e, getHead-back r h)
 
 reference-is : (s : Slot) (l : Lead) (j : ℕ) → IsSlot j → slotOf j ≡ s → slotNumber s ≡ j → isReference s l ≡ referenceBy (slotNumber s) (l .kind) (l .arg)
 unfolding isReference
-reference-is s l j v e q = rw (q, ← e, asks-right j v)
+reference-is s l j v e q = rw (q, ← e, takes-reference-right j v)
 
 -- What the table says of item k, with the head that the bytes have there.
 module _ {m : Limits} {i : Input} {b : List ℕ} {n : ℕ} {t : List ℕ} (c : Tabled m i b n t) (k : ℕ) (h : k < n) where

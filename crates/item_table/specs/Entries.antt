@@ -12,7 +12,7 @@ use Rattle.ari.specs.declared.Input.{Input}
 use Rattle.ari.specs.Items.{none, Spot, spotsOf}
 use Rattle.ari.specs.Decode.{decode}
 use Rattle.ari.specs.Rules.{Is}
-use Rattle.grammar.specs.Code.{slotNumber, asksOf}
+use Rattle.grammar.specs.Code.{slotNumber, takesReferenceOf}
 use Rattle.item_table.specs.declared.Item.{Item}
 
 -- A word: from the lowest bits the first byte (16 bits), the byte after (16), the containers around (8), the slot's number.
@@ -27,7 +27,7 @@ entryOf x = packed (x .first) (x .after) (x .around) (slotNumber (x .slot))
 
 -- a reference by its slot's number
 abbrev pub referenceBy : ℕ → ℕ → ℕ → Bool
-referenceBy i k a = asksOf i && (eqb k array && not (eqb a 2))
+referenceBy i k a = takesReferenceOf i && (eqb k array && not (eqb a 2))
 
 -- item k of an input
 abbrev pub noSpot : Spot

@@ -9,14 +9,14 @@ use Rattle.cbor.specs.declared.Head.the-variants.{Bad, Good}
 use Rattle.cbor.specs.Answer.{headAt}
 use Rattle.ari.specs.Table.{max64}
 use Rattle.item_table.specs.declared.Item.{Item}
-use Rattle.grammar.specs.Code.{asksOf}
+use Rattle.grammar.specs.Code.{takesReferenceOf}
 use Rattle.item_table.specs.Entries.{itemOf}
 use Rattle.listing.specs.declared.Namespace.{Namespace}
 use Rattle.listing.specs.declared.Namespace.the-variants.{Number, Name, Relative}
 use Rattle.listing.specs.declared.Reference.the-variants.{Nothing, To}
 use Rattle.listing.specs.Entries.{namespaceOf, referenceOf, referenceFrom}
 
-module _ (b : List ℕ) (e : ℕ) {x : Item} (i : x ≡ itemOf e) {y : Bool} (c : y ≡ asksOf (x .slot)) where
+module _ (b : List ℕ) (e : ℕ) {x : Item} (i : x ≡ itemOf e) {y : Bool} (c : y ≡ takesReferenceOf (x .slot)) where
   pub unasked : not y ≡ true → Nothing ≡ referenceFrom b e
   unfolding referenceFrom
   unasked n = rw (← i) (go (headAt b (x .first)))

@@ -71,7 +71,7 @@ found-at (x ∷ xs) (suc k) d h e = go (isReference (x .slot) (x .lead)) (found-
 no-string : (s : Slot) (l : Lead) → isReference s l ≡ true → stringSize l ≡ 0
 unfolding isReference stringSize
 no-string s l e =
-    let q = and-true (eqb (l .kind) array) (not (eqb (l .arg) 2)) (and-true (rule s .asks) (eqb (l .kind) array && not (eqb (l .arg) 2)) e .1) .0 in
+    let q = and-true (eqb (l .kind) array) (not (eqb (l .arg) 2)) (and-true (rule s .takesReference) (eqb (l .kind) array && not (eqb (l .arg) 2)) e .1) .0 in
     rw (eqb-true (l .kind) array q)
 
 -- A reference that the word of item k stands for.

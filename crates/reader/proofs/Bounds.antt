@@ -12,7 +12,7 @@ use mir.Val.{Fits}
 use borrow.Author.Tests.{eqb-false, eqb-true}
 use Rattle.buffer.specs.Bytes.{within}
 use Rattle.cbor.specs.Head.{isContainer}
-use Rattle.ari.specs.Table.{Slot, Own, none, one, rising, filled, Level, due}
+use Rattle.ari.specs.Table.{Slot, ExtraTest, none, one, rising, filled, Level, due}
 use Rattle.cbor.proofs.HeadLaws.{length-lead}
 use Rattle.ari.specs.Reader.{end, frame}
 use Rattle.ari.specs.Items as items
@@ -91,13 +91,13 @@ read-past b items s n prev d around p c h g =
     let k = r .held .0 in
     omega (arith, k .place, due-long (k .tree) s n prev d (k .fit))
 
-pub span-order : (o : Own) (f t p q : ℕ) → f ≤ t → p ≤ q → keySpan o f p ≤ keySpan o t q
+pub span-order : (o : ExtraTest) (f t p q : ℕ) → f ≤ t → p ≤ q → keySpan o f p ≤ keySpan o t q
 span-order none f t p q h g = h
 span-order one f t p q h g = h
 span-order rising f t p q h g = g
 span-order filled f t p q h g = h
 
-pub span-within : (o : Own) (t q n : ℕ) → t ≤ n → q ≤ n → keySpan o t q ≤ n
+pub span-within : (o : ExtraTest) (t q n : ℕ) → t ≤ n → q ≤ n → keySpan o t q ≤ n
 span-within none t q n h g = h
 span-within one t q n h g = h
 span-within rising t q n h g = g

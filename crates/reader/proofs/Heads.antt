@@ -14,11 +14,11 @@ use Rattle.cbor.specs.declared.Head.{Head}
 use Rattle.cbor.specs.declared.Head.the-variants.{Bad, Good}
 use Rattle.cbor.specs.Answer.{answer, headAt}
 use Rattle.cbor.proofs.HeadWays.{Read, read}
-use Rattle.ari.specs.Table.{Slot, Own, rising, rule, fits}
+use Rattle.ari.specs.Table.{Slot, ExtraTest, rising, rule, fits}
 use Rattle.cbor.specs.Head.{keyBytes}
 use Rattle.ari.specs.Reader.{wrongVersion, notGreater, isEmpty, judgeContent, judge, judgeGot}
 use Rattle.ari.specs.Reader as reader
-use Rattle.grammar.specs.Code.{slotOf, ownOf, fitsCode}
+use Rattle.grammar.specs.Code.{slotOf, extraOf, fitsCode}
 use Rattle.grammar.specs.Code.{IsSlot}
 use Rattle.grammar.proofs.Right.{fits-right}
 use Rattle.reader.specs.declared.Step.{Step}
@@ -188,26 +188,26 @@ module _ (b : List ℕ) (p : ℕ) (s : Slot) (prev : List ℕ) {k a q : ℕ} (e 
       well-spelt : (eqb (l .kind) 3 && not (rule s .spelling str)) ≡ false
       well-spelt = sym spelling-is ∙ sym c ∙ t
 
-      order-is : notGreater (rule s .own) prev (keyOf (part b p x)) ≡ notGreater (rule s .own) prev (keyBytes l str)
+      order-is : notGreater (rule s .extra) prev (keyOf (part b p x)) ≡ notGreater (rule s .extra) prev (keyBytes l str)
       order-is =
           let st = stands b p k a q e in
           let i : p + (size l + stringSize l) ≡ x = omega (arith, st .next-is, en .end-is) in
-          same-order (rule s .own) prev (keyOf (part b p x)) (keyBytes l str)
+          same-order (rule s .extra) prev (keyOf (part b p x)) (keyBytes l str)
           (λ o. sym (own-key b bs p x) ∙ sym (key-bytes b p l bs (st .is-got) (ordered-kind s (l .kind) (l .arg) o (rw (st .kind-is, st .arg-is) fit)) (en .there) x i))
 
-      pub is-unordered : {u : Bool} → u ≡ notGreater (rule s .own) prev (keyOf (part b p x)) → u ≡ true → Refused 11 p ≡ contentAt b p s prev
+      pub is-unordered : {u : Bool} → u ≡ notGreater (rule s .extra) prev (keyOf (part b p x)) → u ≡ true → Refused 11 p ≡ contentAt b p s prev
       unfolding judgeContent
       is-unordered d v = rw (not-short, well-spelt, sym order-is ∙ sym d ∙ v) (refl) ∙ content-is
 
-      module _ {u : Bool} (d : u ≡ notGreater (rule s .own) prev (keyOf (part b p x))) (v : u ≡ false) where
-        empty-is : isEmpty (rule s .own) a ≡ isEmpty (rule s .own) (l .arg)
+      module _ {u : Bool} (d : u ≡ notGreater (rule s .extra) prev (keyOf (part b p x))) (v : u ≡ false) where
+        empty-is : isEmpty (rule s .extra) a ≡ isEmpty (rule s .extra) (l .arg)
         empty-is = rw (stands b p k a q e .arg-is)
 
-        pub is-blank : {z : Bool} → z ≡ isEmpty (rule s .own) a → z ≡ true → Refused 12 p ≡ contentAt b p s prev
+        pub is-blank : {z : Bool} → z ≡ isEmpty (rule s .extra) a → z ≡ true → Refused 12 p ≡ contentAt b p s prev
         unfolding judgeContent
         is-blank w j = rw (not-short, well-spelt, sym order-is ∙ sym d ∙ v, sym empty-is ∙ sym w ∙ j) (refl) ∙ content-is
 
-        pub is-taken : {z : Bool} → z ≡ isEmpty (rule s .own) a → z ≡ false → Taken k a x ≡ contentAt b p s prev
+        pub is-taken : {z : Bool} → z ≡ isEmpty (rule s .extra) a → z ≡ false → Taken k a x ≡ contentAt b p s prev
         unfolding judgeContent
         is-taken w j =
             let st = stands b p k a q e in
@@ -218,7 +218,7 @@ module _ (b : List ℕ) (p : ℕ) (s : Slot) (prev : List ℕ) {k a q : ℕ} (e 
 -- a slot with no test of its own
 pub is-plain : (b : List ℕ) (p i : ℕ) (prev : List ℕ) {k a q : ℕ} → headAt b p ≡ Good k a q → q ≤ length b → {y : End} → y ≡ stringEnd b k a q
     → {x : ℕ} → y ≡ At x → {m : Bool} → m ≡ (eqb k 3 && not (rule (slotOf i) .spelling (part b q x))) → m ≡ false → all isByte b ≡ true
-    → fits k a (rule (slotOf i) .rows) ≡ true → IsSlot i → {o : ℕ} → o ≡ ownOf i → o ≡ 0 → Taken k a x ≡ contentAt b p (slotOf i) prev
+    → fits k a (rule (slotOf i) .rows) ≡ true → IsSlot i → {o : ℕ} → o ≡ extraOf i → o ≡ 0 → Taken k a x ≡ contentAt b p (slotOf i) prev
 is-plain b p i prev {k} {a} {q} e n g {x} f c t bs fit v {o} eo z =
     is-taken b p (slotOf i) prev e n g f c t bs fit (no-key i v eo (λ u. omega arith) prev (keyOf (part b p x))) refl (filled-other i v eo (λ u. omega arith) a) refl
 
@@ -266,8 +266,8 @@ module _ (b : List ℕ) (p i : ℕ) (prev : List ℕ) (c items d : ℕ) where
         unfolding judge
         stop-fits u = rw (spare, deep-is ∙ t, fits-is ∙ not-true y u) (refl) ∙ here-is
 
-        module _ (u : not y ≡ false) {z : Bool} (ez : z ≡ wrongVersion (rule (slotOf i) .own) a) where
-          version-is : wrongVersion (rule (slotOf i) .own) (st .lead .arg) ≡ z
+        module _ (u : not y ≡ false) {z : Bool} (ez : z ≡ wrongVersion (rule (slotOf i) .extra) a) where
+          version-is : wrongVersion (rule (slotOf i) .extra) (st .lead .arg) ≡ z
           version-is = rw (st .arg-is) (sym ez)
 
           pub stop-version : z ≡ true → Refused 8 p ≡ here

@@ -16,32 +16,32 @@ use Rattle.ari.specs.Name.{identifier, namespaceName}
 use Rattle.cbor.specs.Head.{Lead, size, leadBytes, shortBytes, isContainer, Got, got, getHead, stringSize, keyOf}
 use Rattle.buffer.proofs.ByteLaws.{and-true, or-true, all-take, all-drop}
 use Rattle.cbor.proofs.HeadLaws.{length-lead, lead-short, getHead-forth, key-own}
-use Rattle.ari.specs.Table.{Place, Slot, version, ari, type, value, namespace, objectNamespace, objectType, objectId, params, key, entry, nonce, setTime, target, report, reportTime, reportSource, Own, none, one, rising, filled, Rule, rule, fits, max64, max63}
+use Rattle.ari.specs.Table.{Place, Slot, version, ari, type, value, namespace, objectNamespace, objectType, objectId, params, key, entry, nonce, setTime, target, report, reportTime, reportSource, ExtraTest, none, one, rising, filled, Rule, rule, fits, max64, max63}
 use Rattle.cbor.specs.Head.{keyBytes}
 use Rattle.ari.specs.Reader.{keyAfter, wrongVersion, notGreater, isEmpty}
-use Rattle.grammar.specs.Code.{slotOf, ownOf, spelledAs}
+use Rattle.grammar.specs.Code.{slotOf, extraOf, spelledAs}
 use Rattle.grammar.specs.Code.{IsSlot}
-use Rattle.grammar.proofs.Right.{own-right}
+use Rattle.grammar.proofs.Right.{extra-right}
 use Rattle.grammar.proofs.Hits.{Rest, miss}
 use Rattle.buffer.specs.Bytes.{part}
 use Rattle.reader.specs.Steps.{keySpan}
 
 -- the slot's own test, by its number
-module _ (i : ℕ) (h : IsSlot i) {x : ℕ} (e : x ≡ ownOf i) where
-  own-is : rule (slotOf i) .own ≡ getD (none ∷ one ∷ rising ∷ filled ∷ []) x none
-  own-is = rw e (own-right i h)
+module _ (i : ℕ) (h : IsSlot i) {x : ℕ} (e : x ≡ extraOf i) where
+  own-is : rule (slotOf i) .extra ≡ getD (none ∷ one ∷ rising ∷ filled ∷ []) x none
+  own-is = rw e (extra-right i h)
 
-  pub is-one : x ≡ 1 → rule (slotOf i) .own ≡ one
+  pub is-one : x ≡ 1 → rule (slotOf i) .extra ≡ one
   is-one q = own-is ∙ rw q
 
-  pub is-rising : x ≡ 2 → rule (slotOf i) .own ≡ rising
+  pub is-rising : x ≡ 2 → rule (slotOf i) .extra ≡ rising
   is-rising q = own-is ∙ rw q
 
-  pub is-filled : x ≡ 3 → rule (slotOf i) .own ≡ filled
+  pub is-filled : x ≡ 3 → rule (slotOf i) .extra ≡ filled
   is-filled q = own-is ∙ rw q
 
 -- what the slots have in common whose own test is not number n
-module _ {A : Type 0} (f : Own → A) (a : A) (n : ℕ) (none-is : f none ≡ a) (one-is : (1 ≡ n → ⊥) → f one ≡ a) (rising-is : (2 ≡ n → ⊥) → f rising ≡ a)
+module _ {A : Type 0} (f : ExtraTest → A) (a : A) (n : ℕ) (none-is : f none ≡ a) (one-is : (1 ≡ n → ⊥) → f one ≡ a) (rising-is : (2 ≡ n → ⊥) → f rising ≡ a)
     (filled-is : (3 ≡ n → ⊥) → f filled ≡ a) where
   others-at : (x : ℕ) → (x ≡ n → ⊥) → f (getD (none ∷ one ∷ rising ∷ filled ∷ []) x none) ≡ a
   others-at zero m = none-is
@@ -50,23 +50,23 @@ module _ {A : Type 0} (f : Own → A) (a : A) (n : ℕ) (none-is : f none ≡ a)
   others-at (suc (suc (suc zero))) m = filled-is m
   others-at (suc (suc (suc (suc x)))) m = none-is
 
-  others : (i : ℕ) → IsSlot i → {x : ℕ} → x ≡ ownOf i → (x ≡ n → ⊥) → f (rule (slotOf i) .own) ≡ a
+  others : (i : ℕ) → IsSlot i → {x : ℕ} → x ≡ extraOf i → (x ≡ n → ⊥) → f (rule (slotOf i) .extra) ≡ a
   others i h {x} e m = rw (own-is i h e) (others-at x m)
 
-module _ (i : ℕ) (h : IsSlot i) {x : ℕ} (e : x ≡ ownOf i) where
-  pub not-one : (x ≡ 1 → ⊥) → (a : ℕ) → wrongVersion (rule (slotOf i) .own) a ≡ false
+module _ (i : ℕ) (h : IsSlot i) {x : ℕ} (e : x ≡ extraOf i) where
+  pub not-one : (x ≡ 1 → ⊥) → (a : ℕ) → wrongVersion (rule (slotOf i) .extra) a ≡ false
   not-one m a = others (λ o. wrongVersion o a) false 1 refl (λ n. absurd (n refl)) (λ n. refl) (λ n. refl) i h e m
 
-  pub not-rising : (x ≡ 2 → ⊥) → (p k : List ℕ) → notGreater (rule (slotOf i) .own) p k ≡ false
+  pub not-rising : (x ≡ 2 → ⊥) → (p k : List ℕ) → notGreater (rule (slotOf i) .extra) p k ≡ false
   not-rising m p k = others (λ o. notGreater o p k) false 2 refl (λ n. refl) (λ n. absurd (n refl)) (λ n. refl) i h e m
 
-  pub not-filled : (x ≡ 3 → ⊥) → (a : ℕ) → isEmpty (rule (slotOf i) .own) a ≡ false
+  pub not-filled : (x ≡ 3 → ⊥) → (a : ℕ) → isEmpty (rule (slotOf i) .extra) a ≡ false
   not-filled m a = others (λ o. isEmpty o a) false 3 refl (λ n. refl) (λ n. refl) (λ n. absurd (n refl)) i h e m
 
-  pub old-span : (x ≡ 2 → ⊥) → (a b : ℕ) → a ≡ keySpan (rule (slotOf i) .own) a b
+  pub old-span : (x ≡ 2 → ⊥) → (a b : ℕ) → a ≡ keySpan (rule (slotOf i) .extra) a b
   old-span m a b = sym (others (λ o. keySpan o a b) a 2 refl (λ n. refl) (λ n. absurd (n refl)) (λ n. refl) i h e m)
 
-  pub new-span : x ≡ 2 → (a b : ℕ) → b ≡ keySpan (rule (slotOf i) .own) a b
+  pub new-span : x ≡ 2 → (a b : ℕ) → b ≡ keySpan (rule (slotOf i) .extra) a b
   new-span q a b = rw (is-rising i h e q)
 
 -- only keys are ordered, and a key is a number or a text string
@@ -89,10 +89,10 @@ key-kind k a w e = go (or-true (eqb k 0 && within 0 max64 a) _ e)
     go (inl q) = let z : k ≡ 0 = eqb-true k 0 (and-true (eqb k 0) (within 0 max64 a) q .0) in omega arith
     go (inr q) = second (or-true (eqb k 1 && within 0 max63 a) _ q)
 
-unordered : {o : Own} → o ≡ rising → o ≡ none → ⊥
+unordered : {o : ExtraTest} → o ≡ rising → o ≡ none → ⊥
 unordered p q = let z : _≡_ {A = ℕ} 0 1 = cc in omega arith
 
-pub ordered-kind : (s : Slot) (k a : ℕ) → rule s .own ≡ rising → fits k a (rule s .rows) ≡ true → k ≤ 5
+pub ordered-kind : (s : Slot) (k a : ℕ) → rule s .extra ≡ rising → fits k a (rule s .rows) ≡ true → k ≤ 5
 unfolding rule
 ordered-kind version k a o e = absurd (let z : _≡_ {A = ℕ} 0 1 = cc in omega arith)
 ordered-kind (ari w) k a o e = absurd (unordered o refl)
@@ -131,30 +131,30 @@ pub own-key : (b : List ℕ) → all isByte b ≡ true → (p q : ℕ) → part 
 own-key b bs p q = sym (key-own (part b p q) (all-take isByte (q - p) (drop p b) (all-drop isByte p b bs)))
 
 -- only a key's bytes matter
-pub same-order : (o : Own) (prev k k′ : List ℕ) → (o ≡ rising → k ≡ k′) → notGreater o prev k ≡ notGreater o prev k′
+pub same-order : (o : ExtraTest) (prev k k′ : List ℕ) → (o ≡ rising → k ≡ k′) → notGreater o prev k ≡ notGreater o prev k′
 same-order none prev k k′ e = refl
 same-order one prev k k′ e = refl
 same-order rising prev k k′ e = rw (e refl)
 same-order filled prev k k′ e = refl
 
 -- what the functions answer, way by way
-module _ (i : ℕ) (h : IsSlot i) {x : ℕ} (e : x ≡ ownOf i) where
-  pub version-one : x ≡ 1 → (a : ℕ) → not (eqb a 1) ≡ wrongVersion (rule (slotOf i) .own) a
+module _ (i : ℕ) (h : IsSlot i) {x : ℕ} (e : x ≡ extraOf i) where
+  pub version-one : x ≡ 1 → (a : ℕ) → not (eqb a 1) ≡ wrongVersion (rule (slotOf i) .extra) a
   version-one q a = rw (is-one i h e q)
 
-  pub version-other : (x ≡ 1 → ⊥) → (a : ℕ) → false ≡ wrongVersion (rule (slotOf i) .own) a
+  pub version-other : (x ≡ 1 → ⊥) → (a : ℕ) → false ≡ wrongVersion (rule (slotOf i) .extra) a
   version-other q a = sym (not-one i h e q a)
 
-  pub rising-key : x ≡ 2 → (p k : List ℕ) {y : Bool} → y ≡ below p k → not y ≡ notGreater (rule (slotOf i) .own) p k
+  pub rising-key : x ≡ 2 → (p k : List ℕ) {y : Bool} → y ≡ below p k → not y ≡ notGreater (rule (slotOf i) .extra) p k
   rising-key q p k g = rw (is-rising i h e q, g)
 
-  pub no-key : (x ≡ 2 → ⊥) → (p k : List ℕ) → false ≡ notGreater (rule (slotOf i) .own) p k
+  pub no-key : (x ≡ 2 → ⊥) → (p k : List ℕ) → false ≡ notGreater (rule (slotOf i) .extra) p k
   no-key q p k = sym (not-rising i h e q p k)
 
-  pub filled-one : x ≡ 3 → (a : ℕ) → eqb a 0 ≡ isEmpty (rule (slotOf i) .own) a
+  pub filled-one : x ≡ 3 → (a : ℕ) → eqb a 0 ≡ isEmpty (rule (slotOf i) .extra) a
   filled-one q a = rw (is-filled i h e q)
 
-  pub filled-other : (x ≡ 3 → ⊥) → (a : ℕ) → false ≡ isEmpty (rule (slotOf i) .own) a
+  pub filled-other : (x ≡ 3 → ⊥) → (a : ℕ) → false ≡ isEmpty (rule (slotOf i) .extra) a
   filled-other q a = sym (not-filled i h e q a)
 
 pub ruleset owns = (version-one, version-other, rising-key, no-key, filled-one, filled-other)

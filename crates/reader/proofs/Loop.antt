@@ -12,7 +12,7 @@ use borrow.Author.Tests.{eqb-false, ne-eqb, eqb-true}
 use Rattle.buffer.specs.Bytes.{all, isByte}
 use Rattle.cbor.specs.Head.{Lead, size, stringSize, getHead, keyOf}
 use Rattle.buffer.proofs.ByteLaws.{and-true}
-use Rattle.ari.specs.Table.{Slot, Own, none, one, rising, filled, Level, done, due, rule, members}
+use Rattle.ari.specs.Table.{Slot, ExtraTest, none, one, rising, filled, Level, done, due, rule, members}
 use Rattle.cbor.specs.Head.{keyBytes}
 use Rattle.ari.specs.Reader.{keyAfter}
 use Rattle.ari.proofs.Due.{prevAfter}
@@ -58,7 +58,7 @@ key-part b bs left s prev d p k a q h kk =
     let i : p + (size l + stringSize l) ≡ q = rw (← z) (h .after-is) in
     rw (h .passed .string) (key-bytes b p l bs (h .head) kk (h .passed .there) q i) ∙ own-key b bs p q
 
-key-span : (b : List ℕ) (o : Own) (f t p q : ℕ) (kb : List ℕ) → (o ≡ rising → kb ≡ keyOf (part b p q))
+key-span : (b : List ℕ) (o : ExtraTest) (f t p q : ℕ) (kb : List ℕ) → (o ≡ rising → kb ≡ keyOf (part b p q))
     → keyAfter o (keyOf (part b f t)) kb ≡ keyOf (part b (keySpan o f p) (keySpan o t q))
 key-span b none f t p q kb e = refl
 key-span b one f t p q kb e = refl
@@ -105,13 +105,13 @@ module _ (b : List ℕ) (bs : all isByte b ≡ true) (items : ℕ) (s₀ : Slot)
         pub next-slotted : {j m′ : ℕ} → nx ≡ Due j m′ → IsSlot j
         next-slotted z = let s = next-right i k a n v kk fit .slotted in rw (← nn, z) at s
 
-        pub again : {j m′ : ℕ} → nx ≡ Due j m′ → {f′ t′ : ℕ} → f′ ≡ keySpan (rule (slotOf i) .own) f p → t′ ≡ keySpan (rule (slotOf i) .own) t q₀
+        pub again : {j m′ : ℕ} → nx ≡ Due j m′ → {f′ t′ : ℕ} → f′ ≡ keySpan (rule (slotOf i) .extra) f p → t′ ≡ keySpan (rule (slotOf i) .extra) t q₀
             → Leads b items s₀ n₀ prev₀ d around p₀ c₀ t₀ (slotOf j) m′ (keyOf (part b f′ t′)) q₁ e₁ tab₂
         again {j} {m′} z {f′} {t′} ef et =
-            let kp : rule (slotOf i) .own ≡ rising → keyBytes (tk .lead) (tk .str) ≡ keyOf (part b p q₀) = λ o.
+            let kp : rule (slotOf i) .extra ≡ rising → keyBytes (tk .lead) (tk .str) ≡ keyOf (part b p q₀) = λ o.
             key-part b bs (items - c) (slotOf i) (keyOf (part b f t)) d p k a q₀ tk (ordered-kind (slotOf i) (tk .lead .kind) (tk .lead .arg) o (tk .passed .fitting)) in
             let pv : prevAfter (slotOf i) (keyOf (part b f t)) (tk .lead) (tk .str) ≡ keyOf (part b f′ t′)
-            = rw (ef, et) (key-span b (rule (slotOf i) .own) f t p q₀ (keyBytes (tk .lead) (tk .str)) kp) in
+            = rw (ef, et) (key-span b (rule (slotOf i) .extra) f t p q₀ (keyBytes (tk .lead) (tk .str)) kp) in
             record { then = λ y. item (rw (← next-is, z, pv) y) }
 
 pub ruleset turns = (begins, halts, breaks, ends, again, next-slotted)

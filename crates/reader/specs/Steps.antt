@@ -9,7 +9,7 @@ use Rattle.buffer.specs.Bytes.{within}
 use Rattle.cbor.specs.declared.Head as cbor
 use Rattle.cbor.specs.declared.Head.the-variants as cbors
 use Rattle.cbor.specs.Head.{text, Lead, size, Got, bad, got, getHead, stringSize, isContainer}
-use Rattle.ari.specs.Table.{Slot, Own, none, one, rising, filled, rule}
+use Rattle.ari.specs.Table.{Slot, ExtraTest, none, one, rising, filled, rule}
 use Rattle.cbor.specs.Head.{keyBytes}
 use Rattle.ari.specs.Reader.{notGreater, isEmpty, judgeContent, judgeGot}
 use Rattle.ari.specs.Reader as reader
@@ -68,7 +68,7 @@ stoppedOf (Refused r x) = walk.Refused r x
 stoppedOf (Taken k a q) = walk.Refused 0 0
 
 -- one end of the key before: that of a key is its own, any other slot leaves it
-abbrev pub keySpan : Own → ℕ → ℕ → ℕ
+abbrev pub keySpan : ExtraTest → ℕ → ℕ → ℕ
 keySpan none old new = old
 keySpan one old new = old
 keySpan rising old new = new

@@ -11,7 +11,7 @@ ghost use Rattle.cbor.specs.Head.{isContainer, keyOf};
 ghost use Rattle.cbor.specs.Answer.{headAt};
 ghost use Rattle.cbor.specs.declared.Head.the-variants.{Good};
 ghost use Rattle.ari.specs.Table.{rule, due};
-ghost use Rattle.grammar.specs.Code.{fitsCode, ownOf};
+ghost use Rattle.grammar.specs.Code.{fitsCode, extraOf};
 ghost use Rattle.ari.specs.Reader.{wrongVersion, notGreater, isEmpty};
 ghost use Rattle.grammar.specs.Code.{slotOf};
 ghost use Rattle.grammar.specs.Code.{IsSlot};
@@ -50,11 +50,11 @@ pub enum Walk {
 }
 
 // Test 8.
-fn wrong_version(slot: u64, own: u64, arg: u64) -> bool
-    requires { ⌜ IsSlot slot × (own ≡ ownOf slot) ⌝ }
-    ensures { λ r. ⌜ r ≡ wrongVersion (rule (slotOf slot) .own) arg ⌝ }
+fn wrong_version(slot: u64, extra: u64, arg: u64) -> bool
+    requires { ⌜ IsSlot slot × (extra ≡ extraOf slot) ⌝ }
+    ensures { λ r. ⌜ r ≡ wrongVersion (rule (slotOf slot) .extra) arg ⌝ }
 {
-    if own == 1 {
+    if extra == 1 {
         return arg != 1;
     }
     false
@@ -97,8 +97,8 @@ fn is_spelled(slot: u64, t: &[u8]) -> bool
     requires { ⌜ IsSlot slot ⌝ }
     ensures { λ r. ⌜ r ≡ rule (slotOf slot) .spelling (now (t .entry)) ⌝ }
 {
-    let way = grammar::spelling(slot);
-    match way {
+    let spelling = grammar::spelling(slot);
+    match spelling {
         0 => cbor::is_utf8(t),
         1 => grammar::is_identifier(t),
         2 => grammar::is_namespace_name(t),
@@ -118,11 +118,11 @@ fn is_misspelt(s: &[u8], slot: u64, kind: u8, next: usize, end: usize) -> bool
 }
 
 // Test 11.
-fn is_not_greater(s: &[u8], slot: u64, own: u64, prev: Span, at: usize, end: usize) -> bool
-    requires { ⌜ IsSlot slot × (own ≡ ownOf slot) × (prev .from ≤ prev .to) × (prev .to ≤ length (now s)) × (at ≤ end) × (end ≤ length (now s)) ⌝ }
-    ensures { λ r. ⌜ r ≡ notGreater (rule (slotOf slot) .own) (keyOf (part (now (s .entry)) (prev .from) (prev .to))) (keyOf (part (now (s .entry)) at end)) ⌝ }
+fn is_not_greater(s: &[u8], slot: u64, extra: u64, prev: Span, at: usize, end: usize) -> bool
+    requires { ⌜ IsSlot slot × (extra ≡ extraOf slot) × (prev .from ≤ prev .to) × (prev .to ≤ length (now s)) × (at ≤ end) × (end ≤ length (now s)) ⌝ }
+    ensures { λ r. ⌜ r ≡ notGreater (rule (slotOf slot) .extra) (keyOf (part (now (s .entry)) (prev .from) (prev .to))) (keyOf (part (now (s .entry)) at end)) ⌝ }
 {
-    if own == 2 {
+    if extra == 2 {
         let from = prev.from;
         let to = prev.to;
         return !cbor::is_key_below(&s[from..to], &s[at..end]);
@@ -131,11 +131,11 @@ fn is_not_greater(s: &[u8], slot: u64, own: u64, prev: Span, at: usize, end: usi
 }
 
 // Test 12.
-fn is_empty(slot: u64, own: u64, arg: u64) -> bool
-    requires { ⌜ IsSlot slot × (own ≡ ownOf slot) ⌝ }
-    ensures { λ r. ⌜ r ≡ isEmpty (rule (slotOf slot) .own) arg ⌝ }
+fn is_empty(slot: u64, extra: u64, arg: u64) -> bool
+    requires { ⌜ IsSlot slot × (extra ≡ extraOf slot) ⌝ }
+    ensures { λ r. ⌜ r ≡ isEmpty (rule (slotOf slot) .extra) arg ⌝ }
 {
-    if own == 3 {
+    if extra == 3 {
         return arg == 0;
     }
     false
@@ -146,13 +146,13 @@ fn judge_content(
     s: &[u8],
     at: usize,
     slot: u64,
-    own: u64,
+    extra: u64,
     prev: Span,
     kind: u8,
     arg: u64,
     next: usize,
 ) -> Step
-    requires { ⌜ (all isByte (now s) ≡ true) × IsSlot slot × (own ≡ ownOf slot) × (prev .from ≤ prev .to) × (prev .to ≤ length (now s)) ⌝ }
+    requires { ⌜ (all isByte (now s) ≡ true) × IsSlot slot × (extra ≡ extraOf slot) × (prev .from ≤ prev .to) × (prev .to ≤ length (now s)) ⌝ }
     requires { ⌜ (headAt (now s) at ≡ Good kind arg next) × (at < next) × (next ≤ length (now s)) × (fitsCode slot kind arg ≡ true) × (kind ≤ 9) ⌝ }
     ensures { λ r. ⌜ r ≡ contentAt (now (s .entry)) at (slotOf slot) (keyOf (part (now (s .entry)) (prev .from) (prev .to))) ⌝ }
     ensures { λ r. ⌜ ContentShown (now (s .entry)) kind arg next r ⌝ }
@@ -170,20 +170,20 @@ fn judge_content(
             place: at,
         };
     }
-    if own == 0 {
+    if extra == 0 {
         return Step::Taken {
             kind,
             arg,
             after: end,
         };
     }
-    if is_not_greater(s, slot, own, prev, at, end) {
+    if is_not_greater(s, slot, extra, prev, at, end) {
         return Step::Refused {
             number: 11,
             place: at,
         };
     }
-    if is_empty(slot, own, arg) {
+    if is_empty(slot, extra, arg) {
         return Step::Refused {
             number: 12,
             place: at,
@@ -262,20 +262,20 @@ fn take_head(
             place: at,
         };
     }
-    let own = grammar::extra_test(slot);
-    if wrong_version(slot, own, arg) {
+    let extra = grammar::extra_test(slot);
+    if wrong_version(slot, extra, arg) {
         return Step::Refused {
             number: 8,
             place: at,
         };
     }
-    judge_content(s, at, slot, own, prev, kind, arg, next)
+    judge_content(s, at, slot, extra, prev, kind, arg, next)
 }
 
 // The key before, for what is due next on a level.
 fn key_after(slot: u64, prev: Span, from: usize, to: usize) -> Span
     requires { ⌜ IsSlot slot ⌝ }
-    ensures { λ r. ⌜ (r .from ≡ keySpan (rule (slotOf slot) .own) (prev .from) from) × (r .to ≡ keySpan (rule (slotOf slot) .own) (prev .to) to) ⌝ }
+    ensures { λ r. ⌜ (r .from ≡ keySpan (rule (slotOf slot) .extra) (prev .from) from) × (r .to ≡ keySpan (rule (slotOf slot) .extra) (prev .to) to) ⌝ }
 {
     if grammar::extra_test(slot) == grammar::KEY_TEST {
         return Span { from, to };

@@ -9,7 +9,7 @@ use borrow.Author.Tests.{ne-eqb}
 use Rattle.buffer.specs.Bytes.{all, isByte}
 use Rattle.cbor.specs.Head.{array, map, simple, Lead, isContainer}
 use Rattle.buffer.proofs.ByteLaws.{and-true}
-use Rattle.ari.specs.Table.{Own, one, rising, filled, Place, Slot, ari, type, value, namespace, objectNamespace, objectType, objectId, key, Level, done, due, many, ariLevel, rule, members}
+use Rattle.ari.specs.Table.{ExtraTest, one, rising, filled, Place, Slot, ari, type, value, namespace, objectNamespace, objectType, objectId, key, Level, done, due, many, ariLevel, rule, members}
 use Rattle.ari.specs.Items.{Items, none, item}
 use Rattle.ari.specs.Rules.{Ari}
 use Rattle.ari.proofs.Due.{Fit, prevAfter, members-leaf}
@@ -53,15 +53,15 @@ unfolding commas opened
 commas-end r = omega (arith, behind r)
 
 -- the commas of a level: between ARIs, and between pairs
-abbrev isRising : Own → Bool
-isRising Own.none = false
+abbrev isRising : ExtraTest → Bool
+isRising ExtraTest.none = false
 isRising one = false
 isRising rising = true
 isRising filled = false
 
 abbrev pub commasDue : Level → ℕ
 commasDue done = 0
-commasDue (due s n) = cond (rule s .asks || isRising (rule s .own)) n 0
+commasDue (due s n) = cond (rule s .takesReference || isRising (rule s .extra)) n 0
 
 -- counted where no other parenthesis is open
 abbrev pub atFirst : ℕ → ℕ → ℕ

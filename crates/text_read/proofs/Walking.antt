@@ -21,7 +21,7 @@ use Rattle.grammar.specs.Code.{IsSlot}
 use Rattle.grammar.proofs.Right.{Stands, Slotted, next-stands, inside-right}
 use Rattle.reader.specs.Walks.{insideLevel}
 use Rattle.buffer.specs.Put.{Put}
-use Rattle.text_write_item.specs.Spellings.{wayAt, afterBy}
+use Rattle.text_write_item.specs.Spellings.{spellingAt, afterBy}
 use Rattle.buffer.proofs.Putting.{put-nothing, put-out, put-other, put-size, put-end, put-over, put-both}
 use Rattle.text_write_item.proofs.Spelled.{isDue, after-is}
 use Rattle.text.specs.Text.{spell}
@@ -116,7 +116,7 @@ module _ (t : List ℕ) (items d i n p at k : ℕ) {room room₁ : List ℕ} {x 
     next-slotted q = rw (← nn, q) at (next-stands i (x .arg) n v small .slotted)
 
     module _ {room₂ : List ℕ} {w : Pos} (m : Parsed t (parse items d (insideLevel (slotOf i) (x .kind) (x .arg)) (drop (x .next) t)) (x .end) room₁ room₂ w)
-        {s q : ℕ} (e : s ≡ length (afterBy (wayAt i) (x .kind) (isDue (levelOf nx)))) (g : NextTo t (w .next) s q) where
+        {s q : ℕ} (e : s ≡ length (afterBy (spellingAt i) (x .kind) (isDue (levelOf nx)))) (g : NextTo t (w .next) s q) where
       -- the members, and what is read beside them
       abbrev ms : Run
       ms = parse items d (members (slotOf i) l) (h .rest)
@@ -207,17 +207,17 @@ module _ (t : List ℕ) (items d i n p at fuel : ℕ) {run : Run} {at₀ : ℕ} 
 
   module _ (f : 0 < fuel) {room₁ : List ℕ} {x : read.Item} (y : Read t (takeAt (slotOf i) (drop p t)) at room room₁ x) (v : IsSlot i) {nx : Next} (nn : nx ≡ nextCode i (x .arg) n)
       {room₂ : List ℕ} {w : Pos} (m : Parsed t (parse items d (insideLevel (slotOf i) (x .kind) (x .arg)) (drop (x .next) t)) (x .end) room₁ room₂ w) where
-    turn : {s q : ℕ} → s ≡ length (afterBy (wayAt i) (x .kind) (isDue (levelOf nx))) → NextTo t (w .next) s q → {room₃ : List ℕ} {z : Pos}
+    turn : {s q : ℕ} → s ≡ length (afterBy (spellingAt i) (x .kind) (isDue (levelOf nx))) → NextTo t (w .next) s q → {room₃ : List ℕ} {z : Pos}
         → Parsed t (level (parse items d) (fuel - 1) (levelOf nx) (drop q t)) (w .end) room₂ room₃ z → Parsed t run at₀ room₀ room₃ z
     turn e g u =
         let c : suc (fuel - 1) ≡ fuel = omega arith in
         a .then (rw c at (turned t items d i n p at (fuel - 1) y v nn m e g u))
 
-    pub ends : {s q : ℕ} → nx ≡ Done → s ≡ length (afterBy (wayAt i) (x .kind) false) → NextTo t (w .next) s q → Parsed t run at₀ room₀ room₂ (pos q (w .end))
+    pub ends : {s q : ℕ} → nx ≡ Done → s ≡ length (afterBy (spellingAt i) (x .kind) false) → NextTo t (w .next) s q → Parsed t run at₀ room₀ room₂ (pos q (w .end))
     ends {s} {q} o e g =
         turn (rw o e) g (parsed-as (idle t q (w .end) room₂ (g .inside)) (sym (rw o (level-done (parse items d) (fuel - 1) (drop q t)))))
 
-    pub again : {s q j k : ℕ} → nx ≡ Due j k → s ≡ length (afterBy (wayAt i) (x .kind) true) → NextTo t (w .next) s q
+    pub again : {s q j k : ℕ} → nx ≡ Due j k → s ≡ length (afterBy (spellingAt i) (x .kind) true) → NextTo t (w .next) s q
         → Toward t run at₀ room₀ (level (parse items d) (fuel - 1) (due (slotOf j) k) (drop q t)) (w .end) room₂
     again o e g = record { then = λ u. turn (rw o e) g (rw o u) }
 

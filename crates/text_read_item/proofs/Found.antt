@@ -20,7 +20,7 @@ use Rattle.text.specs.Chars.{ascii}
 use Rattle.text.specs.Text.{Name, name, names}
 use Rattle.text.specs.Parse.{ends, inWord, startsBy, starts, number, any, unescape, unhexes, inner, headOf, stringOf, integerOf, literalOf, startsNumber, nameOf, numberIn, typeNumber, typeOf, commas, count, Taken, takeWord, takeGroup, parts, takeReference, takeAri, takeNothing}
 use Rattle.text_read_item.specs.declared.Word.{Word}
-use Rattle.text_read_item.specs.Words.{firstOf, NextTo, strBy, Small, Bounded, Found, plainAt, wordAt, textWord, bytesWord, horner, keyOf, keyIn, takeValue, takeSpace, takeParams, takeWay}
+use Rattle.text_read_item.specs.Words.{firstOf, NextTo, strBy, Small, Bounded, Found, plainAt, wordAt, textWord, bytesWord, horner, keyOf, keyIn, takeValue, takeSpace, takeParams, takeSpelled}
 
 abbrev pub word : ℕ → ℕ → ℕ → ℕ → ℕ → ℕ → Word
 word k a f x y n = record { kind = k; arg = a; form = f; from = x; to = y; next = n }
@@ -371,18 +371,18 @@ module _ (t : List ℕ) (at : ℕ) where
     pub params-array : {w : Word} → x ≡ false → Found t (takeGroup 4 (drop at t)) w → Found t (takeParams (drop at t)) w
     params-array h f = found-as f (rw (keyed, h))
 
--- by the way of a slot
-pub way-by : (t : List ℕ) (w i k at : ℕ) {y : Taken} {x : Word} → w ≡ i → Found t y x → y ≡ takeWay i k (drop at t) → Found t (takeWay w k (drop at t)) x
-way-by t w i k at e f q = rw e (found-as f q)
+-- by the spelling of a slot
+pub spelling-by : (t : List ℕ) (w i k at : ℕ) {y : Taken} {x : Word} → w ≡ i → Found t y x → y ≡ takeSpelled i k (drop at t) → Found t (takeSpelled w k (drop at t)) x
+spelling-by t w i k at e f q = rw e (found-as f q)
 
-pub no-way : (t : List ℕ) (w k at : ℕ) {x : Word} → (w ≡ 1 → ⊥) → (w ≡ 2 → ⊥) → (w ≡ 3 → ⊥) → (w ≡ 4 → ⊥) → (w ≡ 5 → ⊥) → (w ≡ 6 → ⊥) → (w ≡ 7 → ⊥) → (w ≡ 8 → ⊥) → (w ≡ 9 → ⊥)
-    → (w ≡ 10 → ⊥) → Found t (plainAt t 6 22 at) x → Found t (takeWay w k (drop at t)) x
-unfolding takeWay
-no-way t w k at a b c d e f g h i j p =
+pub no-spelling : (t : List ℕ) (w k at : ℕ) {x : Word} → (w ≡ 1 → ⊥) → (w ≡ 2 → ⊥) → (w ≡ 3 → ⊥) → (w ≡ 4 → ⊥) → (w ≡ 5 → ⊥) → (w ≡ 6 → ⊥) → (w ≡ 7 → ⊥) → (w ≡ 8 → ⊥) → (w ≡ 9 → ⊥)
+    → (w ≡ 10 → ⊥) → Found t (plainAt t 6 22 at) x → Found t (takeSpelled w k (drop at t)) x
+unfolding takeSpelled
+no-spelling t w k at a b c d e f g h i j p =
     found-as p (rw (ne-eqb w 1 a, ne-eqb w 2 b, ne-eqb w 3 c, ne-eqb w 4 d, ne-eqb w 5 e, ne-eqb w 6 f, ne-eqb w 7 g, ne-eqb w 8 h, ne-eqb w 9 i, ne-eqb w 10 j))
 
 pub ruleset found = (small-count, small-simple, plain-found, count-none, count-some, grouped, params-follow, parts-out, parts-end, parts-four, parts-three, referred, negative-none, negative-some, from-zero, text-none, text-some, bytes-none, bytes-some, name-number, name-bare, type-found)
 
 pub ruleset literals = (small-simple, literal-text, literal-bytes, literal-false, literal-true, literal-null, literal-undefined, literal-integer)
 
-pub ruleset placed = (small-simple, small-count, word-found, absolute-found, space-relative, space-absolute, ari-reference, ari-typed, ari-relative, ari-literal, value-group, value-word, params-map, params-array, no-way)
+pub ruleset placed = (small-simple, small-count, word-found, absolute-found, space-relative, space-absolute, ari-reference, ari-typed, ari-relative, ari-literal, value-group, value-word, params-map, params-array, no-spelling)

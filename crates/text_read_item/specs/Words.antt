@@ -82,7 +82,7 @@ keyIn (name n s ∷ es) k = cond (eqb k (keyOf (ascii s))) n (keyIn es k)
 abbrev pub commaOf : ℕ → ℕ → ℕ
 commaOf e x = cond (eqb x (code ",") && eqb e 1) 1 0
 
--- the ways in which a slot's head is read
+-- how a slot's head is read, by its spelling
 abbrev pub takeValue : (List ℕ → Headed) → ℕ → List ℕ → Taken
 takeValue f k t = cond (starts (code "(") t) (takeGroup k t) (takeWord f t)
 
@@ -95,8 +95,8 @@ takeParams t = takeGroup (cond (starts (code "=") (past inWord (drop 1 t))) map 
 abbrev pub groupOf : ℕ → ℕ
 groupOf i = cond (eqb i 45) array (cond (eqb i 67) array map)
 
-unfoldable pub takeWay : ℕ → ℕ → List ℕ → Taken
-takeWay w k t =
+unfoldable pub takeSpelled : ℕ → ℕ → List ℕ → Taken
+takeSpelled w k t =
     cond (eqb w 1) (takeAri t)
     (cond (eqb w 2) (takeWord typeOf t)
     (cond (eqb w 3) (takeValue literalOf k t)

@@ -8,10 +8,10 @@ ghost use Rattle.buffer.specs.Bytes.{part};
 ghost use Rattle.cbor.specs.Head.{leadBytes, leadOf};
 ghost use Rattle.grammar.specs.Code.{slotOf};
 ghost use Rattle.buffer.specs.Put.{Put};
-ghost use Rattle.text_write_item.specs.Spellings.{wayAt, afterBy};
+ghost use Rattle.text_write_item.specs.Spellings.{spellingAt, afterBy};
 ghost use Rattle.text.specs.Parse.{ends, inWord, starts, number, unhex, any, unescape, unhexes, integerOf, literalOf, nameOf, typeOf, typeNumber, startsNumber, opened, commas, count, parts, takeWord, takeReference, takeAri, takeGroup, takeAt};
 ghost use Rattle.text.specs.Text.{names};
-ghost use Rattle.text_read_item.specs.Words.{firstOf, NextTo, EscapeAt, strBy, Small, Bounded, Found, plainAt, wordAt, textWord, bytesWord, keyOf, keyIn, commaOf, takeValue, takeSpace, takeParams, groupOf, takeWay, Read};
+ghost use Rattle.text_read_item.specs.Words.{firstOf, NextTo, EscapeAt, strBy, Small, Bounded, Found, plainAt, wordAt, textWord, bytesWord, keyOf, keyIn, commaOf, takeValue, takeSpace, takeParams, groupOf, takeSpelled, Read};
 
 // A head that was read: its kind and argument, the text behind what it writes before its members, the place behind its bytes.
 pub struct Item {
@@ -596,11 +596,11 @@ fn params_at(t: &[u8], at: usize) -> Word
     group(t, 4, at)
 }
 
-fn take_way(t: &[u8], at: usize, way: u8, kind: u8) -> Word
+fn take_spelled(t: &[u8], at: usize, spelling: u8, kind: u8) -> Word
     requires { ⌜ (at ≤ length (now t)) × (kind ≤ 5) ⌝ }
-    ensures { λ r. ⌜ Found (now (t .entry)) (takeWay way kind (drop at (now (t .entry)))) r ⌝ }
+    ensures { λ r. ⌜ Found (now (t .entry)) (takeSpelled spelling kind (drop at (now (t .entry)))) r ⌝ }
 {
-    match way {
+    match spelling {
         text_write_item::AS_ARI => ari_at(t, at),
         text_write_item::AS_TYPE => type_at(t, at),
         text_write_item::AS_VALUE => value_at(t, at, kind),
@@ -641,7 +641,7 @@ pub fn take_item(t: &[u8], at: usize, slot: u64, out: &mut [u8], end: usize) -> 
     ensures { λ r. ⌜ Read (now (t .entry)) (takeAt (slotOf slot) (drop at (now (t .entry)))) end (now (out .entry)) (now (out .exit)) r ⌝ }
 {
     let p = skip(t, 0, at);
-    let x = take_way(t, p, text_write_item::way_of(slot), group_of(slot));
+    let x = take_spelled(t, p, text_write_item::spelling_of(slot), group_of(slot));
     let r = put_word(t, x, out, end);
     Item {
         kind: x.kind,
@@ -653,9 +653,9 @@ pub fn take_item(t: &[u8], at: usize, slot: u64, out: &mut [u8], end: usize) -> 
 
 // How much text stands behind a head's members; whether more is due beside it.
 pub fn size_after(slot: u64, kind: u8, more: bool) -> usize
-    ensures { λ r. ⌜ r ≡ length (afterBy (wayAt slot) kind more) ⌝ }
+    ensures { λ r. ⌜ r ≡ length (afterBy (spellingAt slot) kind more) ⌝ }
 {
-    match text_write_item::way_of(slot) {
+    match text_write_item::spelling_of(slot) {
         text_write_item::AS_ARI => more as usize,
         text_write_item::AS_TYPE => 1,
         text_write_item::AS_VALUE => text_write_item::is_container(kind) as usize,

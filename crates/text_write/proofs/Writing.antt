@@ -25,7 +25,7 @@ use Rattle.buffer.specs.Bytes.{part}
 use Rattle.reader.specs.Walks.{insideLevel}
 use Rattle.text.specs.Text.{spell, texts}
 use Rattle.buffer.specs.Put.{Put}
-use Rattle.text_write_item.specs.Spellings.{wayAt, beforeBy, afterBy}
+use Rattle.text_write_item.specs.Spellings.{spellingAt, beforeBy, afterBy}
 use Rattle.buffer.proofs.Putting.{put-nothing, put-both}
 use Rattle.text_write_item.proofs.Spelled.{isDue, before-is, after-is}
 use Rattle.text_write.specs.declared.Item.{Item}
@@ -36,11 +36,11 @@ use Rattle.text_write.specs.Walks.{Inside, ItemAt, Writes}
 abbrev pub pos : ℕ → ℕ → Pos
 pos p r = record { next = p; end = r }
 
-pub before-way : {a b : List ℕ} {at r w : ℕ} (i k n : ℕ) (s : List ℕ) → w ≡ wayAt i → Put a b at r (beforeBy w k n s) → Put a b at r (beforeBy (wayAt i) k n s)
-before-way i k n s e p = rw e at p
+pub before-spelling : {a b : List ℕ} {at r w : ℕ} (i k n : ℕ) (s : List ℕ) → w ≡ spellingAt i → Put a b at r (beforeBy w k n s) → Put a b at r (beforeBy (spellingAt i) k n s)
+before-spelling i k n s e p = rw e at p
 
-pub after-way : {a b : List ℕ} {at r w : ℕ} (i k : ℕ) (m : Bool) → w ≡ wayAt i → Put a b at r (afterBy w k m) → Put a b at r (afterBy (wayAt i) k m)
-after-way i k m e p = rw e at p
+pub after-spelling : {a b : List ℕ} {at r w : ℕ} (i k : ℕ) (m : Bool) → w ≡ spellingAt i → Put a b at r (afterBy w k m) → Put a b at r (afterBy (spellingAt i) k m)
+after-spelling i k m e p = rw e at p
 
 -- the level has ended
 pub ended : (b : List ℕ) (d p at : ℕ) (room : List ℕ) → p ≤ length b → Writes b done d p at (pos p at) room room
@@ -101,8 +101,8 @@ module _ (b : List ℕ) (i n d p at : ℕ) {x : Item} (y : ItemAt b p i d x) {k 
     pub next-slotted : {j m : ℕ} → nx ≡ Due j m → IsSlot j
     next-slotted z = rw (← nn, z) at (slotted i a n v)
 
-    module _ {room room₁ room₂ room₃ : List ℕ} {q q₃ : ℕ} {w : Pos} (before : Put room room₁ at q (beforeBy (wayAt i) k a (part b f t)))
-        (m : Writes b (insideLevel (slotOf i) k a) (pred d) t q w room₁ room₂) (after : Put room₂ room₃ (w .end) q₃ (afterBy (wayAt i) k (isDue (levelOf nx)))) where
+    module _ {room room₁ room₂ room₃ : List ℕ} {q q₃ : ℕ} {w : Pos} (before : Put room room₁ at q (beforeBy (spellingAt i) k a (part b f t)))
+        (m : Writes b (insideLevel (slotOf i) k a) (pred d) t q w room₁ room₂) (after : Put room₂ room₃ (w .end) q₃ (afterBy (spellingAt i) k (isDue (levelOf nx)))) where
       onward-text : {u : Pos} {room′ : List ℕ} → Writes b (levelOf nx) d (w .next) q₃ u room₃ room′ → (g : Items) (prev z : List ℕ)
           → fit.Due g (push (due (slotOf i) n) prev d end) → drop p b ≡ encode g ++ z
           → (u .next ≡ p + length (encode g)) × Put room room′ at (u .end) (texts g (due (slotOf i) n))
@@ -149,15 +149,15 @@ module _ (b : List ℕ) (v₀ : Level) (d p₀ at₀ : ℕ) (room₀ : List ℕ)
   halts q h = lead .then (halted b i n d p at room y q h)
 
   module _ {k a f t : ℕ} (e : x ≡ Taken k a f t) (v : IsSlot i) {nx : Next} (nn : nx ≡ nextCode i a n) {room₁ room₂ room₃ : List ℕ} {q q₃ : ℕ} {w : Pos}
-      (before : Put room room₁ at q (beforeBy (wayAt i) k a (part b f t))) (m : Writes b (insideLevel (slotOf i) k a) (pred d) t q w room₁ room₂) where
-    pub ends : nx ≡ Done → Put room₂ room₃ (w .end) q₃ (afterBy (wayAt i) k false) → Writes b v₀ d p₀ at₀ (pos (w .next) q₃) room₀ room₃
+      (before : Put room room₁ at q (beforeBy (spellingAt i) k a (part b f t))) (m : Writes b (insideLevel (slotOf i) k a) (pred d) t q w room₁ room₂) where
+    pub ends : nx ≡ Done → Put room₂ room₃ (w .end) q₃ (afterBy (spellingAt i) k false) → Writes b v₀ d p₀ at₀ (pos (w .next) q₃) room₀ room₃
     ends z after =
-        let z₁ : Put room₂ room₃ (w .end) q₃ (afterBy (wayAt i) k (isDue (levelOf nx))) = rw z after in
+        let z₁ : Put room₂ room₃ (w .end) q₃ (afterBy (spellingAt i) k (isDue (levelOf nx))) = rw z after in
         lead .then (onward b i n d p at y e v nn before m z₁ (rw z (ended b d (w .next) q₃ room₃ (m .within))))
 
-    pub again : {j l : ℕ} → nx ≡ Due j l → Put room₂ room₃ (w .end) q₃ (afterBy (wayAt i) k true) → Leads b v₀ d p₀ at₀ room₀ (due (slotOf j) l) (w .next) q₃ room₃
+    pub again : {j l : ℕ} → nx ≡ Due j l → Put room₂ room₃ (w .end) q₃ (afterBy (spellingAt i) k true) → Leads b v₀ d p₀ at₀ room₀ (due (slotOf j) l) (w .next) q₃ room₃
     again z after =
-        let z₁ : Put room₂ room₃ (w .end) q₃ (afterBy (wayAt i) k (isDue (levelOf nx))) = rw z after in
+        let z₁ : Put room₂ room₃ (w .end) q₃ (afterBy (spellingAt i) k (isDue (levelOf nx))) = rw z after in
         record { then = λ s. lead .then (onward b i n d p at y e v nn before m z₁ (rw z s)) }
 
 -- what is due inside a head
@@ -176,4 +176,4 @@ module _ (i k a : ℕ) {x : Next} (e : x ≡ insideCode i k a) (v : IsSlot i) wh
 pub falls-on : (n p f t q : ℕ) → p < f → f ≤ t → t ≤ q → q ≤ n → n - q < n - p
 falls-on n p f t q h g k l = omega arith
 
-pub ruleset writing = (before-way, after-way, taken-on, taken-order, taken-in, taken-shallow, next-slotted, begins, halts, ends, again, nothing-inside, opened)
+pub ruleset writing = (before-spelling, after-spelling, taken-on, taken-order, taken-in, taken-shallow, next-slotted, begins, halts, ends, again, nothing-inside, opened)

@@ -12,7 +12,7 @@ ghost use Rattle.grammar.specs.Code.{IsSlot};
 ghost use Rattle.buffer.specs.Bytes.{part};
 ghost use Rattle.reader.specs.Walks.{insideLevel};
 ghost use Rattle.buffer.specs.Put.{Put};
-ghost use Rattle.text_write_item.specs.Spellings.{wayAt, beforeBy, afterBy};
+ghost use Rattle.text_write_item.specs.Spellings.{spellingAt, beforeBy, afterBy};
 ghost use Rattle.text_write.specs.Walks.{ItemAt, Writes};
 ghost use Rattle.ari.specs.Limits.{firstLimits, capped};
 ghost use Rattle.ari.specs.declared.Input.the-variants.{Single};
@@ -75,18 +75,18 @@ fn write_before(
     at: usize,
 ) -> usize
     requires { ⌜ IsSlot slot × (from ≤ to) × (to ≤ length (now s)) ⌝ }
-    ensures { λ r. ⌜ Put (now (out .entry)) (now (out .exit)) at r (beforeBy (wayAt slot) kind arg (part (now (s .entry)) from to)) ⌝ }
+    ensures { λ r. ⌜ Put (now (out .entry)) (now (out .exit)) at r (beforeBy (spellingAt slot) kind arg (part (now (s .entry)) from to)) ⌝ }
 {
-    let way = text_write_item::way_of(slot);
-    text_write_item::put_before(out, at, way, kind, arg, &s[from..to])
+    let spelling = text_write_item::spelling_of(slot);
+    text_write_item::put_before(out, at, spelling, kind, arg, &s[from..to])
 }
 
 fn write_after(slot: u64, kind: u8, more: bool, out: &mut [u8], at: usize) -> usize
     requires { ⌜ IsSlot slot ⌝ }
-    ensures { λ r. ⌜ Put (now (out .entry)) (now (out .exit)) at r (afterBy (wayAt slot) kind more) ⌝ }
+    ensures { λ r. ⌜ Put (now (out .entry)) (now (out .exit)) at r (afterBy (spellingAt slot) kind more) ⌝ }
 {
-    let way = text_write_item::way_of(slot);
-    text_write_item::put_after(out, at, way, kind, more)
+    let spelling = text_write_item::spelling_of(slot);
+    text_write_item::put_after(out, at, spelling, kind, more)
 }
 
 // The members of a head at a slot.

@@ -1,4 +1,4 @@
--- The ways through the functions that spell a head; and the ways of spelling are those of the slots.
+-- The ways through the functions that spell a head; and the spellings are those of the slots.
 use Prim.Native.Nat.{ℕ, zero, suc, _-_, _*_, _/_, _%_, _^_, _≤_, _<_}
 use mathlib.Core.Path.{_≡_, refl, sym, _∙_, ap}
 use mathlib.Core.Bool.{Bool, true, false, _&&_, _||_, cond, true≢false}
@@ -15,7 +15,7 @@ use Rattle.text.specs.Chars.{ascii, literalText, nameText}
 use Rattle.text.specs.Text.{typeName, spell}
 use Rattle.buffer.specs.Put.{Put}
 use Rattle.text_write_item.specs.Head.{headOf}
-use Rattle.text_write_item.specs.Spellings.{ways, wayAt, ariText, opening, spaceText, beforeBy, closing, afterBy}
+use Rattle.text_write_item.specs.Spellings.{spellings, spellingAt, ariText, opening, spaceText, beforeBy, closing, afterBy}
 use Rattle.buffer.proofs.Putting.{put-nothing, put-both}
 
 pub no-container : (k : ℕ) → k < 4 → false ≡ isContainer k
@@ -74,7 +74,7 @@ a-comma m e p = rw e p
 pub no-comma : (room : List ℕ) (at : ℕ) (m : Bool) → m ≡ false → Put room room at at (cond m (44 ∷ []) [])
 no-comma room at m e = rw e (put-nothing room at)
 
--- by the number of the way
+-- by the number of the spelling
 pub before-by : {a b : List ℕ} {at r : ℕ} (w i k n : ℕ) (s : List ℕ) {u : List ℕ} → w ≡ i → Put a b at r u → u ≡ beforeBy i k n s → Put a b at r (beforeBy w k n s)
 before-by w i k n s e p q = rw (e, ← q) p
 
@@ -93,38 +93,38 @@ unfolding afterBy
 nothing-after room at w k m a b c d e f g h i =
     rw (ne-eqb w 1 a, ne-eqb w 2 b, ne-eqb w 3 c, ne-eqb w 4 d, ne-eqb w 5 e, ne-eqb w 6 f, ne-eqb w 7 g, ne-eqb w 9 h, ne-eqb w 10 i) (put-nothing room at)
 
--- the way of a slot
-unfoldable pub wayOf : Slot → ℕ
-wayOf version = 0
-wayOf (ari w) = 1
-wayOf (type w) = 2
-wayOf (value t w) = cond (eqb t 14) 4 3
-wayOf namespace = 5
-wayOf (objectNamespace p) = 6
-wayOf (objectType p) = 7
-wayOf (objectId p) = 8
-wayOf params = 9
-wayOf (key w) = 10
-wayOf (entry w) = 1
-wayOf (nonce t) = 0
-wayOf setTime = 0
-wayOf target = 0
-wayOf report = 0
-wayOf reportTime = 0
-wayOf reportSource = 0
+-- the spelling of a slot
+unfoldable pub spellingOf : Slot → ℕ
+spellingOf version = 0
+spellingOf (ari w) = 1
+spellingOf (type w) = 2
+spellingOf (value t w) = cond (eqb t 14) 4 3
+spellingOf namespace = 5
+spellingOf (objectNamespace p) = 6
+spellingOf (objectType p) = 7
+spellingOf (objectId p) = 8
+spellingOf params = 9
+spellingOf (key w) = 10
+spellingOf (entry w) = 1
+spellingOf (nonce t) = 0
+spellingOf setTime = 0
+spellingOf target = 0
+spellingOf report = 0
+spellingOf reportTime = 0
+spellingOf reportSource = 0
 
-way-map : (ss : List Slot) (i : ℕ) → wayOf (getD ss i version) ≡ getD (map wayOf ss) i 0
-unfolding wayOf
-way-map [] i = refl
-way-map (s ∷ ss) zero = refl
-way-map (s ∷ ss) (suc i) = way-map ss i
+spelling-map : (ss : List Slot) (i : ℕ) → spellingOf (getD ss i version) ≡ getD (map spellingOf ss) i 0
+unfolding spellingOf
+spelling-map [] i = refl
+spelling-map (s ∷ ss) zero = refl
+spelling-map (s ∷ ss) (suc i) = spelling-map ss i
 
-pub way-is : (i : ℕ) → wayAt i ≡ wayOf (slotOf i)
-unfolding wayOf
-way-is i = sym (way-map slots i)
+pub spelling-is : (i : ℕ) → spellingAt i ≡ spellingOf (slotOf i)
+unfolding spellingOf
+spelling-is i = sym (spelling-map slots i)
 
-before-of : (s : Slot) (l : Lead) (u : List ℕ) → spell s .before l u ≡ beforeBy (wayOf s) (l .kind) (l .arg) u
-unfolding spell wayOf beforeBy ariText opening spaceText literalText nameText
+before-of : (s : Slot) (l : Lead) (u : List ℕ) → spell s .before l u ≡ beforeBy (spellingOf s) (l .kind) (l .arg) u
+unfolding spell spellingOf beforeBy ariText opening spaceText literalText nameText
 before-of version l u = refl
 before-of (ari w) l u = refl
 before-of (type w) l u = refl
@@ -156,8 +156,8 @@ comma-is : (v : Level) → Rattle.text.specs.Text.comma v ≡ cond (isDue v) (a
 comma-is done = refl
 comma-is (due s n) = refl
 
-after-of : (s : Slot) (l : Lead) (v : Level) → spell s .after l v ≡ afterBy (wayOf s) (l .kind) (isDue v)
-unfolding spell wayOf afterBy closing
+after-of : (s : Slot) (l : Lead) (v : Level) → spell s .after l v ≡ afterBy (spellingOf s) (l .kind) (isDue v)
+unfolding spell spellingOf afterBy closing
 after-of version l v = refl
 after-of (ari w) l v = comma-is v
 after-of (type w) l v = refl
@@ -180,43 +180,43 @@ after-of report l v = refl
 after-of reportTime l v = refl
 after-of reportSource l v = refl
 
-pub before-is : (i : ℕ) (l : Lead) (u : List ℕ) → spell (slotOf i) .before l u ≡ beforeBy (wayAt i) (l .kind) (l .arg) u
-before-is i l u = before-of (slotOf i) l u ∙ rw (way-is i)
+pub before-is : (i : ℕ) (l : Lead) (u : List ℕ) → spell (slotOf i) .before l u ≡ beforeBy (spellingAt i) (l .kind) (l .arg) u
+before-is i l u = before-of (slotOf i) l u ∙ rw (spelling-is i)
 
-pub after-is : (i : ℕ) (l : Lead) (v : Level) → spell (slotOf i) .after l v ≡ afterBy (wayAt i) (l .kind) (isDue v)
-after-is i l v = after-of (slotOf i) l v ∙ rw (way-is i)
+pub after-is : (i : ℕ) (l : Lead) (v : Level) → spell (slotOf i) .after l v ≡ afterBy (spellingAt i) (l .kind) (isDue v)
+after-is i l v = after-of (slotOf i) l v ∙ rw (spelling-is i)
 
--- the way of a slot, as the code finds it
+-- the spelling of a slot, as the code finds it
 module _ (i : ℕ) where
-  pub low-way : i < 16 → 9833440814332711184 / 2 ^ (i * 4) % 16 ≡ wayAt i
-  low-way h =
-      eqb-true (9833440814332711184 / 2 ^ (i * 4) % 16) (wayAt i)
-      (all-at 16 0 (λ j. eqb (9833440814332711184 / 2 ^ (j * 4) % 16) (wayAt j)) refl i (omega arith) (omega arith))
+  pub low-spelling : i < 16 → 9833440814332711184 / 2 ^ (i * 4) % 16 ≡ spellingAt i
+  low-spelling h =
+      eqb-true (9833440814332711184 / 2 ^ (i * 4) % 16) (spellingAt i)
+      (all-at 16 0 (λ j. eqb (9833440814332711184 / 2 ^ (j * 4) % 16) (spellingAt j)) refl i (omega arith) (omega arith))
 
-  pub next-way : 16 ≤ i → i < 28 → 72361 / 2 ^ ((i - 16) * 4) % 16 ≡ wayAt i
-  next-way h g =
-      eqb-true (72361 / 2 ^ ((i - 16) * 4) % 16) (wayAt i)
-      (all-at 12 16 (λ j. eqb (72361 / 2 ^ ((j - 16) * 4) % 16) (wayAt j)) refl i (omega arith) (omega arith))
+  pub next-spelling : 16 ≤ i → i < 28 → 72361 / 2 ^ ((i - 16) * 4) % 16 ≡ spellingAt i
+  next-spelling h g =
+      eqb-true (72361 / 2 ^ ((i - 16) * 4) % 16) (spellingAt i)
+      (all-at 12 16 (λ j. eqb (72361 / 2 ^ ((j - 16) * 4) % 16) (spellingAt j)) refl i (omega arith) (omega arith))
 
-  pub no-way : 72 ≤ i → 0 ≡ wayAt i
-  no-way h = sym (List·getD-eq-default ways 0 h)
+  pub no-spelling : 72 ≤ i → 0 ≡ spellingAt i
+  no-spelling h = sym (List·getD-eq-default spellings 0 h)
 
-  pub label-way : i ≡ 42 → 4 ≡ wayAt i
-  label-way e = rw e
+  pub label-spelling : i ≡ 42 → 4 ≡ spellingAt i
+  label-spelling e = rw e
 
-  pub label-way-param : i ≡ 64 → 4 ≡ wayAt i
-  label-way-param e = rw e
+  pub label-spelling-param : i ≡ 64 → 4 ≡ spellingAt i
+  label-spelling-param e = rw e
 
-  pub value-way : 28 ≤ i → i < 72 → (i ≡ 42 → ⊥) → (i ≡ 64 → ⊥) → 3 ≡ wayAt i
-  value-way h g n m =
+  pub value-spelling : 28 ≤ i → i < 72 → (i ≡ 42 → ⊥) → (i ≡ 64 → ⊥) → 3 ≡ spellingAt i
+  value-spelling h g n m =
       go (eqb i 42) (ne-eqb i 42 n) (eqb i 64) (ne-eqb i 64 m)
-      (all-at 44 28 (λ j. eqb j 42 || (eqb j 64 || eqb (wayAt j) 3)) refl i (omega arith) (omega arith))
+      (all-at 44 28 (λ j. eqb j 42 || (eqb j 64 || eqb (spellingAt j) 3)) refl i (omega arith) (omega arith))
     where
-      go : (x : Bool) → x ≡ false → (y : Bool) → y ≡ false → (x || (y || eqb (wayAt i) 3)) ≡ true → 3 ≡ wayAt i
+      go : (x : Bool) → x ≡ false → (y : Bool) → y ≡ false → (x || (y || eqb (spellingAt i) 3)) ≡ true → 3 ≡ spellingAt i
       go true e y f t = absurd (true≢false e)
       go false e true f t = absurd (true≢false f)
-      go false e false f t = sym (eqb-true (wayAt i) 3 t)
+      go false e false f t = sym (eqb-true (spellingAt i) 3 t)
 
-pub ruleset slot-ways = (low-way, next-way, no-way, label-way, label-way-param, value-way)
+pub ruleset slot-spellings = (low-spelling, next-spelling, no-spelling, label-spelling, label-spelling-param, value-spelling)
 
 pub ruleset ways-through = (no-container, a-container, typed-literal, untyped-literal, relative-space, absolute-space, a-reference, absolute-name, opens, leaves, closes, stays, a-comma, no-comma, nothing-before, nothing-after)

@@ -1,4 +1,4 @@
--- How the heads of each slot are spelled, by the numbers that the code has for it. Interface: wayAt, beforeBy, afterBy. Private to src/: the others. That they are those of the slots is proved in proofs/Spelled.antt.
+-- How the heads of each slot are spelled, by the numbers that the code has for it. Interface: spellingAt, beforeBy, afterBy. Private to src/: the others. That they are those of the slots is proved in proofs/Spelled.antt.
 use Prim.Native.Nat.{ℕ}
 use mathlib.Core.Bool.{Bool, true, false, cond}
 use mathlib.Core.List.{List, [], _∷_, _++_}
@@ -9,16 +9,16 @@ use Rattle.text.specs.Chars.{ascii, literalText, nameText}
 use Rattle.text.specs.Text.{typeName}
 use Rattle.text_write_item.specs.Head.{headOf}
 
--- the way of each slot, by its number
-abbrev pub ways : List ℕ
-ways =
+-- the spelling of each slot, by its number
+abbrev pub spellings : List ℕ
+spellings =
     0 ∷ 1 ∷ 1 ∷ 1 ∷ 1 ∷ 2 ∷ 2 ∷ 2 ∷ 2 ∷ 5 ∷ 6 ∷ 6 ∷ 7 ∷ 7 ∷ 8 ∷ 8 ∷ 9 ∷ 10 ∷ 10 ∷ 1 ∷ 1 ∷ 0 ∷ 0 ∷ 0
     ∷ 0 ∷ 0 ∷ 0 ∷ 0 ∷ 3 ∷ 3 ∷ 3 ∷ 3 ∷ 3 ∷ 3 ∷ 3 ∷ 3 ∷ 3 ∷ 3 ∷ 3 ∷ 3 ∷ 3 ∷ 3 ∷ 4 ∷ 3 ∷ 3 ∷ 3 ∷ 3 ∷ 3
     ∷ 3 ∷ 3 ∷ 3 ∷ 3 ∷ 3 ∷ 3 ∷ 3 ∷ 3 ∷ 3 ∷ 3 ∷ 3 ∷ 3 ∷ 3 ∷ 3 ∷ 3 ∷ 3 ∷ 4 ∷ 3 ∷ 3 ∷ 3 ∷ 3 ∷ 3 ∷ 3 ∷ 3
     ∷ []
 
-abbrev pub wayAt : ℕ → ℕ
-wayAt i = getD ways i 0
+abbrev pub spellingAt : ℕ → ℕ
+spellingAt i = getD spellings i 0
 
 -- an ARI's head; the bracket of a container, or a leaf's text; a namespace
 unfoldable pub ariText : ℕ → ℕ → List ℕ → List ℕ

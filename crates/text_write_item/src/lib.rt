@@ -10,7 +10,7 @@ ghost use Rattle.text.specs.Chars.{integer, hex, hexes, bare, escape, each, tex
 ghost use Rattle.text.specs.Text.{typeName};
 ghost use mathlib.Core.List.{_++_};
 ghost use Rattle.cbor.specs.Head.{isContainer};
-ghost use Rattle.text_write_item.specs.Spellings.{wayAt, ariText, opening, spaceText, beforeBy, closing, afterBy};
+ghost use Rattle.text_write_item.specs.Spellings.{spellingAt, ariText, opening, spaceText, beforeBy, closing, afterBy};
 
 // A hex digit, where ten is spelled so.
 fn hex_digit(ten: u8, d: u8) -> u8
@@ -198,10 +198,10 @@ pub const AS_PARAMETERS: u8 = 9;
 
 pub const AS_KEY: u8 = 10;
 
-// The ways of the values of types: a LABEL is bare.
-fn value_way(slot: u64) -> u8
+// How the values of types are spelled: a LABEL is bare.
+fn value_spelling(slot: u64) -> u8
     requires { ⌜ (28 ≤ slot) × (slot < 72) ⌝ }
-    ensures { λ r. ⌜ r ≡ wayAt slot ⌝ }
+    ensures { λ r. ⌜ r ≡ spellingAt slot ⌝ }
 {
     match slot {
         42 => AS_LABEL,
@@ -210,9 +210,9 @@ fn value_way(slot: u64) -> u8
     }
 }
 
-// The way in which a slot's heads are spelled: four bits a slot, up to the values of types.
-pub fn way_of(slot: u64) -> u8
-    ensures { λ r. ⌜ r ≡ wayAt slot ⌝ }
+// How a slot's heads are spelled: four bits a slot, up to the values of types.
+pub fn spelling_of(slot: u64) -> u8
+    ensures { λ r. ⌜ r ≡ spellingAt slot ⌝ }
 {
     if slot < 16 {
         return ((0x8877665222211110u64 >> (slot * 4)) % 16) as u8;
@@ -221,7 +221,7 @@ pub fn way_of(slot: u64) -> u8
         return ((0x11aa9u64 >> ((slot - 16) * 4)) % 16) as u8;
     }
     if slot < 72 {
-        return value_way(slot);
+        return value_spelling(slot);
     }
     NOT_SPELLED
 }
@@ -282,10 +282,10 @@ fn put_space(out: &mut [u8], at: usize, kind: u8, arg: u64, s: &[u8]) -> usize
 }
 
 // What a head, with its string, writes before its members.
-pub fn put_before(out: &mut [u8], at: usize, way: u8, kind: u8, arg: u64, s: &[u8]) -> usize
-    ensures { λ r. ⌜ Put (now (out .entry)) (now (out .exit)) at r (beforeBy way kind arg (now (s .entry))) ⌝ }
+pub fn put_before(out: &mut [u8], at: usize, spelling: u8, kind: u8, arg: u64, s: &[u8]) -> usize
+    ensures { λ r. ⌜ Put (now (out .entry)) (now (out .exit)) at r (beforeBy spelling kind arg (now (s .entry))) ⌝ }
 {
-    match way {
+    match spelling {
         AS_ARI => put_ari(out, at, kind, arg, s),
         AS_TYPE => put_type(out, at, arg),
         AS_VALUE => put_value(out, at, kind, arg, s),
@@ -319,10 +319,10 @@ fn put_closing(out: &mut [u8], at: usize, kind: u8) -> usize
 }
 
 // What it writes after them; whether more is due beside it.
-pub fn put_after(out: &mut [u8], at: usize, way: u8, kind: u8, more: bool) -> usize
-    ensures { λ r. ⌜ Put (now (out .entry)) (now (out .exit)) at r (afterBy way kind more) ⌝ }
+pub fn put_after(out: &mut [u8], at: usize, spelling: u8, kind: u8, more: bool) -> usize
+    ensures { λ r. ⌜ Put (now (out .entry)) (now (out .exit)) at r (afterBy spelling kind more) ⌝ }
 {
-    match way {
+    match spelling {
         AS_ARI => put_comma(out, at, more),
         AS_TYPE => buffer::put(out, at, b'/'),
         AS_VALUE => put_closing(out, at, kind),

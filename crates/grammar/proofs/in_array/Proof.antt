@@ -1,4 +1,4 @@
--- `grammar::in_array` meets its contract: by the way of the word.
+-- `grammar::in_array` meets its contract: by the form in the word.
 use borrow.Author.Needs.{needs}
 use Rattle.grammar.proofs.TableWays.{array-ways}
 use Rattle.grammar.proofs.in_array.Statement.{statement}

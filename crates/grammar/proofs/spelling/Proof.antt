@@ -1,6 +1,6 @@
 -- `grammar::spelling` meets its contract: the highest bits of the word.
 use borrow.Author.Needs.{needs}
-use Rattle.grammar.proofs.TableWays.{spelling-said}
+use Rattle.grammar.proofs.TableWays.{spelling-means}
 use Rattle.grammar.proofs.spelling.Statement.{statement}
 use Rattle.grammar.proofs.spelling.Tie as tie
 
@@ -9,4 +9,4 @@ spelling-spec =
     tie.close
     (tie.spec
     (λ c κs. search needs)
-    (λ c. spelling-said (c .before .args .slot) _ (c .rule-word .ensures)))
+    (λ c. spelling-means (c .before .args .slot) _ (c .rule-word .ensures)))

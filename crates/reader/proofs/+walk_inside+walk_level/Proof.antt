@@ -113,7 +113,7 @@ pub +walk-inside+walk-level-spec : {M : Type 1} → statement M
     let m = c .before .before .before .before .before .before .before .before .before .before .before .before .before .before .walk-inside .ensures in
     let g = c .before .before .before .before .before .before .before .before .before .before .r .given .1 in
     let sp = c .before .before .before .before .before .before .before .before .before .before .before .before .before .before .before .before .before .before .before .before .loop .prev in
-    let own = rule (slotOf (c .before .before .before .before .before .before .before .before .before .before .before .before .before .before .before .before .before .before .before .before .loop .place)) .own in
+    let extra = rule (slotOf (c .before .before .before .before .before .before .before .before .before .before .before .before .before .before .before .before .before .before .before .before .loop .place)) .extra in
     let kk = taken-kind _ _ _ _ _ _ (h .1) q in
     let fit = taken-fits _ _ _ _ _ _ (h .1) q in
     let put = c .before .before .before .before .before .before .before .put .ensures in
@@ -122,8 +122,8 @@ pub +walk-inside+walk-level-spec : {M : Type 1} → statement M
     let z = c .before .n .given .1 in (
       again _ (l .7) _ _ _ _ _ _ _ _ _ _ _ (sp .from) (sp .to) _ _ _ (l .1) (l .0) (h .0) q m g put kk fit nn z (y .0) (y .1),
       next-slotted _ (l .7) _ _ _ _ _ _ _ _ _ _ _ (sp .from) (sp .to) _ _ _ (l .1) (l .0) (h .0) q m g put kk fit nn z,
-      rw (y .0, y .1) (span-order own _ _ _ _ (l .2) (le-of-lt (taken-on _ _ _ _ _ _ (h .1) q))),
-      rw (y .1) (span-within own _ _ _ (l .3) (taken-in _ _ _ _ _ _ (h .1) q)),
+      rw (y .0, y .1) (span-order extra _ _ _ _ (l .2) (le-of-lt (taken-on _ _ _ _ _ _ (h .1) q))),
+      rw (y .1) (span-within extra _ _ _ (l .3) (taken-in _ _ _ _ _ _ (h .1) q)),
       read-in _ _ _ _ _ _ _ _ m g,
       read-few _ _ _ _ _ _ _ _ m g,
       omega (arith, c .before .before .before .before .before .before .before .put .kept .0, c .before .before .before .before .before .before .before .before .before .before .before .before .before .before .walk-inside .kept .1 .1 .1 .1 .1 .1 .1 .1 .1 .0, l .6),

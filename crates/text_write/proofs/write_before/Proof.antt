@@ -1,4 +1,4 @@
--- `text_write::write_before` meets its contract: the way of the slot is the one that the definition takes.
+-- `text_write::write_before` meets its contract: the spelling of the slot is the one that the definition takes.
 use Rattle.text_write.proofs.Writing.{writing}
 use borrow.Author.Needs.{needs}
 use Rattle.text_write.proofs.write_before.Statement.{statement}
