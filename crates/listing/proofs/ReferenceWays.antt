@@ -1,6 +1,6 @@
 -- What is read off a word of the item table and the bytes, way by way.
 use Prim.Native.Nat.{ℕ, _-_}
-use mathlib.Core.Path.{_≡_, refl}
+use mathlib.Core.Path.{_≡_, refl, _∙_}
 use mathlib.Core.Bool.{Bool, true, false, not}
 use mathlib.Core.List.{List}
 use borrow.Author.Tests.{eq-eqb, ne-eqb, not-true, not-false}
@@ -14,7 +14,8 @@ use Rattle.item_table.specs.Entries.{itemOf}
 use Rattle.listing.specs.declared.Namespace.{Namespace}
 use Rattle.listing.specs.declared.Namespace.the-variants.{Number, Name, Relative}
 use Rattle.listing.specs.declared.Reference.the-variants.{Nothing, To}
-use Rattle.listing.specs.Entries.{namespaceOf, referenceOf, referenceFrom}
+use Rattle.listing.specs.declared.Reference.{Reference}
+use Rattle.listing.specs.Entries.{namespaceOf, arrayReference, referenceOf, referenceFrom}
 
 module _ (b : List ℕ) (e : ℕ) {x : Item} (i : x ≡ itemOf e) {y : Bool} (c : y ≡ takesReferenceOf (x .slot)) where
   pub unasked : not y ≡ true → Nothing ≡ referenceFrom b e
@@ -25,23 +26,27 @@ module _ (b : List ℕ) (e : ℕ) {x : Item} (i : x ≡ itemOf e) {y : Bool} (c 
       go (Bad r) = refl
       go (Good k a q) = rw (← c, not-true y n)
 
-  module _ (n : not y ≡ false) {h : Head} (g : h ≡ headAt b (x .first)) where
-    pub no-head : {r : ℕ} → h ≡ Bad r → Nothing ≡ referenceFrom b e
-    unfolding referenceFrom
-    no-head f = rw (← i, ← g, f)
+  pub asked : not y ≡ false → {r : Reference} → r ≡ arrayReference b (x .first) (x .after) (headAt b (x .first)) → r ≡ referenceFrom b e
+  unfolding referenceFrom
+  asked n {r} q = q ∙ rw (← i) (go (headAt b (x .first)))
+    where
+      go : (h : Head) → arrayReference b (x .first) (x .after) h ≡ referenceOf b x h
+      go (Bad r) = refl
+      go (Good k a q) = rw (← c, not-false y n)
 
-    module _ {k a q : ℕ} (f : h ≡ Good k a q) where
-      pub no-array : (k ≡ 4 → ⊥) → Nothing ≡ referenceFrom b e
-      unfolding referenceFrom
-      no-array m = rw (← i, ← g, f, ← c, not-false y n, ne-eqb k 4 m)
+module _ (b : List ℕ) (p t : ℕ) {h : Head} (g : h ≡ headAt b p) where
+  pub no-head : {r : ℕ} → h ≡ Bad r → Nothing ≡ arrayReference b p t (headAt b p)
+  no-head f = rw (← g, f)
 
-      pub a-literal : k ≡ 4 → a ≡ 2 → Nothing ≡ referenceFrom b e
-      unfolding referenceFrom
-      a-literal m w = rw (← i, ← g, f, ← c, not-false y n, eq-eqb k 4 m, eq-eqb a 2 w)
+  module _ {k a q : ℕ} (f : h ≡ Good k a q) where
+    pub no-array : (k ≡ 4 → ⊥) → Nothing ≡ arrayReference b p t (headAt b p)
+    no-array m = rw (← g, f, ne-eqb k 4 m)
 
-      pub a-reference : k ≡ 4 → (a ≡ 2 → ⊥) → {z : Namespace} → z ≡ namespaceOf q (headAt b q) → To (x .first) (x .after) z ≡ referenceFrom b e
-      unfolding referenceFrom
-      a-reference m w u = rw (u, ← i, ← g, f, ← c, not-false y n, eq-eqb k 4 m, ne-eqb a 2 w)
+    pub a-literal : k ≡ 4 → a ≡ 2 → Nothing ≡ arrayReference b p t (headAt b p)
+    a-literal m w = rw (← g, f, eq-eqb k 4 m, eq-eqb a 2 w)
+
+    pub a-reference : k ≡ 4 → (a ≡ 2 → ⊥) → {z : Namespace} → z ≡ namespaceOf q (headAt b q) → To p t z ≡ arrayReference b p t (headAt b p)
+    a-reference m w u = rw (u, ← g, f, eq-eqb k 4 m, ne-eqb a 2 w)
 
 module _ (b : List ℕ) (p : ℕ) {h : Head} (g : h ≡ headAt b p) where
   pub no-namespace : {r : ℕ} → h ≡ Bad r → Relative ≡ namespaceOf p (headAt b p)
@@ -60,4 +65,4 @@ module _ (b : List ℕ) (p : ℕ) {h : Head} (g : h ≡ headAt b p) where
     pub not-named : (k ≡ 0 → ⊥) → (k ≡ 1 → ⊥) → (k ≡ 3 → ⊥) → Relative ≡ namespaceOf p (headAt b p)
     not-named u v w = rw (← g, f, ne-eqb k 0 u, ne-eqb k 1 v, ne-eqb k 3 w)
 
-pub ruleset ways = (unasked, no-head, no-array, a-literal, a-reference, no-namespace, not-negative, a-negative, a-name, not-named)
+pub ruleset ways = (unasked, asked, no-head, no-array, a-literal, a-reference, no-namespace, not-negative, a-negative, a-name, not-named)

@@ -27,13 +27,16 @@ use Rattle.ari.proofs.Spots.{spot-count}
 use Rattle.ari.proofs.Referring.{placeOf, found-references}
 use Rattle.ari.proofs.Named.{Named, InRange, own-namespace, numbers-in-range}
 use Rattle.ari.proofs.ListingBound.{at-most-half}
-use Rattle.item_table.specs.Entries.{noSpot, spotNumber, Tabled}
+use Rattle.grammar.specs.Code.{takesReferenceOf}
+use Rattle.item_table.specs.declared.Item.{Item}
+use Rattle.item_table.specs.Entries.{noSpot, itemOf, spotNumber, Tabled}
 use Rattle.item_table.proofs.Entries.{head-is, there, fine-at, covers-at, item-at, head-at, reference-at, short-at}
 use Rattle.listing.specs.declared.Namespace.{Namespace}
 use Rattle.listing.specs.declared.Namespace.the-variants.{Number, Name, Relative}
 use Rattle.listing.specs.declared.Reference.{Reference}
 use Rattle.listing.specs.declared.Reference.the-variants.{Nothing, To}
-use Rattle.listing.specs.Entries.{namespaceOf, referenceFrom, spaceCode}
+use Rattle.listing.specs.Entries.{namespaceOf, arrayReference, referenceFrom, spaceCode}
+use Rattle.listing.proofs.ReferenceWays.{unasked, asked}
 
 -- the listing from item k on
 unfoldable pub listingFrom : List ℕ → ℕ → List Entry
@@ -183,4 +186,15 @@ module _ {m : Limits} {b t : List ℕ} {n : ℕ} (c : Tabled m Message b n t) wh
       pub count-one : {fst aft : ℕ} {s : Namespace} → r ≡ To fst aft s → length (listingFrom b (k + 1)) + (i + 1) ≡ length (listing b)
       count-one g = omega (arith, ap length (here c k h f g .listed))
 
-pub ruleset counts = (count-start, count-end, count-none, count-one)
+    module _ (h : k < n) {x : Item} (j : x ≡ itemOf (getD t k 0)) {y : Bool} (q : y ≡ takesReferenceOf (x .slot)) where
+      pub count-passed : y ≡ false → length (listingFrom b (k + 1)) + i ≡ length (listing b)
+      count-passed g = count-none h (unasked b (getD t k 0) j q (rw g)) refl
+
+      module _ (g : y ≡ true) {r : Reference} (f : r ≡ arrayReference b (x .first) (x .after) (headAt b (x .first))) where
+        pub taken-none : r ≡ Nothing → length (listingFrom b (k + 1)) + i ≡ length (listing b)
+        taken-none z = count-none h (asked b (getD t k 0) j q (rw g) f) z
+
+        pub taken-one : {fst aft : ℕ} {s : Namespace} → r ≡ To fst aft s → length (listingFrom b (k + 1)) + (i + 1) ≡ length (listing b)
+        taken-one z = count-one h (asked b (getD t k 0) j q (rw g) f) z
+
+pub ruleset counts = (count-start, count-end, count-passed, taken-none, taken-one)

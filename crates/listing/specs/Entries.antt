@@ -1,10 +1,10 @@
--- What is read off a word of the item table and the bytes. Interface: namespaceOf, referenceFrom, spaceCode. Private to src/: referenceOf.
+-- What is read off a word of the item table and the bytes. Interface: namespaceOf, referenceFrom, spaceCode. Private to src/: arrayReference, referenceOf.
 use Prim.Native.Nat.{ℕ, _-_}
-use mathlib.Core.Bool.{cond}
+use mathlib.Core.Bool.{cond, not, _&&_}
 use mathlib.Core.List.{List}
 use lib.ListN.{length}
 use lib.Dec.{eqb}
-use Rattle.cbor.specs.Head.{unsigned, negative, text}
+use Rattle.cbor.specs.Head.{unsigned, negative, text, array}
 use Rattle.cbor.specs.declared.Head.{Head}
 use Rattle.cbor.specs.declared.Head.the-variants.{Bad, Good}
 use Rattle.cbor.specs.Answer.{headAt}
@@ -22,6 +22,11 @@ use Rattle.listing.specs.declared.Namespace.the-variants.{Number, Name, 
 abbrev pub namespaceOf : ℕ → Head → Namespace
 namespaceOf p (Good k a q) = cond (eqb k unsigned) (Number a) (cond (eqb k negative) (Number (max64 - a)) (cond (eqb k text) (Name p a) Relative))
 namespaceOf p (Bad r) = Relative
+
+-- what a head is where a reference may stand: an array that is no typed literal is one
+abbrev pub arrayReference : List ℕ → ℕ → ℕ → Head → Reference
+arrayReference b f t (Good k a q) = cond (eqb k array && not (eqb a 2)) (To f t (namespaceOf q (headAt b q))) Nothing
+arrayReference b f t (Bad r) = Nothing
 
 -- a reference, whose first member's head is its namespace
 abbrev pub referenceOf : List ℕ → Item → Head → Reference

@@ -13,7 +13,7 @@ ghost use Rattle.ari.specs.Listing.{listing};
 ghost use Rattle.item_table.specs.Entries.{Tabled};
 ghost use Rattle.listing.specs.Bytes.{listingBytes};
 ghost use Rattle.listing.specs.Answers.{listedOf, listOf, writtenBy, writtenOf};
-ghost use Rattle.listing.specs.Entries.{namespaceOf, referenceFrom};
+ghost use Rattle.listing.specs.Entries.{namespaceOf, arrayReference, referenceFrom};
 ghost use Rattle.listing.specs.Codes.{kindCode, wordCode, entryCode};
 use ari::Input;
 use ari::Limits;
@@ -66,16 +66,11 @@ fn namespace_at(s: &[u8], at: usize) -> Namespace
     }
 }
 
-// The reference that a word of the item table stands for.
-pub fn reference_at(s: &[u8], entry: u64) -> Reference
-    ensures { λ r. ⌜ r ≡ referenceFrom (now (s .entry)) entry ⌝ }
+// The reference of an item whose slot takes one, by its head.
+fn reference_of(s: &[u8], first: usize, after: usize) -> Reference
+    ensures { λ r. ⌜ r ≡ arrayReference (now (s .entry)) first after (headAt (now (s .entry)) first) ⌝ }
 {
-    let x = item_table::item_of(entry);
-    if !grammar::takes_reference(x.slot) {
-        // most items: their heads need not be read again
-        return Reference::Nothing;
-    }
-    let h = cbor::head_again(s, x.first);
+    let h = cbor::head_again(s, first);
     let cbor::Head::Good { kind, arg, next } = h else {
         return Reference::Nothing;
     };
@@ -87,10 +82,21 @@ pub fn reference_at(s: &[u8], entry: u64) -> Reference
     }
     let namespace = namespace_at(s, next);
     Reference::To {
-        first: x.first,
-        after: x.after,
+        first,
+        after,
         namespace,
     }
+}
+
+// The reference that a word of the item table stands for. Few slots take one: the others' heads need not be read again.
+pub fn reference_at(s: &[u8], entry: u64) -> Reference
+    ensures { λ r. ⌜ r ≡ referenceFrom (now (s .entry)) entry ⌝ }
+{
+    let x = item_table::item_of(entry);
+    if !grammar::takes_reference(x.slot) {
+        return Reference::Nothing;
+    }
+    reference_of(s, x.first, x.after)
 }
 
 // How many references the items of a table are.
@@ -101,15 +107,17 @@ fn count_references(s: &[u8], limits: Limits, count: usize, entries: &[u64]) -> 
     let mut listed = 0;
     let mut k = 0;
     while k < count {
-        let r = reference_at(s, entries[k]);
+        let x = item_table::item_of(entries[k]);
         k += 1;
-        match r {
-            Reference::Nothing => {}
-            Reference::To {
-                first: _,
-                after: _,
-                namespace: _,
-            } => listed += 1,
+        if grammar::takes_reference(x.slot) {
+            match reference_of(s, x.first, x.after) {
+                Reference::Nothing => {}
+                Reference::To {
+                    first: _,
+                    after: _,
+                    namespace: _,
+                } => listed += 1,
+            }
         }
     }
     listed

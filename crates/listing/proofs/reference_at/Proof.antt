@@ -1,4 +1,4 @@
--- `listing::reference_at` meets its contract: by the slot, the head, its kind and its length.
+-- `listing::reference_at` meets its contract: by the slot.
 use Rattle.listing.proofs.ReferenceWays.{ways}
 use borrow.Author.Needs.{needs}
 use Rattle.listing.proofs.reference_at.Statement.{statement}
@@ -10,12 +10,6 @@ reference-at-spec =
     (tie.spec
     (λ c κs. search needs)
     (λ c κs. search needs)
-    (λ c. search (ways, needs))
-    (λ c κs. search needs)
-    (λ c. search needs)
-    (λ c. search needs)
-    (λ c. search (ways, needs))
-    (λ c. search (ways, needs))
     (λ c. search (ways, needs))
     (λ c κs. search needs)
     (λ c. search (ways, needs)))
