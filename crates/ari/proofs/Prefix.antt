@@ -1,14 +1,15 @@
--- A refusal other than 2 and 9 is that of every continuation.
-use Prim.Native.Nat.{ℕ, zero, suc, _+_, _/_, _%_, _≤_}
-use mathlib.Core.Path.{_≡_, refl, _∙_}
+-- A refusal other than 2 and 9 is that of every continuation. The idea: 2 and 9 alone ask how many bytes there are.
+use Prim.Native.Nat.{ℕ, zero, suc, _+_, _/_, _%_, _<_, _≤_}
+use mathlib.Core.Path.{_≡_, refl, sym, _∙_}
 use mathlib.Core.Bool.{Bool, true, false, not, _&&_, cond}
 use mathlib.Core.List.{List, [], _∷_, _++_}
 use native.Mathlib.Omega.{arith}
 use lib.ListN.{length, take, drop, length-append, length-drop}
 use lib.Seq.{take-append-le, drop-append-le, length-take-le}
 use lib.Dec.{ltb, eqb}
-use borrow.Author.Tests.{ltb-false, le-ltb}
-use Rattle.cbor.specs.Head.{text, Lead, size, width, argument, Got, bad, got, getFrom, getHead, stringSize, isContainer}
+use borrow.Author.Tests.{ltb-false, le-ltb, lt-ltb}
+use Rattle.buffer.proofs.ByteLaws.{past}
+use Rattle.cbor.specs.Head.{text, Lead, size, width, argument, kindOf, unused, notShortest, Got, bad, got, getFrom, getHead, stringSize, isContainer}
 use Rattle.cbor.proofs.HeadLaws.{head-fits}
 use Rattle.ari.specs.Table.{message, Slot, ari, rule, fits}
 use Rattle.ari.specs.declared.Limits.{Limits}
@@ -61,38 +62,93 @@ judge-more left d s prev l r c n =
         let h : stringSize l ≤ length r = ltb-false (length r) (stringSize l) e in
         rw (le-ltb (length (r ++ c)) (stringSize l) (omega (arith, length-append r c)), take-append-le (stringSize l) r c h, e)
 
+-- What a head gives stays: taken with the same string, or refused by the same test, unless its own bytes or its string's are not all there yet.
+not-no : {l : Lead} {str : List ℕ} {r : ℕ} → yes l str ≡ no r → ⊥
+not-no e = let z : _≡_ {A = ℕ} 0 1 = cc in omega arith
+
+not-bad : {l : Lead} {r : ℕ} → got l ≡ bad r → ⊥
+not-bad e = let z : _≡_ {A = ℕ} 0 1 = cc in omega arith
+
+pub head-stays : (c : List ℕ) (left d : ℕ) (s : Slot) (prev b : List ℕ) {x : Step} → judgeGot left d s prev (getHead b) b ≡ x → (x ≡ no 2 → ⊥) → (x ≡ no 9 → ⊥)
+    → judgeGot left d s prev (getHead (b ++ c)) (b ++ c) ≡ x
+unfolding judgeGot
+head-stays c left d s prev b {x} j n2 n9 = go (getHead b) refl j
+  where
+    go : (y : Got) → getHead b ≡ y → judgeGot left d s prev y b ≡ x → judgeGot left d s prev (getHead (b ++ c)) (b ++ c) ≡ x
+    go (bad r) g j = rw (head-more b c (λ e. n2 (let z : bad r ≡ bad 2 = sym g ∙ e in cc)), g) j
+    go (got l) g j =
+        rw (head-more b c (λ e. not-bad (sym g ∙ e)), g, drop-append-le (size l) b c (head-fits b g), judge-more left d s prev l (drop (size l) b) c (λ e. n9 (sym j ∙ e))) j
+
+-- the bytes of a head that was taken, and its string's, are there
+pub taken-fits : (left d : ℕ) (s : Slot) (prev b : List ℕ) {k : Lead} {str : List ℕ} → judgeGot left d s prev (getHead b) b ≡ yes k str → size k + length str ≤ length b
+unfolding judgeGot
+taken-fits left d s prev b {k} {str} j = go (getHead b) refl j
+  where
+    go : (y : Got) → getHead b ≡ y → judgeGot left d s prev y b ≡ yes k str → size k + length str ≤ length b
+    go (bad r) g j = absurd (not-no (sym j))
+    go (got l) g j =
+        let (e, w) = judged left d s prev l (drop (size l) b) j in
+        let m : length str ≡ stringSize l = rw (w .string) (length-take-le (stringSize l) (drop (size l) b) (w .there)) in
+        rw (← e) (omega (arith, w .there, length-drop (size l) b, head-fits b g))
+
+-- what is no head is refused with 2, 3 or 4
+head-number : (b : List ℕ) {r : ℕ} → getHead b ≡ bad r → r < 5
+unfolding getHead getFrom
+head-number [] {r} e = let z : 2 ≡ r = cc in omega arith
+head-number (x ∷ b) {r} e = go (ltb (length b) (width (x % 32))) (unused (x / 32) (x % 32)) (notShortest (x % 32) (kindOf (x / 32) (x % 32)) (argument (x % 32) b)) _ e
+  where
+    go : (t u v : Bool) (l : Lead) → cond t (bad 2) (cond u (bad 3) (cond v (bad 4) (got l))) ≡ bad r → r < 5
+    go true u v l e = let z : 2 ≡ r = cc in omega arith
+    go false true v l e = let z : 3 ≡ r = cc in omega arith
+    go false false true l e = let z : 4 ≡ r = cc in omega arith
+    go false false false l e = absurd (not-bad e)
+
+-- A head whose string is not all there: it is refused with 9 as long as this is so.
+pub record Lacking (left d : ℕ) (s : Slot) (prev b : List ℕ) : Type 0 where
+  pub lead : Lead
+  pub head : getHead b ≡ got lead
+  pub stays : (c : List ℕ) → length (b ++ c) < size lead + stringSize lead → judgeGot left d s prev (getHead (b ++ c)) (b ++ c) ≡ no 9
+
+judge-lacking : (left d : ℕ) (s : Slot) (prev : List ℕ) (l : Lead) (r : List ℕ) → judge left d s prev l r ≡ no 9
+    → (r′ : List ℕ) → length r′ < stringSize l → judge left d s prev l r′ ≡ no 9
+unfolding judge judgeContent
+judge-lacking left d s prev l r e r′ h =
+    let other : (k : ℕ) → (k ≡ 9 → ⊥) → no k ≡ no 9 → ⊥ = λ k n q. n (cc) in
+    let (t5, e5) = past (eqb left 0) _ _ (other 5 (λ q. omega arith)) e in
+    let (t6, e6) = past (isContainer (l .kind) && eqb d 0) _ _ (other 6 (λ q. omega arith)) e5 in
+    let (t7, e7) = past (not (fits (l .kind) (l .arg) (rule s .rows))) _ _ (other 7 (λ q. omega arith)) e6 in
+    let (t8, e8) = past (wrongVersion (rule s .extra) (l .arg)) _ _ (other 8 (λ q. omega arith)) e7 in
+    rw (t5, t6, t7, t8, lt-ltb (length r′) (stringSize l) h)
+
+pub lacking : (left d : ℕ) (s : Slot) (prev b : List ℕ) → judgeGot left d s prev (getHead b) b ≡ no 9 → Lacking left d s prev b
+unfolding judgeGot
+lacking left d s prev b j = go (getHead b) refl j
+  where
+    go : (y : Got) → getHead b ≡ y → judgeGot left d s prev y b ≡ no 9 → Lacking left d s prev b
+    go (bad r) g j = absurd (let z : r ≡ 9 = cc in omega (arith, head-number b g))
+    go (got l) g j = record {
+      lead = l;
+      head = g;
+      stays = λ c h.
+          rw (head-more b c (λ e. not-bad (sym g ∙ e)), g)
+          (judge-lacking left d s prev l (drop (size l) b) j (drop (size l) (b ++ c)) (omega (arith, length-drop (size l) (b ++ c), length-append b c, head-fits b g)));
+    }
+
 -- one step, if what follows it stays as it is
 module _ (c : List ℕ) (r q : ℕ) (n2 : r ≡ 2 → ⊥) (n9 : r ≡ 9 → ⊥) (left : ℕ) (go : Go)
     (ih : (ds : Dues) (p : ℕ) (b : List ℕ) → go ds p b ≡ refuse r q → go ds p (b ++ c) ≡ refuse r q)
     (s : Slot) (n : ℕ) (prev : List ℕ) (d : ℕ) (ds : Dues) (p : ℕ) (b : List ℕ) where
-  from-step : (l : Lead) → getHead b ≡ got l → (y : Step) → judge left d s prev l (drop (size l) b) ≡ y
-      → takeStep go s n prev d ds p b y ≡ refuse r q → takeStep go s n prev d ds p (b ++ c) (judge left d s prev l (drop (size l) (b ++ c))) ≡ refuse r q
-  unfolding takeStep
-  from-step l g (no r′) j t =
-      let rr : r ≡ r′ = cc in
-      rw (drop-append-le (size l) b c (head-fits b g), judge-more left d s prev l (drop (size l) b) c (λ e. n9 (let z : r′ ≡ 9 = cc in rr ∙ z)), j) t
-  from-step l g (yes k str) j t =
-      let (e, w) = judged left d s prev l (drop (size l) b) j in
-      let m : length str ≡ stringSize l = rw (w .string) (length-take-le (stringSize l) (drop (size l) b) (w .there)) in
-      let f : size k + length str ≤ length b = rw (← e) (omega (arith, w .there, length-drop (size l) b, head-fits b g)) in
-      rw (
-        drop-append-le (size l) b c (head-fits b g),
-        judge-more left d s prev l (drop (size l) b) c (λ x. let z : _≡_ {A = ℕ} 0 1 = cc in omega arith),
-        j,
-      )
-      (rw (drop-append-le (size k + length str) b c f) (ih _ _ _ t))
-
-  from-got : (x : Got) → getHead b ≡ x → takeStep go s n prev d ds p b (judgeGot left d s prev x b) ≡ refuse r q
+  from-step : (y : Step) → judgeGot left d s prev (getHead b) b ≡ y → takeStep go s n prev d ds p b y ≡ refuse r q
       → visitFrame left go s n prev d ds p (b ++ c) ≡ refuse r q
-  unfolding takeStep judgeGot
-  from-got (bad r′) g t =
+  unfolding takeStep
+  from-step (no r′) j t =
       let rr : r ≡ r′ = cc in
-      rw (head-more b c (λ e. n2 (let z : r′ ≡ 2 = cc in rr ∙ z)), g) t
-  from-got (got l) g t =
-      rw (head-more b c (λ e. let z : _≡_ {A = ℕ} 0 1 = cc in omega arith), g) (from-step l g (judge left d s prev l (drop (size l) b)) refl t)
+      rw (head-stays c left d s prev b j (λ e. n2 (let z : r′ ≡ 2 = cc in rr ∙ z)) (λ e. n9 (let z : r′ ≡ 9 = cc in rr ∙ z))) t
+  from-step (yes k str) j t =
+      rw (head-stays c left d s prev b j not-no not-no, drop-append-le (size k + length str) b c (taken-fits left d s prev b j)) (ih _ _ _ t)
 
   frame-stays : visitFrame left go s n prev d ds p b ≡ refuse r q → visitFrame left go s n prev d ds p (b ++ c) ≡ refuse r q
-  frame-stays t = from-got (getHead b) refl t
+  frame-stays t = from-step (judgeGot left d s prev (getHead b) b) refl t
 
 not-refuse : {r p m : ℕ} → accept m ≡ refuse r p → ⊥
 not-refuse e = let z : _≡_ {A = ℕ} 0 1 = cc in omega arith

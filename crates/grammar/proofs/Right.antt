@@ -193,12 +193,12 @@ stands : (v : Level) → Given v → Stands (nextOf v) v
 stands done h = record { level = refl; slotted = tt }
 stands (due s n) h = record { level = ap (λ (x : Slot). due x n) h; slotted = numbered-is-slot s h }
 
-pub fits-right : (i k a : ℕ) → IsSlot i → k ≤ 9 → fitsCode i k a ≡ fits k a (rule (slotOf i) .rows)
+pub fits-right : (i k a : ℕ) → fitsCode i k a ≡ fits k a (rule (slotOf i) .rows)
 unfolding fitsCode
-fits-right i k a v h = refl
+fits-right i k a = refl
 
-pub extra-right : (i : ℕ) → IsSlot i → rule (slotOf i) .extra ≡ getD (none ∷ one ∷ rising ∷ filled ∷ []) (extraOf i) none
-extra-right i v = go (rule (slotOf i) .extra)
+pub extra-right : (i : ℕ) → rule (slotOf i) .extra ≡ getD (none ∷ one ∷ rising ∷ filled ∷ []) (extraOf i) none
+extra-right i = go (rule (slotOf i) .extra)
   where
     go : (o : ExtraTest) → o ≡ getD (none ∷ one ∷ rising ∷ filled ∷ []) (extraNumber o) none
     go none = refl
@@ -206,8 +206,8 @@ extra-right i v = go (rule (slotOf i) .extra)
     go rising = refl
     go filled = refl
 
-pub takes-reference-right : (i : ℕ) → IsSlot i → rule (slotOf i) .takesReference ≡ takesReferenceOf i
-takes-reference-right i v = refl
+pub takes-reference-right : (i : ℕ) → rule (slotOf i) .takesReference ≡ takesReferenceOf i
+takes-reference-right i = refl
 
 -- The types' slots are 5 to 8.
 type-place : (w : Place) → within 5 8 (slotNumber (type w)) ≡ true

@@ -74,7 +74,7 @@ module _ (s : Slot) (k : HasNumber s) (l : Lead) where
   next-known : (n : ℕ) → Sound l → Rattle.ari.specs.Table.fits (l .kind) (l .arg) (rule s .rows) ≡ true → Known (rule s .next (l .arg) n)
   next-known n h f =
       let i = k .number in
-      let g : fitsCode i (l .kind) (l .arg) ≡ true = fits-right i (l .kind) (l .arg) (k .is-slot) (sound-kind h) ∙ rw (k .slot-is) f in
+      let g : fitsCode i (l .kind) (l .arg) ≡ true = fits-right i (l .kind) (l .arg) ∙ rw (k .slot-is) f in
       rw (k .slot-is) at (known-of (rule (slotOf i) .next (l .arg) n) (nextCode i (l .arg) n) (next-right i (l .kind) (l .arg) n (k .is-slot) (sound-kind h) g))
 
 -- what a container holds is one deeper; what is none holds nothing
@@ -161,7 +161,7 @@ head-is b p l r e h = rw (e, getHead-back r h)
 
 reference-is : (s : Slot) (l : Lead) (j : ℕ) → IsSlot j → slotOf j ≡ s → slotNumber s ≡ j → isReference s l ≡ referenceBy (slotNumber s) (l .kind) (l .arg)
 unfolding isReference
-reference-is s l j v e q = rw (q, ← e, takes-reference-right j v)
+reference-is s l j v e q = rw (q, ← e, takes-reference-right j)
 
 -- What the table says of item k, with the head that the bytes have there.
 module _ {m : Limits} {i : Input} {b : List ℕ} {n : ℕ} {t : List ℕ} (c : Tabled m i b n t) (k : ℕ) (h : k < n) where

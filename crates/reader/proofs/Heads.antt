@@ -19,14 +19,13 @@ use Rattle.cbor.specs.Head.{keyBytes}
 use Rattle.ari.specs.Reader.{wrongVersion, notGreater, isEmpty, judgeContent, judge, judgeGot}
 use Rattle.ari.specs.Reader as reader
 use Rattle.grammar.specs.Code.{slotOf, extraOf, fitsCode}
-use Rattle.grammar.specs.Code.{IsSlot}
 use Rattle.grammar.proofs.Right.{fits-right}
 use Rattle.reader.specs.declared.Step.{Step}
 use Rattle.reader.specs.declared.Step.the-variants.{Taken, Refused}
 use Rattle.reader.specs.declared.End.{End}
 use Rattle.reader.specs.declared.End.the-variants.{At, Short}
 use Rattle.buffer.specs.Bytes.{part}
-use Rattle.reader.specs.Steps.{stringEnd, stepAnswer, stepAt, contentGot, contentAt, ContentShown, Bounded, noHead}
+use Rattle.reader.specs.Steps.{stringEnd, keyAt, stepAnswer, stepAt, contentGot, contentAt, ContentShown, Bounded, noHead}
 use Rattle.reader.proofs.Keys.{ordered-kind, key-bytes, own-key, same-order, no-key, filled-other}
 
 -- a string's end
@@ -77,8 +76,8 @@ module _ (b : List ℕ) (k a q : ℕ) {y : End} (g : y ≡ stringEnd b k a q) {x
   end-in = at-cases (within 2 3 k) (ltb (length b - q) a) refl (sym f ∙ g) .1
 
 -- test 7, in the rules' terms
-pub fits-slot : (i k a : ℕ) → IsSlot i → k ≤ 9 → fitsCode i k a ≡ true → fits k a (rule (slotOf i) .rows) ≡ true
-fits-slot i k a v h e = sym (fits-right i k a v h) ∙ e
+pub fits-slot : (i k a : ℕ) → fitsCode i k a ≡ true → fits k a (rule (slotOf i) .rows) ≡ true
+fits-slot i k a e = sym (fits-right i k a) ∙ e
 
 -- test 10
 pub text-spelt : (k : ℕ) → k ≡ 3 → {r x : Bool} → r ≡ x → not r ≡ (eqb k 3 && not x)
@@ -218,9 +217,9 @@ module _ (b : List ℕ) (p : ℕ) (s : Slot) (prev : List ℕ) {k a q : ℕ} (e 
 -- a slot with no test of its own
 pub is-plain : (b : List ℕ) (p i : ℕ) (prev : List ℕ) {k a q : ℕ} → headAt b p ≡ Good k a q → q ≤ length b → {y : End} → y ≡ stringEnd b k a q
     → {x : ℕ} → y ≡ At x → {m : Bool} → m ≡ (eqb k 3 && not (rule (slotOf i) .spelling (part b q x))) → m ≡ false → all isByte b ≡ true
-    → fits k a (rule (slotOf i) .rows) ≡ true → IsSlot i → {o : ℕ} → o ≡ extraOf i → o ≡ 0 → Taken k a x ≡ contentAt b p (slotOf i) prev
-is-plain b p i prev {k} {a} {q} e n g {x} f c t bs fit v {o} eo z =
-    is-taken b p (slotOf i) prev e n g f c t bs fit (no-key i v eo (λ u. omega arith) prev (keyOf (part b p x))) refl (filled-other i v eo (λ u. omega arith) a) refl
+    → fits k a (rule (slotOf i) .rows) ≡ true → {o : ℕ} → o ≡ extraOf i → o ≡ 0 → Taken k a x ≡ contentAt b p (slotOf i) prev
+is-plain b p i prev {k} {a} {q} e n g {x} f c t bs fit {o} eo z =
+    is-taken b p (slotOf i) prev e n g f c t bs fit (no-key i eo (λ u. omega arith) prev (keyOf (part b p x))) refl (filled-other i eo (λ u. omega arith) a) refl
 
 -- the tests 2 to 8
 module _ (b : List ℕ) (p i : ℕ) (prev : List ℕ) (c items d : ℕ) where
@@ -235,7 +234,7 @@ module _ (b : List ℕ) (p i : ℕ) (prev : List ℕ) (c items d : ℕ) where
       go (bad r′) z = let y : r ≡ r′ = cc in rw y
       go (got m) z = absurd (let y : _≡_ {A = ℕ} 0 1 = cc in omega arith)
 
-  module _ (v : IsSlot i) {h : Head} (e : h ≡ headAt b p) {k a q : ℕ} (g : h ≡ Good k a q) where
+  module _ {h : Head} (e : h ≡ headAt b p) {k a q : ℕ} (g : h ≡ Good k a q) where
     abbrev st : Read b p k a q
     st = stands b p k a q (sym e ∙ g)
 
@@ -258,9 +257,9 @@ module _ (b : List ℕ) (p i : ℕ) (prev : List ℕ) (c items d : ℕ) where
       unfolding judge
       stop-deep t = rw (spare, deep-is ∙ t) (refl) ∙ here-is
 
-      module _ (t : x ≡ false) (kk : k ≤ 9) {y : Bool} (ey : y ≡ fitsCode i k a) where
+      module _ (t : x ≡ false) {y : Bool} (ey : y ≡ fitsCode i k a) where
         fits-is : fits (st .lead .kind) (st .lead .arg) (rule (slotOf i) .rows) ≡ y
-        fits-is = rw (st .kind-is, st .arg-is) (sym (fits-right i k a v kk) ∙ sym ey)
+        fits-is = rw (st .kind-is, st .arg-is) (sym (fits-right i k a) ∙ sym ey)
 
         pub stop-fits : not y ≡ true → Refused 7 p ≡ here
         unfolding judge
@@ -281,6 +280,36 @@ module _ (b : List ℕ) (p i : ℕ) (prev : List ℕ) (c items d : ℕ) where
 
           pub goes-on : z ≡ false → {r : Step} → r ≡ contentAt b p (slotOf i) prev → r ≡ here
           goes-on w {r} f = f ∙ sym (content-is b p (slotOf i) prev (sym e ∙ g)) ∙ ap (stepAnswer p) (sym (judge-content w)) ∙ here-is
+
+-- the key before, by its ends
+pub key-at : (b : List ℕ) (f t : ℕ) → f ≤ t → t ≤ length b → keyAt b f t ≡ part b f t
+unfolding keyAt
+key-at b f t h g = rw (le-leb f t h, le-leb t (length b) g)
+
+module _ (b : List ℕ) (f t : ℕ) where
+  pub backwards : t < f → keyAt b f t ≡ []
+  unfolding keyAt
+  backwards h = rw (lt-leb f t h)
+
+  pub outside : length b < t → keyAt b f t ≡ []
+  unfolding keyAt
+  outside h = go (leb f t)
+    where
+      go : (x : Bool) → cond (x && leb t (length b)) (part b f t) [] ≡ []
+      go true = rw (lt-leb t (length b) h)
+      go false = refl
+
+  module _ (p i c items d : ℕ) {r : Step} where
+    pub keyless : t < f → r ≡ stepAt b p (slotOf i) (keyOf (part b 0 0)) (items - c) d → r ≡ stepAt b p (slotOf i) (keyOf (keyAt b f t)) (items - c) d
+    keyless h e = rw (backwards h) e
+
+    pub keyless-out : length b < t → r ≡ stepAt b p (slotOf i) (keyOf (part b 0 0)) (items - c) d → r ≡ stepAt b p (slotOf i) (keyOf (keyAt b f t)) (items - c) d
+    keyless-out h e = rw (outside h) e
+
+    pub keyed : f ≤ t → t ≤ length b → r ≡ stepAt b p (slotOf i) (keyOf (part b f t)) (items - c) d → r ≡ stepAt b p (slotOf i) (keyOf (keyAt b f t)) (items - c) d
+    keyed h g e = rw (key-at b f t h g) e
+
+pub ruleset any-key = (keyless, keyless-out, keyed)
 
 -- what a head that was read has shown
 module _ (b : List ℕ) (p : ℕ) {h : Head} {k a q : ℕ} (g : h ≡ Good k a q) where

@@ -20,16 +20,15 @@ use Rattle.ari.specs.Table.{Place, Slot, version, ari, type, value, namespace, 
 use Rattle.cbor.specs.Head.{keyBytes}
 use Rattle.ari.specs.Reader.{keyAfter, wrongVersion, notGreater, isEmpty}
 use Rattle.grammar.specs.Code.{slotOf, extraOf, spelledAs}
-use Rattle.grammar.specs.Code.{IsSlot}
 use Rattle.grammar.proofs.Right.{extra-right}
 use Rattle.grammar.proofs.Hits.{Rest, miss}
 use Rattle.buffer.specs.Bytes.{part}
 use Rattle.reader.specs.Steps.{keySpan}
 
 -- the slot's own test, by its number
-module _ (i : ℕ) (h : IsSlot i) {x : ℕ} (e : x ≡ extraOf i) where
+module _ (i : ℕ) {x : ℕ} (e : x ≡ extraOf i) where
   own-is : rule (slotOf i) .extra ≡ getD (none ∷ one ∷ rising ∷ filled ∷ []) x none
-  own-is = rw e (extra-right i h)
+  own-is = rw e (extra-right i)
 
   pub is-one : x ≡ 1 → rule (slotOf i) .extra ≡ one
   is-one q = own-is ∙ rw q
@@ -50,24 +49,24 @@ module _ {A : Type 0} (f : ExtraTest → A) (a : A) (n : ℕ) (none-is : f none 
   others-at (suc (suc (suc zero))) m = filled-is m
   others-at (suc (suc (suc (suc x)))) m = none-is
 
-  others : (i : ℕ) → IsSlot i → {x : ℕ} → x ≡ extraOf i → (x ≡ n → ⊥) → f (rule (slotOf i) .extra) ≡ a
-  others i h {x} e m = rw (own-is i h e) (others-at x m)
+  others : (i : ℕ) {x : ℕ} → x ≡ extraOf i → (x ≡ n → ⊥) → f (rule (slotOf i) .extra) ≡ a
+  others i {x} e m = rw (own-is i e) (others-at x m)
 
-module _ (i : ℕ) (h : IsSlot i) {x : ℕ} (e : x ≡ extraOf i) where
+module _ (i : ℕ) {x : ℕ} (e : x ≡ extraOf i) where
   pub not-one : (x ≡ 1 → ⊥) → (a : ℕ) → wrongVersion (rule (slotOf i) .extra) a ≡ false
-  not-one m a = others (λ o. wrongVersion o a) false 1 refl (λ n. absurd (n refl)) (λ n. refl) (λ n. refl) i h e m
+  not-one m a = others (λ o. wrongVersion o a) false 1 refl (λ n. absurd (n refl)) (λ n. refl) (λ n. refl) i e m
 
   pub not-rising : (x ≡ 2 → ⊥) → (p k : List ℕ) → notGreater (rule (slotOf i) .extra) p k ≡ false
-  not-rising m p k = others (λ o. notGreater o p k) false 2 refl (λ n. refl) (λ n. absurd (n refl)) (λ n. refl) i h e m
+  not-rising m p k = others (λ o. notGreater o p k) false 2 refl (λ n. refl) (λ n. absurd (n refl)) (λ n. refl) i e m
 
   pub not-filled : (x ≡ 3 → ⊥) → (a : ℕ) → isEmpty (rule (slotOf i) .extra) a ≡ false
-  not-filled m a = others (λ o. isEmpty o a) false 3 refl (λ n. refl) (λ n. refl) (λ n. absurd (n refl)) i h e m
+  not-filled m a = others (λ o. isEmpty o a) false 3 refl (λ n. refl) (λ n. refl) (λ n. absurd (n refl)) i e m
 
   pub old-span : (x ≡ 2 → ⊥) → (a b : ℕ) → a ≡ keySpan (rule (slotOf i) .extra) a b
-  old-span m a b = sym (others (λ o. keySpan o a b) a 2 refl (λ n. refl) (λ n. absurd (n refl)) (λ n. refl) i h e m)
+  old-span m a b = sym (others (λ o. keySpan o a b) a 2 refl (λ n. refl) (λ n. absurd (n refl)) (λ n. refl) i e m)
 
   pub new-span : x ≡ 2 → (a b : ℕ) → b ≡ keySpan (rule (slotOf i) .extra) a b
-  new-span q a b = rw (is-rising i h e q)
+  new-span q a b = rw (is-rising i e q)
 
 -- only keys are ordered, and a key is a number or a text string
 key-kind : (k a : ℕ) (w : Place) → fits k a (rule (key w) .rows) ≡ true → k ≤ 5
@@ -138,24 +137,24 @@ same-order rising prev k k′ e = rw (e refl)
 same-order filled prev k k′ e = refl
 
 -- what the functions answer, way by way
-module _ (i : ℕ) (h : IsSlot i) {x : ℕ} (e : x ≡ extraOf i) where
+module _ (i : ℕ) {x : ℕ} (e : x ≡ extraOf i) where
   pub version-one : x ≡ 1 → (a : ℕ) → not (eqb a 1) ≡ wrongVersion (rule (slotOf i) .extra) a
-  version-one q a = rw (is-one i h e q)
+  version-one q a = rw (is-one i e q)
 
   pub version-other : (x ≡ 1 → ⊥) → (a : ℕ) → false ≡ wrongVersion (rule (slotOf i) .extra) a
-  version-other q a = sym (not-one i h e q a)
+  version-other q a = sym (not-one i e q a)
 
   pub rising-key : x ≡ 2 → (p k : List ℕ) {y : Bool} → y ≡ below p k → not y ≡ notGreater (rule (slotOf i) .extra) p k
-  rising-key q p k g = rw (is-rising i h e q, g)
+  rising-key q p k g = rw (is-rising i e q, g)
 
   pub no-key : (x ≡ 2 → ⊥) → (p k : List ℕ) → false ≡ notGreater (rule (slotOf i) .extra) p k
-  no-key q p k = sym (not-rising i h e q p k)
+  no-key q p k = sym (not-rising i e q p k)
 
   pub filled-one : x ≡ 3 → (a : ℕ) → eqb a 0 ≡ isEmpty (rule (slotOf i) .extra) a
-  filled-one q a = rw (is-filled i h e q)
+  filled-one q a = rw (is-filled i e q)
 
   pub filled-other : (x ≡ 3 → ⊥) → (a : ℕ) → false ≡ isEmpty (rule (slotOf i) .extra) a
-  filled-other q a = sym (not-filled i h e q a)
+  filled-other q a = sym (not-filled i e q a)
 
 pub ruleset owns = (version-one, version-other, rising-key, no-key, filled-one, filled-other)
 

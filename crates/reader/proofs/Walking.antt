@@ -65,13 +65,13 @@ module _ (b : List ℕ) (p left d : ℕ) (s : Slot) (prev : List ℕ) (k a q : �
   took e = took-got (getHead (drop p b)) refl (judgeGot left d s prev (getHead (drop p b)) (drop p b)) refl e
 
 -- The run at a frame: one step.
-run-frame : (left : ℕ) (s : Slot) (n : ℕ) (prev : List ℕ) (d : ℕ) (ds : Dues) (p r : ℕ) (x : List ℕ) → judgeGot left d s prev (getHead x) x ≡ reader.no r
+pub run-frame : (left : ℕ) (s : Slot) (n : ℕ) (prev : List ℕ) (d : ℕ) (ds : Dues) (p r : ℕ) (x : List ℕ) → judgeGot left d s prev (getHead x) x ≡ reader.no r
     → run left (frame s n prev d ds) p x ≡ refuse r p
 unfolding run visit takeStep
 run-frame zero s n prev d ds p r x e = rw e
 run-frame (suc left) s n prev d ds p r x e = rw e
 
-run-taken : (left : ℕ) (s : Slot) (n : ℕ) (prev : List ℕ) (d : ℕ) (ds : Dues) (p : ℕ) (x : List ℕ) (l : Lead) (str : List ℕ)
+pub run-taken : (left : ℕ) (s : Slot) (n : ℕ) (prev : List ℕ) (d : ℕ) (ds : Dues) (p : ℕ) (x : List ℕ) (l : Lead) (str : List ℕ)
     → judgeGot (suc left) d s prev (getHead x) x ≡ reader.yes l str
     → run (suc left) (frame s n prev d ds) p x
     ≡ run left (push (members s l) [] (pred d) (behind s l str n prev d ds)) (insideAt p l str) (drop (size l + length str) x)

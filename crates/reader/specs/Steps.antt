@@ -1,11 +1,11 @@
--- One head at a place, as the code answers it. Interface: stringEnd. Private to src/: the others.
+-- One head at a place, as the code answers it. Interface: stringEnd, keyAt, stepAt, Bounded, keySpan. Private to src/: the others.
 use Prim.Native.Nat.{ℕ, _+_, _-_, _<_, _≤_}
 use mathlib.Core.Path.{_≡_}
 use mathlib.Core.Bool.{Bool, true, false, not, _&&_, cond}
 use mathlib.Core.List.{List, [], _∷_}
 use lib.ListN.{length, getD, take, drop}
-use lib.Dec.{ltb, eqb}
-use Rattle.buffer.specs.Bytes.{within}
+use lib.Dec.{ltb, leb, eqb}
+use Rattle.buffer.specs.Bytes.{part, within}
 use Rattle.cbor.specs.declared.Head as cbor
 use Rattle.cbor.specs.declared.Head.the-variants as cbors
 use Rattle.cbor.specs.Head.{text, Lead, size, Got, bad, got, getHead, stringSize, isContainer}
@@ -28,6 +28,10 @@ standsAt b p x left = ltb p (length b) && (not (eqb left 0) && eqb (getD b p 0) 
 -- where the string of a head ends that has this kind and argument and ends at q itself
 unfoldable pub stringEnd : List ℕ → ℕ → ℕ → ℕ → End
 stringEnd b k a q = cond (within 2 3 k) (cond (ltb (length b - q) a) Short (At (q + a))) (At q)
+
+-- the key before, by its ends; none where they are not those of a part of the input
+unfoldable pub keyAt : List ℕ → ℕ → ℕ → List ℕ
+keyAt b from to = cond (leb from to && leb to (length b)) (part b from to) []
 
 -- a step of the reader at the place p
 abbrev pub stepAnswer : ℕ → reader.Step → Step

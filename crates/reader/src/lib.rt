@@ -16,7 +16,7 @@ ghost use Rattle.ari.specs.Reader.{wrongVersion, notGreater, isEmpty};
 ghost use Rattle.grammar.specs.Code.{slotOf};
 ghost use Rattle.grammar.specs.Code.{IsSlot};
 ghost use Rattle.buffer.specs.Bytes.{part};
-ghost use Rattle.reader.specs.Steps.{standsAt, stringEnd, stepAt, contentAt, ContentShown, noHead, stoppedOf, Bounded, keySpan};
+ghost use Rattle.reader.specs.Steps.{standsAt, stringEnd, keyAt, stepAt, contentAt, ContentShown, noHead, stoppedOf, Bounded, keySpan};
 ghost use Rattle.reader.specs.Walks.{insideLevel, Walked, SetsWalked};
 ghost use Rattle.ari.specs.declared.Input.the-variants.{Single, Message};
 ghost use Rattle.ari.specs.Reader.{read};
@@ -51,7 +51,7 @@ pub enum Walk {
 
 // Test 8.
 fn wrong_version(slot: u64, extra: u64, arg: u64) -> bool
-    requires { ⌜ IsSlot slot × (extra ≡ extraOf slot) ⌝ }
+    requires { ⌜ (extra ≡ extraOf slot) ⌝ }
     ensures { λ r. ⌜ r ≡ wrongVersion (rule (slotOf slot) .extra) arg ⌝ }
 {
     if extra == 1 {
@@ -94,7 +94,6 @@ pub fn string_end(s: &[u8], kind: u8, arg: u64, next: usize) -> End
 }
 
 fn is_spelled(slot: u64, t: &[u8]) -> bool
-    requires { ⌜ IsSlot slot ⌝ }
     ensures { λ r. ⌜ r ≡ rule (slotOf slot) .spelling (now (t .entry)) ⌝ }
 {
     let spelling = grammar::spelling(slot);
@@ -108,7 +107,7 @@ fn is_spelled(slot: u64, t: &[u8]) -> bool
 
 // Test 10.
 fn is_misspelt(s: &[u8], slot: u64, kind: u8, next: usize, end: usize) -> bool
-    requires { ⌜ IsSlot slot × (next ≤ end) × (end ≤ length (now s)) ⌝ }
+    requires { ⌜ (next ≤ end) × (end ≤ length (now s)) ⌝ }
     ensures { λ r. ⌜ r ≡ (eqb kind 3 && not (rule (slotOf slot) .spelling (part (now (s .entry)) next end))) ⌝ }
 {
     if kind == cbor::TEXT {
@@ -119,7 +118,7 @@ fn is_misspelt(s: &[u8], slot: u64, kind: u8, next: usize, end: usize) -> bool
 
 // Test 11.
 fn is_not_greater(s: &[u8], slot: u64, extra: u64, prev: Span, at: usize, end: usize) -> bool
-    requires { ⌜ IsSlot slot × (extra ≡ extraOf slot) × (prev .from ≤ prev .to) × (prev .to ≤ length (now s)) × (at ≤ end) × (end ≤ length (now s)) ⌝ }
+    requires { ⌜ (extra ≡ extraOf slot) × (prev .from ≤ prev .to) × (prev .to ≤ length (now s)) × (at ≤ end) × (end ≤ length (now s)) ⌝ }
     ensures { λ r. ⌜ r ≡ notGreater (rule (slotOf slot) .extra) (keyOf (part (now (s .entry)) (prev .from) (prev .to))) (keyOf (part (now (s .entry)) at end)) ⌝ }
 {
     if extra == 2 {
@@ -132,7 +131,7 @@ fn is_not_greater(s: &[u8], slot: u64, extra: u64, prev: Span, at: usize, end: u
 
 // Test 12.
 fn is_empty(slot: u64, extra: u64, arg: u64) -> bool
-    requires { ⌜ IsSlot slot × (extra ≡ extraOf slot) ⌝ }
+    requires { ⌜ (extra ≡ extraOf slot) ⌝ }
     ensures { λ r. ⌜ r ≡ isEmpty (rule (slotOf slot) .extra) arg ⌝ }
 {
     if extra == 3 {
@@ -152,7 +151,7 @@ fn judge_content(
     arg: u64,
     next: usize,
 ) -> Step
-    requires { ⌜ (all isByte (now s) ≡ true) × IsSlot slot × (extra ≡ extraOf slot) × (prev .from ≤ prev .to) × (prev .to ≤ length (now s)) ⌝ }
+    requires { ⌜ (all isByte (now s) ≡ true) × (extra ≡ extraOf slot) × (prev .from ≤ prev .to) × (prev .to ≤ length (now s)) ⌝ }
     requires { ⌜ (headAt (now s) at ≡ Good kind arg next) × (at < next) × (next ≤ length (now s)) × (fitsCode slot kind arg ≡ true) × (kind ≤ 9) ⌝ }
     ensures { λ r. ⌜ r ≡ contentAt (now (s .entry)) at (slotOf slot) (keyOf (part (now (s .entry)) (prev .from) (prev .to))) ⌝ }
     ensures { λ r. ⌜ ContentShown (now (s .entry)) kind arg next r ⌝ }
@@ -236,7 +235,7 @@ fn take_head(
     items: usize,
     depth: usize,
 ) -> Step
-    requires { ⌜ (all isByte (now s) ≡ true) × IsSlot slot × (prev .from ≤ prev .to) × (prev .to ≤ length (now s)) ⌝ }
+    requires { ⌜ (all isByte (now s) ≡ true) × (prev .from ≤ prev .to) × (prev .to ≤ length (now s)) ⌝ }
     ensures { λ r. ⌜ r ≡ stepAt (now (s .entry)) at (slotOf slot) (keyOf (part (now (s .entry)) (prev .from) (prev .to))) (items - count) depth ⌝ }
     ensures { λ r. ⌜ Bounded (now (s .entry)) at count items depth slot r ⌝ }
 {
@@ -272,9 +271,31 @@ fn take_head(
     judge_content(s, at, slot, extra, prev, kind, arg, next)
 }
 
+// The same for those who take heads one by one: a key before that does not lie in the input stands for none.
+pub fn take(
+    s: &[u8],
+    at: usize,
+    slot: u64,
+    prev: Span,
+    count: usize,
+    items: usize,
+    depth: usize,
+) -> Step
+    ensures { λ r. ⌜ r ≡ stepAt (now (s .entry)) at (slotOf slot) (keyOf (keyAt (now (s .entry)) (prev .from) (prev .to))) (items - count) depth ⌝ }
+    ensures { λ r. ⌜ Bounded (now (s .entry)) at count items depth slot r ⌝ }
+{
+    let none = Span { from: 0, to: 0 };
+    if prev.to < prev.from {
+        return take_head(s, at, slot, none, count, items, depth);
+    }
+    if s.len() < prev.to {
+        return take_head(s, at, slot, none, count, items, depth);
+    }
+    take_head(s, at, slot, prev, count, items, depth)
+}
+
 // The key before, for what is due next on a level.
-fn key_after(slot: u64, prev: Span, from: usize, to: usize) -> Span
-    requires { ⌜ IsSlot slot ⌝ }
+pub fn key_after(slot: u64, prev: Span, from: usize, to: usize) -> Span
     ensures { λ r. ⌜ (r .from ≡ keySpan (rule (slotOf slot) .extra) (prev .from) from) × (r .to ≡ keySpan (rule (slotOf slot) .extra) (prev .to) to) ⌝ }
 {
     if grammar::extra_test(slot) == grammar::KEY_TEST {

@@ -96,7 +96,7 @@ module _ (b : List ℕ) (i n d p at : ℕ) {x : Item} (y : ItemAt b p i d x) {k 
     next-is : {l : Lead} {str prev : List ℕ} → fit.Good (slotOf i) prev l str → k ≡ l .kind → a ≡ l .arg → levelOf nx ≡ rule (slotOf i) .next (l .arg) n
     next-is {l} g ek ea =
         let h = sound-kind (g .head) in
-        rw (nn, ea) (next-right i (l .kind) (l .arg) n v h (fits-right i (l .kind) (l .arg) v h ∙ g .fitting) .level)
+        rw (nn, ea) (next-right i (l .kind) (l .arg) n v h (fits-right i (l .kind) (l .arg) ∙ g .fitting) .level)
 
     pub next-slotted : {j m : ℕ} → nx ≡ Due j m → IsSlot j
     next-slotted z = rw (← nn, z) at (slotted i a n v)
