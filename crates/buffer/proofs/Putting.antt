@@ -1,11 +1,11 @@
 -- Laws of writing: nothing, one byte, a room that is full, one text after another, a loop over a text's bytes.
-use Prim.Native.Nat.{ℕ, suc, _+_, _≤_, _<_, min, max}
+use Prim.Native.Nat.{ℕ, suc, _+_, _-_, _≤_, _<_, min, max}
 use mathlib.Core.Path.{_≡_, refl, sym, _∙_, ap}
 use mathlib.Core.Bool.{Bool, true, false}
 use mathlib.Core.List.{List, [], _∷_, _++_}
 use native.Mathlib.Omega.{arith}
 use native.Mathlib.Numerals.{add-one}
-use lib.ListN.{length, take, getD, set, length-append}
+use lib.ListN.{length, take, drop, getD, set, length-append, take-append-drop}
 use lib.Seq.{sets, length-sets, set-out, take-suc, take-all}
 use lib.Dec.{leb}
 use borrow.Author.Tests.{leb-true, leb-false}
@@ -79,4 +79,38 @@ put-whole t i p h = rw (take-all i t h) at p
 pub put-start : (t room : List ℕ) (at : ℕ) → Put room room at at (take 0 t)
 put-start t room at = put-nothing room at
 
+-- the same for a loop that knows how much fits
+pub put-next : (t : List ℕ) (i : ℕ) {a b : List ℕ} {at : ℕ} → Put a b at (at + i) (take i t) → i < length t → at + i < length a
+    → Put a (set b (at + i) (getD t i 0)) at (at + (i + 1)) (take (i + 1) t)
+put-next t i {a} {b} {at} p h g =
+    let e : at + (i + 1) ≡ at + i + 1 = omega arith in
+    rw e (put-turn t i p h (put-byte b (at + i) (getD t i 0) (omega (arith, put-size p))))
+
+pub put-first : (t room : List ℕ) (at : ℕ) → Put room room at (at + 0) (take 0 t)
+put-first t room at = let e : at + 0 ≡ at = omega arith in rw e (put-nothing room at)
+
+-- all of it, or as much as there is room for
+pub put-most : (t : List ℕ) (n i : ℕ) {a b : List ℕ} {at : ℕ} → Put a b at (at + i) (take i t) → i ≤ n → n ≤ i → at < length a → n ≡ min (length t) (length a - at)
+    → Put a b at (at + n) t
+put-most t n i {a} {b} {at} p h g l e = let z : i ≡ n = omega arith in go (leb (length t) n) refl (rw z at p)
+  where
+    go : (x : Bool) → leb (length t) n ≡ x → Put a b at (at + n) (take n t) → Put a b at (at + n) t
+    go true y p = rw (take-all n t (leb-true (length t) n y)) at p
+    go false y p =
+        let o : n < length t = leb-false (length t) n y in
+        rw (take-append-drop n t) at (put-both p (put-out b (at + n) (drop n t) (omega (arith, put-size p))))
+
+-- how far the loop may go
+module _ (n : ℕ) (t a : List ℕ) (at : ℕ) (e : n ≡ min (length t) (length a - at)) where
+  pub in-text : (i : ℕ) → i < n → i < length t
+  in-text i h = omega arith
+
+  pub in-room : (i : ℕ) → i < n → at + i < length a
+  in-room i h = omega arith
+
+  pub in-lent : {b u : List ℕ} {q : ℕ} → Put a b at q u → (i : ℕ) → i < n → at + i < length b
+  in-lent p i h = omega (arith, put-size p)
+
 pub ruleset putting = (put-byte, put-full, put-size, put-start, put-turn, put-whole)
+
+pub ruleset copying = (put-out, put-next, put-first, put-most, in-text, in-room, in-lent, put-size)

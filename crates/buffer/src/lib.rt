@@ -1,7 +1,7 @@
 // Plain bytes in lent memory: bytes and numbers are put, stored, loaded, written and read in decimal, and compared.
 ghost use mathlib.Core.Path.{_≡_};
 ghost use mathlib.Core.List.{[], _∷_};
-ghost use Prim.Native.Nat.{_+_, _*_, _^_, _<_, _≤_};
+ghost use Prim.Native.Nat.{_+_, _*_, _^_, _<_, _≤_, min};
 ghost use lib.ListN.{length, take, drop};
 ghost use lib.Seq.{sets};
 ghost use Rattle.buffer.specs.Put.{Put};
@@ -21,17 +21,29 @@ pub fn put(out: &mut [u8], at: usize, x: u8) -> usize
     at
 }
 
-// Bytes as they are.
+fn least(a: usize, b: usize) -> usize
+    ensures { λ r. ⌜ r ≡ min a b ⌝ }
+{
+    if a < b {
+        return a;
+    }
+    b
+}
+
+// Bytes as they are. What fits is known before the loop, so that LLVM makes one copy of it.
 pub fn put_all(out: &mut [u8], at: usize, s: &[u8]) -> usize
     ensures { λ r. ⌜ Put (now (out .entry)) (now (out .exit)) at r (now (s .entry)) ⌝ }
 {
-    let mut r = at;
+    if out.len() <= at {
+        return at;
+    }
+    let n = least(s.len(), out.len() - at);
     let mut i = 0;
-    while i < s.len() {
-        r = put(out, r, s[i]);
+    while i < n {
+        out[at + i] = s[i];
         i += 1;
     }
-    r
+    at + n
 }
 
 // A big-endian number of 2, 4 or 8 bytes.
