@@ -7,7 +7,7 @@ use native.Mathlib.Omega.{arith}
 use lib.ListN.{length, take, drop, length-append, length-drop}
 use lib.Seq.{take-append-le, drop-append-le, length-take-le}
 use lib.Dec.{ltb, eqb}
-use borrow.Author.Tests.{ltb-false, le-ltb, lt-ltb}
+use borrow.Author.Tests.{ltb-true, ltb-false, le-ltb, lt-ltb}
 use Rattle.buffer.proofs.ByteLaws.{past}
 use Rattle.cbor.specs.Head.{text, Lead, size, width, argument, kindOf, unused, notShortest, Got, bad, got, getFrom, getHead, stringSize, isContainer}
 use Rattle.cbor.proofs.HeadLaws.{head-fits}
@@ -92,46 +92,94 @@ taken-fits left d s prev b {k} {str} j = go (getHead b) refl j
         rw (← e) (omega (arith, w .there, length-drop (size l) b, head-fits b g))
 
 -- what is no head is refused with 2, 3 or 4
-head-number : (b : List ℕ) {r : ℕ} → getHead b ≡ bad r → r < 5
+head-number : (b : List ℕ) {r : ℕ} → getHead b ≡ bad r → (1 < r) × (r < 5)
 unfolding getHead getFrom
-head-number [] {r} e = let z : 2 ≡ r = cc in omega arith
+head-number [] {r} e = let z : 2 ≡ r = cc in (omega arith, omega arith)
 head-number (x ∷ b) {r} e = go (ltb (length b) (width (x % 32))) (unused (x / 32) (x % 32)) (notShortest (x % 32) (kindOf (x / 32) (x % 32)) (argument (x % 32) b)) _ e
   where
-    go : (t u v : Bool) (l : Lead) → cond t (bad 2) (cond u (bad 3) (cond v (bad 4) (got l))) ≡ bad r → r < 5
-    go true u v l e = let z : 2 ≡ r = cc in omega arith
-    go false true v l e = let z : 3 ≡ r = cc in omega arith
-    go false false true l e = let z : 4 ≡ r = cc in omega arith
+    go : (t u v : Bool) (l : Lead) → cond t (bad 2) (cond u (bad 3) (cond v (bad 4) (got l))) ≡ bad r → (1 < r) × (r < 5)
+    go true u v l e = let z : 2 ≡ r = cc in (omega arith, omega arith)
+    go false true v l e = let z : 3 ≡ r = cc in (omega arith, omega arith)
+    go false false true l e = let z : 4 ≡ r = cc in (omega arith, omega arith)
     go false false false l e = absurd (not-bad e)
+
+-- a head is refused by one of the tests 2 to 12
+judge-number : (left d : ℕ) (s : Slot) (prev : List ℕ) (l : Lead) (b : List ℕ) {r : ℕ} → judge left d s prev l b ≡ no r → (1 < r) × (r < 13)
+unfolding judge judgeContent
+judge-number left d s prev l b {r} e =
+    go (eqb left 0) (isContainer (l .kind) && eqb d 0) (not (fits (l .kind) (l .arg) (rule s .rows))) (wrongVersion (rule s .extra) (l .arg))
+    (ltb (length b) (stringSize l)) (eqb (l .kind) text && not (rule s .spelling str)) (notGreater (rule s .extra) prev (keyBytes l str)) (isEmpty (rule s .extra) (l .arg)) e
+  where
+    str : List ℕ
+    str = take (stringSize l) b
+
+    go : (t5 t6 t7 t8 t9 t10 t11 t12 : Bool)
+        → cond t5 (no 5) (cond t6 (no 6) (cond t7 (no 7) (cond t8 (no 8) (cond t9 (no 9) (cond t10 (no 10) (cond t11 (no 11) (cond t12 (no 12) (yes l str)))))))) ≡ no r
+        → (1 < r) × (r < 13)
+    go true t6 t7 t8 t9 t10 t11 t12 e = let z : 5 ≡ r = cc in (omega arith, omega arith)
+    go false true t7 t8 t9 t10 t11 t12 e = let z : 6 ≡ r = cc in (omega arith, omega arith)
+    go false false true t8 t9 t10 t11 t12 e = let z : 7 ≡ r = cc in (omega arith, omega arith)
+    go false false false true t9 t10 t11 t12 e = let z : 8 ≡ r = cc in (omega arith, omega arith)
+    go false false false false true t10 t11 t12 e = let z : 9 ≡ r = cc in (omega arith, omega arith)
+    go false false false false false true t11 t12 e = let z : 10 ≡ r = cc in (omega arith, omega arith)
+    go false false false false false false true t12 e = let z : 11 ≡ r = cc in (omega arith, omega arith)
+    go false false false false false false false true e = let z : 12 ≡ r = cc in (omega arith, omega arith)
+    go false false false false false false false false e = absurd (not-no e)
+
+pub step-number : (left d : ℕ) (s : Slot) (prev b : List ℕ) {r : ℕ} → judgeGot left d s prev (getHead b) b ≡ no r → (1 < r) × (r < 13)
+unfolding judgeGot
+step-number left d s prev b {r} j = go (getHead b) refl j
+  where
+    go : (y : Got) → getHead b ≡ y → judgeGot left d s prev y b ≡ no r → (1 < r) × (r < 13)
+    go (bad r′) g j = let z : r′ ≡ r = cc in let (p, q) = head-number b g in (omega arith, omega arith)
+    go (got l) g j = judge-number left d s prev l (drop (size l) b) j
 
 -- A head whose string is not all there: it is refused with 9 as long as this is so.
 pub record Lacking (left d : ℕ) (s : Slot) (prev b : List ℕ) : Type 0 where
   pub lead : Lead
   pub head : getHead b ≡ got lead
+  pub short : length b < size lead + stringSize lead
   pub stays : (c : List ℕ) → length (b ++ c) < size lead + stringSize lead → judgeGot left d s prev (getHead (b ++ c)) (b ++ c) ≡ no 9
 
 judge-lacking : (left d : ℕ) (s : Slot) (prev : List ℕ) (l : Lead) (r : List ℕ) → judge left d s prev l r ≡ no 9
-    → (r′ : List ℕ) → length r′ < stringSize l → judge left d s prev l r′ ≡ no 9
+    → (length r < stringSize l) × ((r′ : List ℕ) → length r′ < stringSize l → judge left d s prev l r′ ≡ no 9)
 unfolding judge judgeContent
-judge-lacking left d s prev l r e r′ h =
+judge-lacking left d s prev l r e =
     let other : (k : ℕ) → (k ≡ 9 → ⊥) → no k ≡ no 9 → ⊥ = λ k n q. n (cc) in
     let (t5, e5) = past (eqb left 0) _ _ (other 5 (λ q. omega arith)) e in
     let (t6, e6) = past (isContainer (l .kind) && eqb d 0) _ _ (other 6 (λ q. omega arith)) e5 in
     let (t7, e7) = past (not (fits (l .kind) (l .arg) (rule s .rows))) _ _ (other 7 (λ q. omega arith)) e6 in
     let (t8, e8) = past (wrongVersion (rule s .extra) (l .arg)) _ _ (other 8 (λ q. omega arith)) e7 in
-    rw (t5, t6, t7, t8, lt-ltb (length r′) (stringSize l) h)
+    (lacks (ltb (length r) (stringSize l)) refl e8, λ r′ h. rw (t5, t6, t7, t8, lt-ltb (length r′) (stringSize l) h))
+  where
+    str : List ℕ
+    str = take (stringSize l) r
+
+    lacks : (t : Bool) → ltb (length r) (stringSize l) ≡ t
+        → cond t (no 9)
+        (cond (eqb (l .kind) text && not (rule s .spelling str)) (no 10) (cond (notGreater (rule s .extra) prev (keyBytes l str)) (no 11) (cond (isEmpty (rule s .extra) (l .arg)) (no 12) (yes l str))))
+        ≡ no 9 → length r < stringSize l
+    lacks true x e = ltb-true (length r) (stringSize l) x
+    lacks false x e =
+        let other : (k : ℕ) → (k ≡ 9 → ⊥) → no k ≡ no 9 → ⊥ = λ k n q. n (cc) in
+        let (t10, e10) = past (eqb (l .kind) text && not (rule s .spelling str)) _ _ (other 10 (λ q. omega arith)) e in
+        let (t11, e11) = past (notGreater (rule s .extra) prev (keyBytes l str)) _ _ (other 11 (λ q. omega arith)) e10 in
+        let (t12, e12) = past (isEmpty (rule s .extra) (l .arg)) _ _ (other 12 (λ q. omega arith)) e11 in
+        absurd (not-no e12)
 
 pub lacking : (left d : ℕ) (s : Slot) (prev b : List ℕ) → judgeGot left d s prev (getHead b) b ≡ no 9 → Lacking left d s prev b
 unfolding judgeGot
 lacking left d s prev b j = go (getHead b) refl j
   where
     go : (y : Got) → getHead b ≡ y → judgeGot left d s prev y b ≡ no 9 → Lacking left d s prev b
-    go (bad r) g j = absurd (let z : r ≡ 9 = cc in omega (arith, head-number b g))
+    go (bad r) g j = absurd (let z : r ≡ 9 = cc in let (_, h) = head-number b g in omega arith)
     go (got l) g j = record {
       lead = l;
       head = g;
+      short = omega (arith, judge-lacking left d s prev l (drop (size l) b) j .0, length-drop (size l) b, head-fits b g);
       stays = λ c h.
           rw (head-more b c (λ e. not-bad (sym g ∙ e)), g)
-          (judge-lacking left d s prev l (drop (size l) b) j (drop (size l) (b ++ c)) (omega (arith, length-drop (size l) (b ++ c), length-append b c, head-fits b g)));
+          (judge-lacking left d s prev l (drop (size l) b) j .1 (drop (size l) (b ++ c)) (omega (arith, length-drop (size l) (b ++ c), length-append b c, head-fits b g)));
     }
 
 -- one step, if what follows it stays as it is

@@ -49,7 +49,7 @@ unfolding keyOf getHead
 begins b items s n d around p c t = record { then = λ w. w }
 
 -- the bytes of a key are its head's and its string's
-key-part : (b : List ℕ) → all isByte b ≡ true → (left : ℕ) (s : Slot) (prev : List ℕ) (d p k a q : ℕ) (h : Took b p left d s prev k a q)
+pub key-part : (b : List ℕ) → all isByte b ≡ true → (left : ℕ) (s : Slot) (prev : List ℕ) (d p k a q : ℕ) (h : Took b p left d s prev k a q)
     → h .lead .kind ≤ 5 → keyBytes (h .lead) (h .str) ≡ keyOf (part b p q)
 key-part b bs left s prev d p k a q h kk =
     let l = h .lead in
@@ -58,7 +58,7 @@ key-part b bs left s prev d p k a q h kk =
     let i : p + (size l + stringSize l) ≡ q = rw (← z) (h .after-is) in
     rw (h .passed .string) (key-bytes b p l bs (h .head) kk (h .passed .there) q i) ∙ own-key b bs p q
 
-key-span : (b : List ℕ) (o : ExtraTest) (f t p q : ℕ) (kb : List ℕ) → (o ≡ rising → kb ≡ keyOf (part b p q))
+pub key-span : (b : List ℕ) (o : ExtraTest) (f t p q : ℕ) (kb : List ℕ) → (o ≡ rising → kb ≡ keyOf (part b p q))
     → keyAfter o (keyOf (part b f t)) kb ≡ keyOf (part b (keySpan o f p) (keySpan o t q))
 key-span b none f t p q kb e = refl
 key-span b one f t p q kb e = refl
