@@ -1,0 +1,6 @@
+pub mod Words
+pub mod Standing
+pub mod Levels
+pub mod Going
+pub mod Calling
+pub mod Delivered

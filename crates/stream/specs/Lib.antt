@@ -1,0 +1,3 @@
+pub mod Stream
+pub mod State
+pub mod Calls
