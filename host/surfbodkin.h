@@ -1,5 +1,6 @@
-/* Surfbodkin: a gate that reads AMP messages and ARIs, lists the references in a
-   message, and says whether a subscriber's grants cover them.
+/* Surfbodkin: a gate that reads AMP messages, whole or as a link delivers them, and
+   ARIs, lists the references in a message, and says whether a subscriber's grants
+   cover them.
 
    To use it, link with libsurfbodkin.a (x86-64), which rt staticlib surfbodkin builds
    as target/staticlib/libsurfbodkin.a:
@@ -11,26 +12,28 @@
 
    WHAT HOLDS OF EVERY CALL
 
-   - Memory is lent for the call only; nothing is kept, freed or allocated. There
-     is no state between calls: threads may call at the same time. A call takes less
-     than 256 KB of stack.
-   - Nothing but the answer buffer `out` is written. On a refusal not that either;
-     on an acceptance only its front, as far as the answer reaches.
-   - `out` must not overlap the other buffers. A pointer whose length is 0 is not
-     followed, and may be NULL.
+   - Memory is lent for the call only; nothing is kept, freed or allocated. What a
+     stream keeps from call to call is in the memory that the caller lends to each of
+     its calls, and nowhere else: threads may call at the same time, each with
+     streams of its own. A call takes less than 256 KB of stack.
+   - Nothing is written but the answer buffer `out`, and a stream's `state` and
+     `message`. On a refusal `out` is as it was; on an acceptance only its front is
+     written, as far as the answer reaches.
+   - What may be written must not overlap anything else that is lent to the same
+     call. A pointer whose length is 0 is not followed, and may be NULL.
    - Every input has an answer; none has to be tested before.
 
    ANSWERS are one uint64_t. Its top byte tells which:
 
-     0          accepted; released; the table passes
+     0          accepted; released; the table passes; the stream goes on
      1 to 18    refused, by the test of that number (see enum surfbodkin_test);
                 the other 56 bits are the place, or another number, that goes with it
      255        held back (release's no); the other 56 bits are the entry
 
    An acceptance has the number of items (CBOR heads) of the input in bits 32 to 55,
    and in bits 0 to 31 the size of what was written to `out`, 0 for a check. The yes
-   of a release and a table that passes are plain 0. The functions surfbodkin_number,
-   _place, _count and _low below take an answer apart. */
+   of a release, a table that passes and a stream that goes on are plain 0. The
+   functions surfbodkin_number, _place, _count and _low below take an answer apart. */
 #ifndef SURFBODKIN_H
 #define SURFBODKIN_H
 
@@ -50,7 +53,8 @@ enum surfbodkin_size {
   SURFBODKIN_TEXT_BYTES = 32768, /* of a text; every text that is written fits */
   SURFBODKIN_ROW = 16,           /* bytes of a row in a grant table */
   SURFBODKIN_ENTRY = 24,         /* bytes of an entry in a listing */
-  SURFBODKIN_ENTRIES = 512       /* no listing has more: an entry takes two items */
+  SURFBODKIN_ENTRIES = 512,      /* no listing has more: an entry takes two items */
+  SURFBODKIN_STREAM_WORDS = 67   /* of a stream's state, each a uint64_t */
 };
 
 /* The number in an answer's top byte. Tests are tried in this order: 1, then 2 to 12
@@ -74,7 +78,7 @@ enum surfbodkin_test {
   SURFBODKIN_BYTES_AFTER = 13,        /* place: the first byte after the ARI */
   SURFBODKIN_NO_TEXT = 14,            /* a set (place 0), or a float, has no text */
   SURFBODKIN_NOT_TEXT = 15,           /* not the text of an accepted ARI; place 0 */
-  SURFBODKIN_ROOM = 16,               /* `out` is too short; place: the size needed */
+  SURFBODKIN_ROOM = 16,               /* lent room is too short; place: the need */
   SURFBODKIN_TABLE = 18,              /* grant table; place: a row */
   SURFBODKIN_HELD = 255               /* not released; place: an entry */
 };
@@ -97,6 +101,54 @@ uint64_t surfbodkin_check_message(const uint8_t *input, size_t length);
                 entries. SURFBODKIN_ENTRIES * SURFBODKIN_ENTRY bytes always suffice */
 uint64_t surfbodkin_list(const uint8_t *message, size_t length,
                          uint8_t *out, size_t out_length);
+
+/* A STREAM takes a message as the link delivers it, in pieces of any length. Its three
+   calls are lent the same two things until the message is closed:
+
+   - `state`, SURFBODKIN_STREAM_WORDS words, which say how far the message has been
+     read. A state of all zeros is fresh: no bytes have come yet.
+   - `message`, a room of SURFBODKIN_BYTES bytes. The bytes that were fed stand in it
+     from byte 0 on, and after the close too, up to the next feed: a message that was
+     accepted can be released from there. What lies behind them is left as it was.
+
+   The calls change both; between them the host must not. Any contents are safe:
+   nothing beyond what is lent is read or written. But the answers are as told here
+   only for a state that began fresh and went through these calls alone, with the
+   bytes left as they were put. If more is lent than these sizes, the rest is not used;
+   if less, the call changes nothing and answers
+
+     refused    16, place: the bytes needed, of `state` (8 * SURFBODKIN_STREAM_WORDS)
+                if that is too short, else of `message` (SURFBODKIN_BYTES) */
+
+/* Makes a state fresh, whatever it holds: what was fed before is dropped.
+     0          it is fresh */
+uint64_t surfbodkin_stream_open(uint64_t *state, size_t words);
+
+/* Takes the next bytes of the message; there may be none. They are put behind those
+   that came before, as far as SURFBODKIN_BYTES reaches.
+     0          go on: feed more, or close
+     refused    1, 3 to 8, 10 to 12: whatever may still come, the message is refused
+                so. 1 is for more bytes than the limit, if the bytes up to it are not
+                refused by another of these tests. 2 and 9 are left to the close:
+                what is missing may come yet
+   A refusal stands until the close: further bytes get the same answer and change
+   nothing. */
+uint64_t surfbodkin_stream_feed(uint64_t *state, size_t words,
+                                uint8_t *message, size_t room,
+                                const uint8_t *fragment, size_t length);
+
+/* Ends the message. If no refusal stands, lists its references: the answer is that of
+   surfbodkin_list on all bytes that were fed, however they were cut. `message` is not
+   changed.
+     accepted   count: the message's items; low: the entries written
+     refused    the refusal that stands; else 2 or 9 as check_message
+                16, place: the number of references, if `out` holds fewer whole entries
+   A close that answers 16 closes nothing: all is as it was, and the host can close
+   again with more room, or feed on. After any other answer the state is fresh, and
+   the next feed begins another message. */
+uint64_t surfbodkin_stream_close(uint64_t *state, size_t words,
+                                 uint8_t *message, size_t room,
+                                 uint8_t *out, size_t out_length);
 
 /* Checks a grant table: SURFBODKIN_ROW bytes a row, of any length, in any order, as
    surfbodkin_put_row writes them. Private (negative) namespaces have one subscriber

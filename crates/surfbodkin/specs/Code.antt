@@ -1,11 +1,18 @@
 -- Answers as one number: R114 to R119. Interface: all of it.
 use Prim.Native.Nat.{ℕ, _+_, _-_, _*_, _^_, min}
+use mathlib.Core.Path.{_≡_}
+use mathlib.Core.List.{List}
+use Rattle.ari.specs.declared.Limits.{Limits}
 use Rattle.reader.specs.declared.Answer.{Answer}
 use Rattle.reader.specs.declared.Answer.the-variants.{Accepted, Refused}
 use Rattle.grants.specs.Grants.{Check, passes}
 use Rattle.release.specs.Release.{Release, yes, no}
 use Rattle.listing.specs.declared.Listed.{Listed}
 use Rattle.listing.specs.declared.Listed.the-variants as listed
+use Rattle.stream.specs.declared.Fed.{Fed}
+use Rattle.stream.specs.declared.Fed.the-variants.{GoOn}
+use Rattle.stream.specs.declared.Fed.the-variants as fed
+use Rattle.stream.specs.Calls.{Opens, Feeds, Closes}
 use Rattle.text_write.specs.declared.Written.{Written}
 use Rattle.text_write.specs.declared.Written.the-variants as written
 
@@ -25,6 +32,27 @@ checkCode (Accepted n) = countCode n 0
 abbrev pub listCode : Listed → ℕ
 listCode (listed.Refused r p) = refusalCode r p
 listCode (listed.Entries k n) = countCode n k
+
+-- 0 to go on with the next fragment
+abbrev pub fedCode : Fed → ℕ
+fedCode GoOn = 0
+fedCode (fed.Refused r p) = refusalCode r p
+
+-- the numbers of the answers that `stream` promises
+pub record OpensAs (ws : List ℕ) (r : ℕ) (ws′ : List ℕ) : Type 0 where
+  pub answer : Fed
+  pub code : r ≡ fedCode answer
+  pub opens : Opens ws answer ws′
+
+pub record FeedsAs (m : Limits) (ws room f : List ℕ) (r : ℕ) (ws′ room′ : List ℕ) : Type 0 where
+  pub answer : Fed
+  pub code : r ≡ fedCode answer
+  pub feeds : Feeds m ws room f answer ws′ room′
+
+pub record ClosesAs (m : Limits) (ws room out : List ℕ) (r : ℕ) (ws′ out′ : List ℕ) : Type 0 where
+  pub answer : Listed
+  pub code : r ≡ listCode answer
+  pub closes : Closes m ws room out answer ws′ out′
 
 abbrev pub tableCode : Check → ℕ
 tableCode passes = 0

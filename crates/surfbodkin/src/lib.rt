@@ -12,11 +12,12 @@ ghost use Rattle.listing.specs.Answers.{listOf, writtenOf as listedIn};
 ghost use Rattle.release.specs.Release.{releaseBytes, answerOf as releasedOf};
 ghost use Rattle.text.specs.Answer.{writeText, readText, lent};
 ghost use Rattle.text_write.specs.Written.{writtenOf, roomAfter};
-ghost use Rattle.surfbodkin.specs.Code.{refusalCode, countCode, checkCode, listCode, tableCode, releaseCode, textCode};
+ghost use Rattle.surfbodkin.specs.Code.{refusalCode, countCode, checkCode, listCode, tableCode, releaseCode, textCode, fedCode, OpensAs, FeedsAs, ClosesAs};
 use grants::Verdict;
 use listing::Listed;
 use reader::Answer;
 use release::Released;
+use stream::Fed;
 use text_write::Written;
 
 fn least(a: u64, b: u64) -> u64
@@ -80,6 +81,40 @@ pub extern "C" fn surfbodkin_list(message: &[u8], out: &mut [u8]) -> u64
     ensures { λ r. ⌜ now (out .exit) ≡ listedIn firstLimits (now (message .entry)) (now (out .entry)) ⌝ }
 {
     list_code(listing::list_message(message, out))
+}
+
+fn fed_code(a: Fed) -> u64
+    ensures { λ r. ⌜ r ≡ fedCode a ⌝ }
+{
+    match a {
+        Fed::GoOn => 0,
+        Fed::Refused { number, place } => refusal_code(number, place as u64),
+    }
+}
+
+#[no_mangle]
+pub extern "C" fn surfbodkin_stream_open(state: &mut [u64]) -> u64
+    ensures { λ r. ⌜ OpensAs (now (state .entry)) r (now (state .exit)) ⌝ }
+{
+    fed_code(stream::open(state))
+}
+
+#[no_mangle]
+pub extern "C" fn surfbodkin_stream_feed(
+    state: &mut [u64],
+    message: &mut [u8],
+    fragment: &[u8],
+) -> u64
+    ensures { λ r. ⌜ FeedsAs firstLimits (now (state .entry)) (now (message .entry)) (now (fragment .entry)) r (now (state .exit)) (now (message .exit)) ⌝ }
+{
+    fed_code(stream::feed(state, message, fragment))
+}
+
+#[no_mangle]
+pub extern "C" fn surfbodkin_stream_close(state: &mut [u64], message: &[u8], out: &mut [u8]) -> u64
+    ensures { λ r. ⌜ ClosesAs firstLimits (now (state .entry)) (now (message .entry)) (now (out .entry)) r (now (state .exit)) (now (out .exit)) ⌝ }
+{
+    list_code(stream::close(state, message, out))
 }
 
 fn table_code(a: Verdict) -> u64
