@@ -296,3 +296,40 @@ pub fn entry(out: &mut [u8], at: usize, s: &[u8], listing: &[u8], from: usize) -
     let w = buffer::load8(listing, from + 16);
     line(out, at, s, ends, kind, w)
 }
+
+// The lines of a listing's first entries.
+fn entries(out: &mut [u8], at: usize, s: &[u8], listing: &[u8], listed: usize) -> usize {
+    let mut p = at;
+    let mut k = 0;
+    let mut from = 0;
+    while k < listed {
+        if left(listing, from) < 24 {
+            return p;
+        }
+        p = fresh_line(out, p);
+        p = entry(out, p, s, listing, from);
+        from += 24;
+        k += 1;
+    }
+    p
+}
+
+fn counted(out: &mut [u8], at: usize, word: &[u8], n: usize) -> usize {
+    let a = fresh_line(out, at);
+    let b = numbered(out, a, word, n as u64);
+    buffer::put(out, b, b'\n')
+}
+
+// Writes a message's listing to standard output: how many references it has, a line for each, and its items.
+pub fn references(out: &mut [u8], s: &[u8], listing: &[u8], listed: usize, count: usize) {
+    let a = counted(out, 0, b"refs ", listed);
+    let b = entries(out, a, s, listing, listed);
+    let c = counted(out, b, b"items ", count);
+    flush(out, c);
+}
+
+// Writes a refusal to standard output.
+pub fn refusal(out: &mut [u8], number: u8, place: usize) {
+    let p = refused(out, 0, number, place);
+    flush(out, p);
+}
