@@ -1,20 +1,25 @@
 /* The relay's host program, as an example: may this message go to this subscriber?
 
-     relay TABLE SUBSCRIBER MESSAGE
+     relay TABLE SUBSCRIBER [MESSAGE]
 
    TABLE is a file of grant rows, 16 bytes each: subscriber and namespace, both
-   big-endian, 8 bytes. SUBSCRIBER is a number. MESSAGE is a file with one message.
-   The table and the message are checked, the message's references listed, and it
-   is said whether they are all granted.
+   big-endian, 8 bytes. SUBSCRIBER is a number. MESSAGE is a file, a link's device or
+   a pipe with one message; standard input if it is missing or `-`. The message is
+   taken in the pieces that come, and refused as soon as nothing can mend it, without
+   waiting for its end. The table and the message are checked, the message's
+   references listed, and it is said whether they are all granted.
 
    Exit status: 0 released, 1 held back, 2 the table or the message was refused, 3
    anything else went wrong. */
+#define _POSIX_C_SOURCE 200809L
 #include <errno.h>
+#include <fcntl.h>
 #include <inttypes.h>
 #include <stdarg.h>
 #include <stdio.h>
 #include <stdlib.h>
 #include <string.h>
+#include <unistd.h>
 
 #include "surfbodkin.h"
 
@@ -35,26 +40,55 @@ struct bytes {
   size_t length;
 };
 
-/* Reads a file, but not more than `most` bytes of it. */
-static struct bytes read_file(const char *name, size_t most) {
+static struct bytes read_file(const char *name) {
   struct bytes bytes = {NULL, 0};
   size_t room = 0, got = 1;
   FILE *file = fopen(name, "rb");
   if (file == NULL) fail("cannot open %s: %s", name, strerror(errno));
-  while (got > 0 && bytes.length < most) {
+  while (got > 0) {
     if (bytes.length == room) {
-      room = room == 0 ? SURFBODKIN_BYTES : 2 * room;
+      room = room == 0 ? 256 * SURFBODKIN_ROW : 2 * room;
       bytes.at = realloc(bytes.at, room);
       if (bytes.at == NULL) fail("no memory for %s", name);
     }
-    size_t wanted = room - bytes.length;
-    if (wanted > most - bytes.length) wanted = most - bytes.length;
-    got = fread(bytes.at + bytes.length, 1, wanted, file);
+    got = fread(bytes.at + bytes.length, 1, room - bytes.length, file);
     bytes.length += got;
   }
   if (ferror(file)) fail("cannot read %s: %s", name, strerror(errno));
   fclose(file);
   return bytes;
+}
+
+static int open_message(const char *name) {
+  if (strcmp(name, "-") == 0) return STDIN_FILENO;
+  int from = open(name, O_RDONLY);
+  if (from < 0) fail("cannot open %s: %s", name, strerror(errno));
+  return from;
+}
+
+/* The message that is coming: room for its bytes, and how many have come. */
+static uint8_t message[SURFBODKIN_BYTES];
+static size_t message_length;
+static uint8_t listing[SURFBODKIN_ENTRIES * SURFBODKIN_ENTRY];
+
+/* Feeds what each read gives, up to the message's end or the first refusal, and
+   answers that or what the close says; an accepted message's references are then in
+   `listing`. */
+static uint64_t take_message(int from, const char *name) {
+  static uint64_t state[SURFBODKIN_STREAM_WORDS]; /* all zeros: fresh */
+  uint8_t fragment[512];
+  for (;;) {
+    ssize_t got = read(from, fragment, sizeof fragment);
+    if (got < 0 && errno == EINTR) continue;
+    if (got < 0) fail("cannot read %s: %s", name, strerror(errno));
+    if (got == 0) break;
+    uint64_t answer = surfbodkin_stream_feed(state, SURFBODKIN_STREAM_WORDS, message,
+                                             sizeof message, fragment, (size_t)got);
+    if (surfbodkin_number(answer) != SURFBODKIN_ACCEPTED) return answer;
+    message_length += (size_t)got;
+  }
+  return surfbodkin_stream_close(state, SURFBODKIN_STREAM_WORDS, message, sizeof message,
+                                 listing, sizeof listing);
 }
 
 static uint64_t subscriber_number(const char *word) {
@@ -100,7 +134,7 @@ static int refuse_table(uint64_t answer, size_t length) {
   return REFUSED;
 }
 
-static void print_entry(const uint8_t *message, const uint8_t *listing, size_t k) {
+static void print_entry(size_t k) {
   struct surfbodkin_entry entry = surfbodkin_get_entry(listing, k);
   printf("entry %zu: bytes %" PRIu32 " to %" PRIu32 ", ", k, entry.first, entry.after);
   if (entry.kind == SURFBODKIN_BY_NUMBER) {
@@ -117,15 +151,14 @@ static void print_entry(const uint8_t *message, const uint8_t *listing, size_t k
 }
 
 int main(int count, char **words) {
-  static uint8_t listing[SURFBODKIN_ENTRIES * SURFBODKIN_ENTRY];
-  if (count != 4) {
-    fputs("usage: relay TABLE SUBSCRIBER MESSAGE\n", stderr);
+  if (count != 3 && count != 4) {
+    fputs("usage: relay TABLE SUBSCRIBER [MESSAGE]\n", stderr);
     return FAILED;
   }
-  struct bytes table = read_file(words[1], SIZE_MAX);
+  struct bytes table = read_file(words[1]);
   uint64_t subscriber = subscriber_number(words[2]);
-  /* One byte past the limit, so that a longer message is refused and not cut. */
-  struct bytes message = read_file(words[3], SURFBODKIN_BYTES + 1);
+  const char *name = count == 4 ? words[3] : "-";
+  int from = open_message(name);
 
   /* Release itself doesn't ask whether the table passes its check: a table that
      doesn't must not be used at all. */
@@ -133,23 +166,18 @@ int main(int count, char **words) {
   if (surfbodkin_number(answer) != SURFBODKIN_ACCEPTED) {
     return refuse_table(answer, table.length);
   }
+  /* Nothing is printed before the message is there: if it can't be read, only that
+     is said. */
+  answer = take_message(from, name);
   printf("table: passes, rows %zu\n", table.length / SURFBODKIN_ROW);
-
-  answer = surfbodkin_check_message(message.at, message.length);
   if (surfbodkin_number(answer) != SURFBODKIN_ACCEPTED) return refuse_message(answer);
   printf("message: accepted, items %" PRIu32 "\n", surfbodkin_count(answer));
-
-  answer = surfbodkin_list(message.at, message.length, listing, sizeof listing);
-  if (surfbodkin_number(answer) != SURFBODKIN_ACCEPTED) return refuse_message(answer);
   printf("listing: entries %" PRIu32 "\n", surfbodkin_low(answer));
-  for (uint32_t k = 0; k < surfbodkin_low(answer); k++) {
-    print_entry(message.at, listing, k);
-  }
+  for (uint32_t k = 0; k < surfbodkin_low(answer); k++) print_entry(k);
 
-  answer = surfbodkin_release(message.at, message.length, table.at, table.length,
+  answer = surfbodkin_release(message, message_length, table.at, table.length,
                               subscriber);
   free(table.at);
-  free(message.at);
   switch (surfbodkin_number(answer)) {
     case SURFBODKIN_ACCEPTED:
       printf("release to %" PRIu64 ": yes\n", subscriber);

@@ -143,6 +143,14 @@ fn items(answer: Answer) -> usize {
 
 const C: &str = "01 82 14 82 f6 84 1a00010000 22 00 81 83 33 2a 05";
 
+/// A message with one text string of that many bytes, all of them ASCII.
+fn note(length: u16) -> Vec<u8> {
+    let mut note = hex("01 82 15 83 f6 00 83 00 83 f6 20 00 79");
+    note.extend(length.to_be_bytes());
+    note.extend((0..length).map(|k| b' ' + (k % 95) as u8));
+    note
+}
+
 struct Check {
     name: &'static str,
     messages: Vec<Vec<u8>>,
@@ -164,9 +172,8 @@ fn checks(large: &[Vec<u8>]) -> Vec<Check> {
         };
         generate::message(random, settings)
     });
-    let mut note = hex("01 82 15 83 f6 00 83 00 83 f6 20 00 79 0fa0");
-    let string: Vec<u8> = (0..4_000).map(|k| b' ' + (k % 95) as u8).collect();
-    note.extend(&string);
+    let note = note(4_000);
+    let string = note[note.len() - 4_000..].to_vec();
 
     let check = |name, messages| Check { name, messages, string: None };
     vec![
@@ -247,6 +254,133 @@ fn time_call(name: &str, call: &Call, inputs: &[Vec<u8>]) {
         best.ns("reading"),
         best.ratio("archive", "reading"),
     );
+}
+
+/// A stream, and room for the listing at its close.
+struct Stream {
+    state: Vec<u64>,
+    message: Vec<u8>,
+    listing: Vec<u8>,
+}
+
+impl Stream {
+    fn new() -> Stream {
+        Stream {
+            state: vec![0; archive::STREAM_WORDS],
+            message: vec![0; LIMITS.bytes],
+            listing: vec![0; LIMITS.text],
+        }
+    }
+
+    /// Opens it and feeds a message in pieces of that size.
+    fn feed(&mut self, message: &[u8], piece: usize) -> u64 {
+        let mut answer = archive::stream_open(&mut self.state);
+        for fragment in message.chunks(piece) {
+            answer |= archive::stream_feed(&mut self.state, &mut self.message, fragment);
+        }
+        answer
+    }
+
+    fn close(&mut self) -> u64 {
+        archive::stream_close(&mut self.state, &mut self.message, &mut self.listing)
+    }
+}
+
+/// Messages fed in pieces: beside the check of the whole, and closed, beside the listing.
+fn time_stream(name: &str, messages: &[Vec<u8>], piece: usize) {
+    let [mut fed, mut closed] = [(); 2].map(|()| Stream::new());
+    let mut room = closed.listing.clone();
+    for message in messages {
+        assert_eq!(fed.feed(message, piece), 0);
+        assert_eq!(fed.close(), archive::list(message, &mut room));
+        assert_eq!(fed.listing, room);
+    }
+    let best = Best::of(vec![
+        Run::new("check", messages, archive::check_message),
+        Run::new("fed", messages, |message| fed.feed(message, piece)),
+        Run::new("list", messages, |message| archive::list(message, &mut room)),
+        Run::new("closed", messages, |message| closed.feed(message, piece) | closed.close()),
+    ]);
+    println!(
+        "{name:<25}{:>7}{:>7}{piece:>7}{:>10}{:>10}{:>10}{:>10}   {:>9}{:>13}",
+        mean(messages, <[u8]>::len),
+        mean(messages, |message| items(check_message(message))),
+        best.ns("check"),
+        best.ns("fed"),
+        best.ns("list"),
+        best.ns("closed"),
+        best.ratio("fed", "check"),
+        best.ratio("closed", "list"),
+    );
+}
+
+/// What each byte costs, fed in pieces: the same for every size if the cost is linear.
+fn time_stream_by_size(name: &str, messages: &[Vec<u8>]) {
+    let [mut one, mut sixteen] = [(); 2].map(|()| Stream::new());
+    for message in messages {
+        assert_eq!([one.feed(message, 1), sixteen.feed(message, 16)], [0; 2]);
+    }
+    let best = Best::of(vec![
+        Run::new("check", messages, archive::check_message),
+        Run::new("by 1", messages, |message| one.feed(message, 1)),
+        Run::new("by 16", messages, |message| sixteen.feed(message, 16)),
+    ]);
+    let bytes = mean(messages, <[u8]>::len);
+    let a_byte = |run| best.get(run).map_or(f64::NAN, |ns| ns / bytes as f64);
+    println!(
+        "{name:<25}{bytes:>7}{:>7}{:>10.2}{:>10.2}{:>10.2}   {:>9}{:>9}",
+        mean(messages, |message| items(check_message(message))),
+        a_byte("check"),
+        a_byte("by 1"),
+        a_byte("by 16"),
+        best.ratio("by 1", "check"),
+        best.ratio("by 16", "check"),
+    );
+}
+
+fn time_streams(large: &[Vec<u8>]) {
+    println!(
+        "{:<25}{:>7}{:>7}{:>7}{:>10}{:>10}{:>10}{:>10}   {:>9}{:>13}",
+        "stream",
+        "bytes",
+        "items",
+        "piece",
+        "check",
+        "fed",
+        "list",
+        "closed",
+        "fed/check",
+        "closed/list"
+    );
+    let notes = [note(4_000)];
+    for (name, messages) in [
+        ("h  4,096 bytes, repeated", &large[..1]),
+        ("h  50 like it", &large[..50]),
+        ("h  4,000 bytes of ASCII", &notes),
+    ] {
+        for piece in [1, 16, 4_096] {
+            time_stream(name, messages, piece);
+        }
+    }
+
+    println!(
+        "{:<25}{:>7}{:>7}{:>10}{:>10}{:>10}   {:>9}{:>9}",
+        "stream, ns a byte", "bytes", "items", "check", "by 1", "by 16", "1/check", "16/check"
+    );
+    // As many bytes of each size, so that the processor learns them alike.
+    for size in [512, 1_024, 2_048, 4_096] {
+        let share = |items: usize| items * size / 4_096;
+        let range = share(900)..=share(1_024);
+        let messages = varied(65_536 / size, 5, size..=size, range, check_message, |random| {
+            let settings = Settings { items: share(1_010), ..large_settings(random) };
+            generate::full_message(random, settings, size)
+        });
+        time_stream_by_size("i  many items", &messages);
+    }
+    for size in [512, 1_024, 2_048, 4_096] {
+        let messages = [note(size - 15)];
+        time_stream_by_size("i  one string of ASCII", &messages);
+    }
 }
 
 fn main() {
@@ -334,4 +468,8 @@ fn main() {
     time_call("g  C's target from its text", &read, &target.each_ref().map(text));
     time_call("g  4,096 bytes from text, repeated", &read, &texts[..1]);
     time_call("g  500 like it", &read, &texts);
+
+    if archive::has_stream() {
+        time_streams(&large);
+    }
 }

@@ -1,18 +1,8 @@
-/* Calls every function of surfbodkin.h from C, with each buffer lent in four ways:
-   between guard bytes, right before and right after memory that may not be touched
-   (what is lent to be read may not be written then), and as a heap block of that
-   very length, which valgrind watches. After each call what was lent has to be as
-   the header says. Functions that the archive lacks are named and left out. */
-#define _DEFAULT_SOURCE
-#include <inttypes.h>
-#include <signal.h>
-#include <stdio.h>
-#include <stdlib.h>
-#include <string.h>
-#include <sys/mman.h>
-#include <unistd.h>
-
-#include "../../host/surfbodkin.h"
+/* Calls every function of surfbodkin.h from C, with each buffer lent in every way of
+   lent.h. After each call what was lent has to be as the header says. Functions that
+   the archive lacks are named and left out. */
+#define PROGRAM "guards"
+#include "lent.h"
 
 #pragma weak surfbodkin_check_single
 #pragma weak surfbodkin_check_message
@@ -21,98 +11,13 @@
 #pragma weak surfbodkin_release
 #pragma weak surfbodkin_write_text
 #pragma weak surfbodkin_read_text
+#pragma weak surfbodkin_stream_open
+#pragma weak surfbodkin_stream_feed
+#pragma weak surfbodkin_stream_close
 
-enum call { SINGLE, MESSAGE, LIST, TABLE, RELEASE, WRITE, READ, CALLS };
+enum call { SINGLE, MESSAGE, LIST, TABLE, RELEASE, WRITE, READ, STREAM, CALLS };
 static int there[CALLS];
 static unsigned long calls_made;
-
-/* What is being called, for messages. */
-static char current[256];
-
-static void fail(const char *words) {
-  printf("guards: %s: %s\n", current, words);
-  exit(1);
-}
-
-static void on_fault(int signal) {
-  static const char before[] = "guards: ", after[] = ": touched memory that it must not\n";
-  /* printf is not safe here; whether the words came out doesn't matter any more. */
-  if (write(1, before, sizeof before - 1) > 0 && write(1, current, strlen(current)) > 0 &&
-      write(1, after, sizeof after - 1) > 0) {
-    _exit(1);
-  }
-  _exit(signal);
-}
-
-struct bytes {
-  uint8_t *at;
-  size_t length;
-};
-
-enum way { GUARDED, BEFORE_FENCE, AFTER_FENCE, HEAP, WAYS };
-enum { GUARD = 64 };
-
-struct lent {
-  enum way way;
-  struct bytes lent;
-  uint8_t *block; /* what the lent bytes are a part of */
-  size_t block_length;
-};
-
-static struct lent lend(struct bytes content, enum way way, int writable) {
-  struct lent lent = {way, content, NULL, 0};
-  size_t length = content.length;
-  size_t page = (size_t)sysconf(_SC_PAGESIZE);
-  size_t inner = (length + page - 1) / page * page;
-  switch (way) {
-    case GUARDED:
-      lent.block_length = length + 2 * GUARD;
-      lent.block = malloc(lent.block_length);
-      if (lent.block == NULL) fail("no memory");
-      memset(lent.block, 0xa5, lent.block_length);
-      lent.lent.at = lent.block + GUARD;
-      break;
-    case BEFORE_FENCE:
-    case AFTER_FENCE:
-      lent.block_length = inner + 2 * page;
-      lent.block = mmap(NULL, lent.block_length, PROT_READ | PROT_WRITE,
-                        MAP_PRIVATE | MAP_ANONYMOUS, -1, 0);
-      if (lent.block == MAP_FAILED) fail("no memory");
-      lent.lent.at = lent.block + page + (way == BEFORE_FENCE ? inner - length : 0);
-      break;
-    default: /* nothing at all for no bytes: NULL is lent */
-      lent.block = length == 0 ? NULL : malloc(length);
-      if (lent.block == NULL && length > 0) fail("no memory");
-      lent.lent.at = lent.block;
-  }
-  if (length > 0) memcpy(lent.lent.at, content.at, length);
-  if (way == BEFORE_FENCE || way == AFTER_FENCE) {
-    mprotect(lent.block, page, PROT_NONE);
-    mprotect(lent.block + page + inner, page, PROT_NONE);
-    if (!writable) mprotect(lent.block + page, inner, PROT_READ);
-  }
-  return lent;
-}
-
-/* Takes memory back; what was lent has to hold the expected bytes. */
-static void take_back(struct lent lent, const uint8_t *expected, const char *name) {
-  char words[64];
-  snprintf(words, sizeof words, "%s is not as it should be", name);
-  if (lent.lent.length > 0 && memcmp(lent.lent.at, expected, lent.lent.length) != 0) fail(words);
-  if (lent.way == GUARDED) {
-    snprintf(words, sizeof words, "wrote around %s", name);
-    for (size_t k = 0; k < GUARD; k++) {
-      if (lent.block[k] != 0xa5 || lent.block[lent.block_length - 1 - k] != 0xa5) fail(words);
-    }
-  }
-  if (lent.way == GUARDED || lent.way == HEAP) {
-    free(lent.block);
-  } else {
-    munmap(lent.block, lent.block_length);
-  }
-}
-
-static uint8_t room_byte(size_t k) { return (uint8_t)(k * 37 + 11); }
 
 struct arguments {
   enum call call;
@@ -120,6 +25,40 @@ struct arguments {
   uint64_t subscriber;
   size_t room;
 };
+
+/* Opens a stream, feeds the input in pieces, an empty one first, and closes it. A
+   refusal that a feed answers has to be that of the close. */
+static uint64_t stream(struct bytes input, enum way way, struct bytes out) {
+  static uint8_t state[8 * SURFBODKIN_STREAM_WORDS], message[SURFBODKIN_BYTES];
+  for (size_t k = 0; k < sizeof state; k++) state[k] = room_byte(k);
+  for (size_t k = 0; k < sizeof message; k++) message[k] = room_byte(k);
+  struct lent lent_state = lend((struct bytes){state, sizeof state}, way, 1);
+  struct lent lent_message = lend((struct bytes){message, sizeof message}, way, 1);
+  uint64_t *at = (uint64_t *)(void *)lent_state.lent.at, standing = 0;
+  uint8_t *room = lent_message.lent.at;
+  size_t words = SURFBODKIN_STREAM_WORDS;
+  size_t piece = 1 + out.length % 7 + input.length / 32, put = 0, length = 0;
+  if (surfbodkin_stream_open(at, words) != 0) fail("open did not answer 0");
+  do {
+    struct bytes fragment = {input.at + put, length};
+    struct lent lent = lend(fragment, way, 0);
+    uint64_t answer = surfbodkin_stream_feed(at, words, room, sizeof message, lent.lent.at, length);
+    calls_made++;
+    take_back(lent, fragment.at, "the fragment");
+    if (standing != 0 && answer != standing) fail("a refusal did not stand");
+    for (size_t k = put; standing == 0 && k < put + length && k < sizeof message; k++) {
+      message[k] = input.at[k];
+    }
+    standing = answer;
+    put += length;
+    length = input.length - put < piece ? input.length - put : piece;
+  } while (length > 0);
+  uint64_t answer = surfbodkin_stream_close(at, words, room, sizeof message, out.at, out.length);
+  if (standing != 0 && answer != standing) fail("a refusal did not stand");
+  take_back_changed(lent_state, state, "the state");
+  take_back(lent_message, message, "the message");
+  return answer;
+}
 
 /* Makes a call in one way. `out` is what the front of the room has to hold after an
    acceptance; if it is NULL the answer's bytes are not judged. */
@@ -141,12 +80,13 @@ static uint64_t make(const struct arguments *a, enum way way, const uint8_t *out
       break;
     case WRITE: answer = surfbodkin_write_text(in.at, in.length, to.at, to.length); break;
     case READ: answer = surfbodkin_read_text(in.at, in.length, to.at, to.length); break;
+    case STREAM: answer = stream(a->input, way, to); break;
     default: fail("no such call");
   }
   calls_made++;
   if (surfbodkin_number(answer) == SURFBODKIN_ACCEPTED) {
     size_t written = surfbodkin_low(answer);
-    if (a->call == LIST) written *= SURFBODKIN_ENTRY;
+    if (a->call == LIST || a->call == STREAM) written *= SURFBODKIN_ENTRY;
     if (written > a->room) fail("says that it wrote more than there was room for");
     if (written > 0) memcpy(room, out != NULL ? out : to.at, written);
   }
@@ -183,35 +123,9 @@ static void attempt(struct arguments a, const char *call, const char *input) {
   }
 }
 
-static int digit(char sign) { return sign <= '9' ? sign - '0' : sign - 'a' + 10; }
-
-/* Hex digits with spaces, or, after a colon, a text; to be freed. */
-static struct bytes bytes(const char *words) {
-  struct bytes bytes = {malloc(strlen(words) + 1), 0};
-  if (bytes.at == NULL) fail("no memory");
-  if (*words == ':') {
-    bytes.length = strlen(words + 1);
-    memcpy(bytes.at, words + 1, bytes.length);
-    return bytes;
-  }
-  while (*words != '\0') {
-    if (*words == ' ') {
-      words++;
-      continue;
-    }
-    bytes.at[bytes.length++] = (uint8_t)(digit(words[0]) << 4 | digit(words[1]));
-    words += 2;
-  }
-  return bytes;
-}
-
-static uint64_t refused(unsigned number, uint64_t place) {
-  return (uint64_t)number << 56 | place;
-}
-
 static const char *const NAMES[CALLS] = {"check_single", "check_message", "list",
                                          "check_table",  "release",       "write_text",
-                                         "read_text"};
+                                         "read_text",    "stream_close"};
 
 /* A check, and each beginning of its input with whatever answer. */
 static void check(enum call call, const char *input, uint64_t answer) {
@@ -297,6 +211,8 @@ int main(void) {
   there[RELEASE] = surfbodkin_release != NULL;
   there[WRITE] = surfbodkin_write_text != NULL;
   there[READ] = surfbodkin_read_text != NULL;
+  there[STREAM] = surfbodkin_stream_open != NULL && surfbodkin_stream_feed != NULL &&
+                  surfbodkin_stream_close != NULL;
   const char *before = "guards: skipped, not in the archive:";
   for (int call = 0; call < CALLS; call++) {
     if (there[call]) continue;
@@ -326,19 +242,26 @@ int main(void) {
   check(MESSAGE, "01 82 14 81 9b 0000000000000001", refused(4, 4));
   check(MESSAGE, "01 82 14 81 5b ffffffffffffffff", refused(9, 4));
 
-  write_out(LIST, C, 14, 2,
-            "00000005 00000012 0000000000000000 0000000000010000"
-            "0000000e 00000012 0000000000000000 ffffffffffffffec");
-  write_out(LIST, ORDER, 13, 2,
-            "00000007 0000000f 0000000000000000 0000000000010000"
-            "0000000f 00000018 0000000000000000 0000000000010000");
-  write_out(LIST, "01 82 14 83 f6 83 62 2161 20 00 83 f6 20 00", 13, 2,
-            "00000005 0000000b 0000000000000001 0000000000000006"
-            "0000000b 0000000f 0000000000000002 0000000000000000");
-  write_out(LIST, "01", 1, 0, "");
-  refuse_out(LIST, "02", 8, 0);
-  refuse_out(LIST, "", 2, 0);
-  refuse_out(LIST, "01 82 14 82 f6 83 00 20 20", 7, 8);
+  for (int k = 0; k < 2; k++) {
+    enum call call = k == 0 ? LIST : STREAM;
+    write_out(call, C, 14, 2,
+              "00000005 00000012 0000000000000000 0000000000010000"
+              "0000000e 00000012 0000000000000000 ffffffffffffffec");
+    write_out(call, ORDER, 13, 2,
+              "00000007 0000000f 0000000000000000 0000000000010000"
+              "0000000f 00000018 0000000000000000 0000000000010000");
+    write_out(call, "01 82 14 83 f6 83 62 2161 20 00 83 f6 20 00", 13, 2,
+              "00000005 0000000b 0000000000000001 0000000000000006"
+              "0000000b 0000000f 0000000000000002 0000000000000000");
+    write_out(call, "01", 1, 0, "");
+    refuse_out(call, "02", 8, 0);
+    refuse_out(call, "", 2, 0);
+    refuse_out(call, "01 82 14 82 f6 83 00 20 20", 7, 8);
+  }
+  refuse_out(STREAM, repeated("01 82 14 81 59 0ffa", "00", 4090, ""), 1, 0);
+  refuse_out(STREAM, repeated("01 82 14 81 59 0ff9", "00", 4089, "82"), 1, 0);
+  refuse_out(STREAM, repeated("01 82 14 81 59 0ff8", "00", 4088, "83 00"), 7, 4095);
+  refuse_out(STREAM, repeated("", "00", 5000, ""), 8, 0);
 
   with_table(TABLE, "", "", 0, 0);
   with_table(TABLE, "", ROW_65536 ROW_20 ROW_20, 0, 0);

@@ -1,14 +1,17 @@
 //! Links the gate's C archive where it has been built: the file named by
 //! SURFBODKIN_ARCHIVE, or target/staticlib/libsurfbodkin.a in the repository's
 //! root. Each function that it has is told to the crate by a cfg, so that what is
-//! missing (all, without an archive) still builds, and is said when run.
+//! missing (all, without an archive) still builds, and is said when run. The size of
+//! a stream's state is taken from the header, where hosts find it too.
 
 use std::env;
 use std::path::{Path, PathBuf};
 use std::process::Command;
 
-const FUNCTIONS: [&str; 7] =
-    ["check_single", "check_message", "list", "check_table", "release", "write_text", "read_text"];
+const FUNCTIONS: [&str; 10] = [
+    "check_single", "check_message", "list", "check_table", "release", "write_text", "read_text",
+    "stream_open", "stream_feed", "stream_close",
+];
 
 /// The functions that the archive defines, as nm names them.
 fn defined(archive: &Path) -> Vec<&'static str> {
@@ -27,6 +30,17 @@ fn defined(archive: &Path) -> Vec<&'static str> {
     FUNCTIONS.into_iter().filter(|function| symbols.contains(function)).collect()
 }
 
+/// The number that the header gives a constant.
+fn constant(header: &Path, name: &str) -> String {
+    let text = std::fs::read_to_string(header)
+        .unwrap_or_else(|error| panic!("cannot read {}: {error}", header.display()));
+    let number = text.split_once(&format!("{name} = ")).map(|(_, rest)| {
+        let end = rest.find(|c: char| !c.is_ascii_digit()).unwrap_or(rest.len());
+        rest[..end].to_string()
+    });
+    number.unwrap_or_else(|| panic!("{} has no {name}", header.display()))
+}
+
 fn main() {
     println!("cargo::rustc-check-cfg=cfg(archive_has, values(\"{}\"))", FUNCTIONS.join("\", \""));
     println!("cargo::rerun-if-changed=build.rs");
@@ -34,6 +48,10 @@ fn main() {
     println!("cargo::rerun-if-env-changed=NM");
 
     let package = PathBuf::from(env::var("CARGO_MANIFEST_DIR").unwrap());
+    let header = package.join("../../host/surfbodkin.h");
+    println!("cargo::rerun-if-changed={}", header.display());
+    let words = constant(&header, "SURFBODKIN_STREAM_WORDS");
+    println!("cargo::rustc-env=SURFBODKIN_STREAM_WORDS={words}");
     let mut archive = match env::var_os("SURFBODKIN_ARCHIVE") {
         Some(path) => env::current_dir().unwrap().join(path),
         None => package.join("../../target/staticlib"),

@@ -40,11 +40,30 @@ functions! {
     "read_text" surfbodkin_read_text(
         text: *const u8, length: usize, out: *mut u8, out_length: usize
     );
+    "stream_open" surfbodkin_stream_open(state: *mut u64, words: usize);
+    "stream_feed" surfbodkin_stream_feed(
+        state: *mut u64, words: usize, message: *mut u8, room: usize,
+        fragment: *const u8, length: usize
+    );
+    "stream_close" surfbodkin_stream_close(
+        state: *mut u64, words: usize, message: *mut u8, room: usize,
+        out: *mut u8, out_length: usize
+    );
 }
+
+/// The words of a stream's state.
+pub const STREAM_WORDS: usize = match usize::from_str_radix(env!("SURFBODKIN_STREAM_WORDS"), 10) {
+    Ok(words) => words,
+    Err(_) => panic!("the header has no number of words"),
+};
 
 /// Whether the archive has a function; if not, its call below panics.
 pub fn has(name: &str) -> bool {
     FUNCTIONS.contains(&(name, true))
+}
+
+pub fn has_stream() -> bool {
+    ["open", "feed", "close"].iter().all(|call| has(&format!("surfbodkin_stream_{call}")))
 }
 
 // SAFETY, for each call: the pointers and the lengths are those of slices.
@@ -98,6 +117,39 @@ pub fn read_text(text: &[u8], room: &mut [u8]) -> u64 {
     }
 }
 
+#[inline]
+pub fn stream_open(state: &mut [u64]) -> u64 {
+    unsafe { functions::surfbodkin_stream_open(state.as_mut_ptr(), state.len()) }
+}
+
+#[inline]
+pub fn stream_feed(state: &mut [u64], message: &mut [u8], fragment: &[u8]) -> u64 {
+    unsafe {
+        functions::surfbodkin_stream_feed(
+            state.as_mut_ptr(),
+            state.len(),
+            message.as_mut_ptr(),
+            message.len(),
+            fragment.as_ptr(),
+            fragment.len(),
+        )
+    }
+}
+
+#[inline]
+pub fn stream_close(state: &mut [u64], message: &mut [u8], room: &mut [u8]) -> u64 {
+    unsafe {
+        functions::surfbodkin_stream_close(
+            state.as_mut_ptr(),
+            state.len(),
+            message.as_mut_ptr(),
+            message.len(),
+            room.as_mut_ptr(),
+            room.len(),
+        )
+    }
+}
+
 /// The top byte of release's no.
 pub const NO: u64 = 255;
 
@@ -122,7 +174,8 @@ pub fn packed_written(answer: Result<Written, Refusal>) -> u64 {
     }
 }
 
-pub fn packed_table(answer: Result<(), Refusal>) -> u64 {
+/// A table's check, or a feed.
+pub fn packed_plain(answer: Result<(), Refusal>) -> u64 {
     answer.map_or_else(refused, |()| 0)
 }
 

@@ -1,4 +1,5 @@
-//! A plain reading of document 01, written from the paper alone.
+//! A plain reading of document 01, and of the change requests that have landed, written
+//! from the papers alone.
 //!
 //! `check_single` and `check_message` answer with the item count or with the
 //! first refusal (tests 1 to 13); `items_single` and `items_message` give every
@@ -6,16 +7,18 @@
 //! recursive-descent walk serves all of them: what it meets is told to a
 //! [`Visitor`], and a check's visitor does nothing. `check_table` and `release`
 //! judge by the listing and a grant table, `write_text` and `read_text` go from
-//! a single ARI to its text and back, `read_table` reads the text of a grant table.
+//! a single ARI to its text and back, `read_table` reads the text of a grant table. A
+//! [`Stream`] takes a message in fragments.
 //!
 //! Not part of the reading: [`archive`] calls the gate, [`generate`] makes
 //! inputs for comparisons and times, [`vectors`] holds the fixed inputs,
-//! [`appendix`] RFC 8949's examples.
+//! [`appendix`] RFC 8949's examples, [`printed`] is what programs print.
 
 mod grants;
 mod head;
 mod listing;
 mod spelling;
+mod stream;
 mod table_text;
 mod text;
 mod walk;
@@ -23,12 +26,14 @@ mod walk;
 pub mod appendix;
 pub mod archive;
 pub mod generate;
+pub mod printed;
 pub mod vectors;
 
 pub use grants::{check_table, release, rows, table_bytes, Release, Row, ROW};
 pub use head::Kind;
-pub use listing::{list, listing, Entry, Listing, Namespace, ENTRY};
+pub use listing::{list, listing, listing_within, Entry, Listing, Namespace, ENTRY};
 pub use spelling::{is_identifier, is_namespace_name, is_utf8};
+pub use stream::{closing, standing, Stream};
 pub use table_text::{read_table, NoTable, TABLE_ROWS, TABLE_TEXT};
 pub use text::{read_text, text_of, write_text};
 pub use walk::{walk_message, walk_single, Visitor};

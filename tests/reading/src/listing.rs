@@ -1,6 +1,6 @@
 //! 'Item records and the listing': the references of a message.
 
-use crate::{hand_over, walk_message, Kind, Refusal, Visitor, Written, LIMITS};
+use crate::{hand_over, walk_message, Kind, Limits, Refusal, Visitor, Written, LIMITS};
 
 /// "namespace (number, name or relative)"
 #[derive(Clone, Copy, Debug, PartialEq, Eq)]
@@ -90,16 +90,25 @@ impl Visitor for Collector {
     }
 }
 
+impl Listing {
+    /// The listing as bytes. "Where room is short, 16 gives the number of references
+    /// and nothing is written"; "Room counts in whole entries."
+    pub fn write(&self, room: &mut [u8]) -> Result<Written, Refusal> {
+        let bytes: Vec<u8> = self.entries.iter().flat_map(Entry::bytes).collect();
+        hand_over(&bytes, Written { items: self.items, size: self.entries.len() }, room)
+    }
+}
+
 pub fn listing(message: &[u8]) -> Result<Listing, Refusal> {
+    listing_within(message, &LIMITS)
+}
+
+pub fn listing_within(message: &[u8], limits: &Limits) -> Result<Listing, Refusal> {
     let mut collector = Collector::default();
-    let items = walk_message(message, &LIMITS, &mut collector)?;
+    let items = walk_message(message, limits, &mut collector)?;
     Ok(Listing { items, entries: collector.entries })
 }
 
-/// The listing as bytes. "Where room is short, 16 gives the number of references
-/// and nothing is written"; "Room counts in whole entries."
 pub fn list(message: &[u8], room: &mut [u8]) -> Result<Written, Refusal> {
-    let Listing { items, entries } = listing(message)?;
-    let bytes: Vec<u8> = entries.iter().flat_map(Entry::bytes).collect();
-    hand_over(&bytes, Written { items, size: entries.len() }, room)
+    listing(message)?.write(room)
 }

@@ -1,16 +1,17 @@
-//! `programs COMMAND PROGRAM [--seed S]`: gives the program of `gate list`, `text`,
-//! `table` or `release` fixed inputs and made ones, and compares what it writes with
-//! the reading.
+//! `programs COMMAND PROGRAM [--seed S]`: gives the program of `gate list`, `stream`,
+//! `text`, `table` or `release` fixed inputs and made ones, and compares what it writes
+//! with the reading.
 
 use std::fmt::Write as _;
 use std::io::Write as _;
 use std::process::{Command, ExitCode, Stdio};
 
 use reading::generate::{self, tables, texts, Random};
+use reading::printed::{entry_line, listing_lines};
 use reading::vectors::{self, to_hex, Call, Line};
 use reading::{
-    check_table, listing, read_table, read_text, release, rows, table_bytes, text_of, Entry,
-    Namespace, NoTable, Refusal, Release, Row, LIMITS, TABLE_ROWS, TABLE_TEXT,
+    check_table, closing, listing, read_table, read_text, release, rows, table_bytes, text_of,
+    Listing, NoTable, Refusal, Release, Row, LIMITS, TABLE_ROWS, TABLE_TEXT,
 };
 
 /// What a program writes to standard output and to standard error.
@@ -84,54 +85,53 @@ fn line(refusal: Refusal) -> Printed {
     Printed::out(format!("{refusal}\n"))
 }
 
-/// First byte, byte after, namespace: a name as its text, a relative one as a full
-/// stop.
-fn entry_line(message: &[u8], entry: &Entry) -> String {
-    let mut line = format!("{} {} ", entry.first, entry.after);
-    let _ = match entry.namespace {
-        Namespace::Number(number) => writeln!(line, "{number}"),
-        Namespace::Name(place) => writeln!(line, "{}", name(message, place)),
-        Namespace::Relative => writeln!(line, "."),
-    };
-    line
+/// Gives a program messages that it has to list.
+fn compare_listings(
+    program: &Program,
+    messages: &[Vec<u8>],
+    listing: impl Fn(&[u8]) -> Result<Listing, Refusal>,
+) -> Result<String, String> {
+    let (mut accepted, mut references) = (0, 0);
+    for message in messages {
+        let listing = listing(message);
+        accepted += usize::from(listing.is_ok());
+        references += listing.as_ref().map_or(0, |listing| listing.entries.len());
+        program.compare(&[], message, Printed::out(listing_lines(message, &listing)))?;
+    }
+    Ok(format!("{accepted} accepted with {references} references"))
 }
 
-/// The text string at a place of an accepted message.
-fn name(message: &[u8], place: usize) -> String {
-    let (start, size) = match message[place] & 31 {
-        24 => (place + 2, message[place + 1] as usize),
-        25 => (place + 3, usize::from(message[place + 1]) << 8 | usize::from(message[place + 2])),
-        info => (place + 1, info as usize),
-    };
-    String::from_utf8(message[start..start + size].to_vec()).expect("an accepted name")
-}
-
-/// "refs N", a line for each reference, "items N".
-fn list(program: &Program, random: &mut Random) -> Result<String, String> {
-    let mut messages = fixed(Call::Message);
-    let fixed = messages.len();
-    for _ in 0..1_000 {
+fn made_messages(random: &mut Random, count: usize) -> Vec<Vec<u8>> {
+    let mut messages = Vec::new();
+    for _ in 0..count {
         let settings = generate::settings(random);
         messages.push(generate::message(random, settings));
     }
-    let (mut accepted, mut references) = (0, 0);
-    for message in &messages {
-        let due = match listing(message) {
-            Err(refusal) => line(refusal),
-            Ok(listing) => {
-                accepted += 1;
-                references += listing.entries.len();
-                let mut lines = format!("refs {}\n", listing.entries.len());
-                lines.extend(listing.entries.iter().map(|entry| entry_line(message, entry)));
-                Printed::out(lines + &format!("items {}\n", listing.items))
-            }
-        };
-        program.compare(&[], message, due)?;
+    messages
+}
+
+fn list(program: &Program, random: &mut Random) -> Result<String, String> {
+    let (fixed, made) = (fixed(Call::Message), made_messages(random, 1_000));
+    let words = compare_listings(program, &[&fixed[..], &made].concat(), listing)?;
+    Ok(format!("{} fixed and {} made messages, {words}", fixed.len(), made.len()))
+}
+
+/// Some of the made messages are damaged, some about as long as the limit or longer.
+fn stream(program: &Program, random: &mut Random) -> Result<String, String> {
+    let (fixed, mut made) = (fixed(Call::Message), made_messages(random, 800));
+    for _ in 0..200 {
+        let settings = generate::settings(random);
+        let bytes = LIMITS.bytes - 3 + random.below(12);
+        made.push(generate::full_message(random, settings, bytes));
     }
-    let made = messages.len() - fixed;
-    Ok(format!(
-        "{fixed} fixed and {made} made messages, {accepted} accepted with {references} references"
-    ))
+    for message in &mut made {
+        if random.chance(30) {
+            generate::damage(random, message, &[], &fixed[0]);
+        }
+    }
+    let within = |message: &[u8]| closing(message, &LIMITS);
+    let words = compare_listings(program, &[&fixed[..], &made].concat(), within)?;
+    Ok(format!("{} fixed and {} made messages, {words}", fixed.len(), made.len()))
 }
 
 /// The text or the binary form and nothing behind it, or a refusal's line.
@@ -333,13 +333,14 @@ fn main() -> ExitCode {
     };
     let compare = known.and_then(|(command, _)| match command.as_str() {
         "list" => Some(list as fn(&Program, &mut Random) -> Result<String, String>),
+        "stream" => Some(stream as _),
         "text" => Some(text as _),
         "table" => Some(table as _),
         "release" => Some(released as _),
         _ => None,
     });
     let (Some(seed), Some((command, program)), Some(compare)) = (seed, known, compare) else {
-        eprintln!("usage: programs list|text|table|release PROGRAM [--seed S]");
+        eprintln!("usage: programs list|stream|text|table|release PROGRAM [--seed S]");
         return ExitCode::FAILURE;
     };
     match compare(&Program(program.clone()), &mut Random::new(seed)) {

@@ -1,18 +1,25 @@
 //! Compares the archive's answers, and what it leaves in lent memory, with the
 //! reading's: on inputs from the grammar, near the limits, damaged and random,
-//! with tables that grant most of what is named, and rooms from none to enough.
+//! with tables that grant most of what is named, and rooms from none to enough;
+//! and messages that are fed in fragments.
 //!
 //! `agree [--count N] [--seed S]`: N inputs in all (200,000), for each function
-//! that the archive has the same number; the seed is taken from the clock unless
-//! given, and printed.
+//! that the archive has the same number, the stream's three counted as one; the
+//! seed is taken from the clock unless given, and printed.
+
+mod lent;
+mod stream;
+mod tally;
 
 use std::process::ExitCode;
 use std::time::{Instant, SystemTime, UNIX_EPOCH};
 
-use reading::archive::{self, packed, packed_release, packed_table, packed_written, unpacked};
+use lent::Lent;
+use reading::archive::{self, packed, packed_plain, packed_release, packed_written, unpacked};
 use reading::generate::{self, tables, texts, Random, Settings};
 use reading::vectors::to_hex;
 use reading::{Record, Refusal, Test, Written, ENTRY, LIMITS};
+use tally::Column;
 
 #[derive(Clone, Copy, Debug, PartialEq, Eq)]
 enum Call {
@@ -70,7 +77,7 @@ impl Call {
             Call::Message => packed(reading::check_message(input)),
             Call::List => packed_written(reading::list(input, room)),
             Call::Table => {
-                packed_table(reading::rows(table).and_then(|rows| reading::check_table(&rows)))
+                packed_plain(reading::rows(table).and_then(|rows| reading::check_table(&rows)))
             }
             Call::Release => packed_release(reading::release(input, table, subscriber)),
             Call::Write => packed_written(reading::write_text(input, room)),
@@ -232,42 +239,6 @@ fn text(random: &mut Random) -> Vec<u8> {
     text
 }
 
-/// A copy of some bytes to be lent, between bytes that show writes outside.
-struct Lent {
-    bytes: Vec<u8>,
-    first: usize,
-    after: usize,
-}
-
-impl Lent {
-    const GUARD: usize = 64;
-
-    /// The copy starts `shift` bytes further on than the last guard byte would
-    /// have it, for other alignments.
-    fn new(content: &[u8], shift: usize) -> Lent {
-        let first = Self::GUARD + shift;
-        let after = first + content.len();
-        let mut bytes = vec![0xa5; first];
-        bytes.extend(content);
-        bytes.resize(after + Self::GUARD, 0x5a);
-        Lent { bytes, first, after }
-    }
-
-    fn content(&self) -> &[u8] {
-        &self.bytes[self.first..self.after]
-    }
-
-    fn content_mut(&mut self) -> &mut [u8] {
-        &mut self.bytes[self.first..self.after]
-    }
-
-    fn is(&self, content: &[u8]) -> bool {
-        self.content() == content
-            && self.bytes[..self.first].iter().all(|byte| *byte == 0xa5)
-            && self.bytes[self.after..].iter().all(|byte| *byte == 0x5a)
-    }
-}
-
 /// Both answers, if they differ or lent memory isn't as it has to be: the input
 /// and the table unchanged, the room as the reading leaves its own.
 fn compare(call: Call, case: &Case, shift: usize) -> Result<u64, String> {
@@ -289,7 +260,7 @@ fn compare(call: Call, case: &Case, shift: usize) -> Result<u64, String> {
     } else if !lent_input.is(input) || !lent_table.is(table) {
         "wrote to what it was lent to read, or around it".to_string()
     } else if !lent_room.is(&expected_room) {
-        format!("left in the room, or around it, {}", to_hex(&lent_room.bytes))
+        format!("left in the room, or around it, {}", to_hex(lent_room.block()))
     } else {
         return Ok(expected);
     };
@@ -318,9 +289,10 @@ fn read_back(case: &Case, answer: u64) -> Case {
     Case { input: text, room: vec![0xee; case.input.len()], ..Case::default() }
 }
 
-/// How often each answer occurred, by the call and the answer's top byte.
+/// What occurred.
 struct Tally {
-    answers: [[usize; 256]; Call::ALL.len()],
+    /// Of each call that is compared.
+    answers: Vec<(Call, Column)>,
     /// Refusals of a binary input at byte 16 or later.
     deep: usize,
     entries: usize,
@@ -332,9 +304,17 @@ struct Tally {
 }
 
 impl Tally {
+    fn new(calls: &[Call]) -> Tally {
+        let column = |call: &Call| (*call, Column::new(&format!("{call:?}"), call.numbers()));
+        let answers = calls.iter().map(column).collect();
+        Tally { answers, deep: 0, entries: 0, yes: 0, later_no: 0, read_back: 0 }
+    }
+
     fn add(&mut self, call: Call, input: &[u8], answer: u64) {
+        for (_, column) in self.answers.iter_mut().filter(|(of, _)| *of == call) {
+            column.add(answer);
+        }
         let (number, low) = (answer >> 56, answer << 8 >> 8);
-        self.answers[call as usize][number as usize] += 1;
         match number {
             0 if call == Call::List => self.entries += low as u32 as usize,
             0 if call == Call::Release => {
@@ -345,37 +325,24 @@ impl Tally {
             _ => (),
         }
     }
+}
 
-    /// Prints the tally; false if an answer that a call may give never occurred.
-    fn print(&self, calls: &[Call]) -> bool {
-        print!("{:>12}", "");
-        for call in calls {
-            print!("{:>9}", format!("{call:?}").to_lowercase());
-        }
-        println!();
-        let mut complete = true;
-        for number in (0..=18).chain([archive::NO]) {
-            if !calls.iter().any(|call| call.numbers().contains(&number)) {
-                continue;
-            }
-            match number {
-                0 => print!("{:>12}", "accepted"),
-                archive::NO => print!("{:>12}", "no"),
-                _ => print!("{:>12}", format!("refused {number}")),
-            }
-            for &call in calls {
-                match (self.answers[call as usize][number as usize], call.numbers()) {
-                    (0, numbers) if !numbers.contains(&number) => print!("{:>9}", "-"),
-                    (times, _) => {
-                        complete &= times > 0;
-                        print!("{times:>9}");
-                    }
-                }
-            }
-            println!();
-        }
-        complete
+/// A call with an input that is made for it; a text that was written is read back too.
+fn compare_call(
+    call: Call,
+    calls: &[Call],
+    random: &mut Random,
+    shift: usize,
+    tally: &mut Tally,
+) -> Result<(), String> {
+    let case = call.case(random);
+    let answer = compare(call, &case, shift)?;
+    tally.add(call, &case.input, answer);
+    if call == Call::Write && answer >> 56 == 0 && calls.contains(&Call::Read) {
+        compare(Call::Read, &read_back(&case, answer), shift)?;
+        tally.read_back += 1;
     }
+    Ok(())
 }
 
 fn option(name: &str) -> Option<u64> {
@@ -391,45 +358,57 @@ fn main() -> ExitCode {
     let seed = option("--seed").unwrap_or(now.as_nanos() as u64);
     let (calls, missing): (Vec<Call>, Vec<Call>) =
         Call::ALL.into_iter().partition(|call| archive::has(call.function()));
-    if calls.is_empty() {
+    let mut missing: Vec<&str> = missing.into_iter().map(Call::function).collect();
+    let with_stream = archive::has_stream();
+    if !with_stream {
+        missing.push("the stream");
+    }
+    if calls.is_empty() && !with_stream {
         println!("agree: built without the archive, nothing compared");
         return ExitCode::FAILURE;
     }
     if !missing.is_empty() {
-        let names: Vec<&str> = missing.into_iter().map(Call::function).collect();
-        println!("agree: skipped, not in the archive: {}", names.join(", "));
+        println!("agree: skipped, not in the archive: {}", missing.join(", "));
     }
     println!("agree: seed {seed}, {count} inputs");
 
     let start = Instant::now();
-    let mut tally =
-        Tally { answers: [[0; 256]; 7], deep: 0, entries: 0, yes: 0, later_no: 0, read_back: 0 };
+    let (mut tally, mut streams) = (Tally::new(&calls), stream::Tally::new());
     for k in 0..count {
         // Each input has a seed of its own, so that one can be made again alone.
         let mut random = Random::new(seed.wrapping_add(k << 32 | k));
-        let call = calls[(k % calls.len() as u64) as usize];
-        let case = call.case(&mut random);
-        let shift = k as usize % 48;
-        let mut outcome = compare(call, &case, shift);
-        if let Ok(answer) = outcome {
-            tally.add(call, &case.input, answer);
-            if call == Call::Write && answer >> 56 == 0 && calls.contains(&Call::Read) {
-                outcome = compare(Call::Read, &read_back(&case, answer), shift);
-                tally.read_back += 1;
-            }
-        }
+        let kinds = calls.len() + usize::from(with_stream);
+        let outcome = match calls.get(k as usize % kinds) {
+            Some(&call) => compare_call(call, &calls, &mut random, k as usize % 48, &mut tally),
+            None => stream::compare(&mut random, &mut streams),
+        };
         if let Err(words) = outcome {
             println!("DISAGREE at input {k} of seed {seed}: {words}");
             return ExitCode::FAILURE;
         }
     }
+    if with_stream {
+        let messages = count.div_ceil(500).min(400) as usize;
+        if let Err(words) = stream::compare_prefixes(&mut Random::new(seed), messages, &mut streams)
+        {
+            println!("DISAGREE at the prefixes of seed {seed}: {words}");
+            return ExitCode::FAILURE;
+        }
+    }
 
-    let complete = tally.print(&calls);
+    let mut columns: Vec<&Column> = tally.answers.iter().map(|(_, column)| column).collect();
+    if with_stream {
+        columns.extend([&streams.feeds, &streams.closes]);
+    }
+    let complete = tally::print(&columns) && (!with_stream || streams.is_complete());
     println!(
         "refused at byte 16 or later {}, entries listed {}, yes with references {}, no past entry 0 \
          {}, texts read back {}",
         tally.deep, tally.entries, tally.yes, tally.later_no, tally.read_back
     );
+    if with_stream {
+        println!("{streams}");
+    }
     if !complete && count >= 100_000 {
         println!("agree: an answer never occurred");
         return ExitCode::FAILURE;
