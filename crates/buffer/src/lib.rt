@@ -21,6 +21,19 @@ pub fn put(out: &mut [u8], at: usize, x: u8) -> usize
     at
 }
 
+// Bytes as they are.
+pub fn put_all(out: &mut [u8], at: usize, s: &[u8]) -> usize
+    ensures { λ r. ⌜ Put (now (out .entry)) (now (out .exit)) at r (now (s .entry)) ⌝ }
+{
+    let mut r = at;
+    let mut i = 0;
+    while i < s.len() {
+        r = put(out, r, s[i]);
+        i += 1;
+    }
+    r
+}
+
 fn least(a: usize, b: usize) -> usize
     ensures { λ r. ⌜ r ≡ min a b ⌝ }
 {
@@ -30,8 +43,8 @@ fn least(a: usize, b: usize) -> usize
     b
 }
 
-// Bytes as they are. What fits is known before the loop, so that LLVM makes one copy of it.
-pub fn put_all(out: &mut [u8], at: usize, s: &[u8]) -> usize
+// The same for long runs: what fits is known before the loop, so that LLVM makes one copy of it. For a word or a name the call would cost more than it saves.
+pub fn put_block(out: &mut [u8], at: usize, s: &[u8]) -> usize
     ensures { λ r. ⌜ Put (now (out .entry)) (now (out .exit)) at r (now (s .entry)) ⌝ }
 {
     if out.len() <= at {

@@ -43,6 +43,9 @@ pub const TARGET: u64 = 24;
 
 pub const REPORT: u64 = 25;
 
+// The slots are below this number.
+pub const SLOTS: u64 = 72;
+
 // A slot's own test, beside those that every slot has.
 pub const NO_TEST: u64 = 0;
 

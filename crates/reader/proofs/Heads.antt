@@ -299,17 +299,19 @@ module _ (b : List ℕ) (f t : ℕ) where
       go true = rw (lt-leb t (length b) h)
       go false = refl
 
-  module _ (p i c items d : ℕ) {r : Step} where
-    pub keyless : t < f → r ≡ stepAt b p (slotOf i) (keyOf (part b 0 0)) (items - c) d → r ≡ stepAt b p (slotOf i) (keyOf (keyAt b f t)) (items - c) d
-    keyless h e = rw (backwards h) e
+  pub none-backwards : t < f → part b 0 0 ≡ keyAt b f t
+  none-backwards h = sym (backwards h)
 
-    pub keyless-out : length b < t → r ≡ stepAt b p (slotOf i) (keyOf (part b 0 0)) (items - c) d → r ≡ stepAt b p (slotOf i) (keyOf (keyAt b f t)) (items - c) d
-    keyless-out h e = rw (outside h) e
+  pub none-outside : length b < t → part b 0 0 ≡ keyAt b f t
+  none-outside h = sym (outside h)
 
-    pub keyed : f ≤ t → t ≤ length b → r ≡ stepAt b p (slotOf i) (keyOf (part b f t)) (items - c) d → r ≡ stepAt b p (slotOf i) (keyOf (keyAt b f t)) (items - c) d
-    keyed h g e = rw (key-at b f t h g) e
+  pub own-part : f ≤ t → t ≤ length b → part b f t ≡ keyAt b f t
+  own-part h g = sym (key-at b f t h g)
 
-pub ruleset any-key = (keyless, keyless-out, keyed)
+  pub falls-as : (o : ExtraTest) (key : List ℕ) (u v : ℕ) → part b u v ≡ keyAt b f t → {x : Bool} → x ≡ notGreater o (keyOf (part b u v)) key → x ≡ notGreater o (keyOf (keyAt b f t)) key
+  falls-as o key u v e g = rw e at g
+
+pub ruleset any-key = (none-backwards, none-outside, own-part, falls-as)
 
 -- what a head that was read has shown
 module _ (b : List ℕ) (p : ℕ) {h : Head} {k a q : ℕ} (g : h ≡ Good k a q) where

@@ -7,3 +7,4 @@ pub mod Heads
 pub mod Whole
 pub mod Fixed
 pub mod Kept
+pub mod Alone

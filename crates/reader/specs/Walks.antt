@@ -11,6 +11,10 @@ use Rattle.ari.specs.Reader.{Dues, end, sets, push, Answer, refuse, accept, run
 use Rattle.ari.specs.Items.{Items, encode, heads, Spot, spots}
 use Rattle.ari.specs.Due.{Due}
 use Rattle.item_table.specs.Entries.{entryOf}
+use Rattle.reader.specs.declared.Step.{Step}
+use Rattle.reader.specs.declared.Step.the-variants.{Taken}
+use Rattle.reader.specs.declared.Step.the-variants as step
+use Rattle.reader.specs.Steps.{stepAt}
 use Rattle.reader.specs.declared.Walk.{Walk}
 use Rattle.reader.specs.declared.Walk.the-variants.{Read, Refused}
 
@@ -45,6 +49,20 @@ OnRead b items v prev d around p c (Refused r x) t t′ = Unit {0}
 pub record Walked (b : List ℕ) (items : ℕ) (v : Level) (prev : List ℕ) (d around p c : ℕ) (w : Walk) (t t′ : List ℕ) : Type 0 where
   pub runs : (ds : Dues) → run (items - c) (push v prev d ds) p (drop p b) ≡ afterWalk b items w ds
   pub held : OnRead b items v prev d around p c w t t′
+
+-- one head, as a walk over it alone
+abbrev pub headWalk : ℕ → Step → Walk
+headWalk c (Taken k a q) = Read q (c + 1)
+headWalk c (step.Refused r x) = Refused r x
+
+abbrev pub unwalkedOf : Walk → Step
+unwalkedOf (Refused r x) = step.Refused r x
+unwalkedOf (Read q c) = step.Refused 0 0
+
+-- a walk over a level from its first slot on, or over its first head alone
+pub record WalkedBy (alone : Bool) (b : List ℕ) (items : ℕ) (s : Slot) (n d around p c : ℕ) (w : Walk) (t t′ : List ℕ) : Type 0 where
+  pub level : alone ≡ false → Walked b items (due s n) [] d around p c w t t′
+  pub head : alone ≡ true → w ≡ headWalk c (stepAt b p s [] (items - c) d)
 
 -- the reader's answer behind the sets
 abbrev pub afterSets : ℕ → Walk → Answer

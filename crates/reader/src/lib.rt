@@ -5,7 +5,7 @@ ghost use Prim.Native.Nat.{_+_, _-_, _*_, _^_, _<_, _≤_};
 ghost use lib.ListN.{length};
 ghost use lib.Dec.{eqb};
 ghost use mathlib.Core.List.{[]};
-ghost use Prim.Native.Nat.{pred, suc};
+ghost use Prim.Native.Nat.{pred, suc, min};
 ghost use Rattle.buffer.specs.Bytes.{all, isByte};
 ghost use Rattle.cbor.specs.Head.{isContainer, keyOf};
 ghost use Rattle.cbor.specs.Answer.{headAt};
@@ -17,7 +17,7 @@ ghost use Rattle.grammar.specs.Code.{slotOf};
 ghost use Rattle.grammar.specs.Code.{IsSlot};
 ghost use Rattle.buffer.specs.Bytes.{part};
 ghost use Rattle.reader.specs.Steps.{standsAt, stringEnd, keyAt, stepAt, contentAt, ContentShown, noHead, stoppedOf, Bounded, keySpan};
-ghost use Rattle.reader.specs.Walks.{insideLevel, Walked, SetsWalked};
+ghost use Rattle.reader.specs.Walks.{insideLevel, Walked, headWalk, unwalkedOf, WalkedBy, SetsWalked};
 ghost use Rattle.ari.specs.declared.Input.the-variants.{Single, Message};
 ghost use Rattle.ari.specs.Reader.{read};
 ghost use Rattle.ari.specs.Limits.{firstLimits};
@@ -271,29 +271,6 @@ fn take_head(
     judge_content(s, at, slot, extra, prev, kind, arg, next)
 }
 
-// The same for those who take heads one by one: a key before that does not lie in the input stands for none.
-pub fn take(
-    s: &[u8],
-    at: usize,
-    slot: u64,
-    prev: Span,
-    count: usize,
-    items: usize,
-    depth: usize,
-) -> Step
-    ensures { λ r. ⌜ r ≡ stepAt (now (s .entry)) at (slotOf slot) (keyOf (keyAt (now (s .entry)) (prev .from) (prev .to))) (items - count) depth ⌝ }
-    ensures { λ r. ⌜ Bounded (now (s .entry)) at count items depth slot r ⌝ }
-{
-    let none = Span { from: 0, to: 0 };
-    if prev.to < prev.from {
-        return take_head(s, at, slot, none, count, items, depth);
-    }
-    if s.len() < prev.to {
-        return take_head(s, at, slot, none, count, items, depth);
-    }
-    take_head(s, at, slot, prev, count, items, depth)
-}
-
 // The key before, for what is due next on a level.
 pub fn key_after(slot: u64, prev: Span, from: usize, to: usize) -> Span
     ensures { λ r. ⌜ (r .from ≡ keySpan (rule (slotOf slot) .extra) (prev .from) from) × (r .to ≡ keySpan (rule (slotOf slot) .extra) (prev .to) to) ⌝ }
@@ -342,12 +319,23 @@ fn walk_inside(
     match inner {
         grammar::Next::Done => Walk::Read { next: at, count },
         grammar::Next::Due { slot: a, more: b } => {
-            walk_level(s, at, count, items, depth - 1, around + 1, a, b, entries)
+            walk_level(
+                s,
+                at,
+                count,
+                items,
+                depth - 1,
+                around + 1,
+                a,
+                b,
+                false,
+                entries,
+            )
         }
     }
 }
 
-// The items of a level from the slot on, leaves in the loop, a call for each container.
+// The items of a level from the slot on, leaves in the loop, a call for each container; or its first head alone.
 fn walk_level(
     s: &[u8],
     at: usize,
@@ -357,10 +345,11 @@ fn walk_level(
     around: usize,
     slot: u64,
     more: u64,
+    alone: bool,
     entries: &mut [u64],
 ) -> Walk
     requires { ⌜ (all isByte (now s) ≡ true) × (depth + around < 2 ^ 64) × IsSlot slot × (at ≤ length (now s)) × (count ≤ items) ⌝ }
-    ensures { λ r. ⌜ Walked (now (s .entry)) items (due (slotOf slot) more) [] depth around at count r (now (entries .entry)) (now (entries .exit)) ⌝ }
+    ensures { λ r. ⌜ WalkedBy alone (now (s .entry)) items (slotOf slot) more depth around at count r (now (entries .entry)) (now (entries .exit)) ⌝ }
 {
     let mut p = at;
     let mut c = count;
@@ -372,6 +361,12 @@ fn walk_level(
         let Step::Taken { kind, arg, after } = t else {
             return stopped(t);
         };
+        if alone {
+            return Walk::Read {
+                next: after,
+                count: c + 1,
+            };
+        }
         let r = walk_inside(
             s,
             after,
@@ -397,6 +392,116 @@ fn walk_level(
         c = e;
         place = a;
         left = b;
+    }
+}
+
+// A number that is no slot's stands for the version's.
+fn slot_known(slot: u64) -> u64
+    ensures { λ r. ⌜ IsSlot r × (slotOf r ≡ slotOf slot) ⌝ }
+{
+    if slot < grammar::SLOTS {
+        return slot;
+    }
+    grammar::VERSION
+}
+
+fn least(a: usize, b: usize) -> usize
+    ensures { λ r. ⌜ r ≡ min a b ⌝ }
+{
+    if a < b {
+        return a;
+    }
+    b
+}
+
+// One head, with no key before it.
+fn first_head(s: &[u8], at: usize, slot: u64, count: usize, items: usize, depth: usize) -> Walk
+    ensures { λ r. ⌜ r ≡ headWalk (min count items) (stepAt (now (s .entry)) at (slotOf slot) [] (items - count) depth) ⌝ }
+{
+    if s.len() < at {
+        return Walk::Refused {
+            number: 2,
+            place: at,
+        };
+    }
+    let known = slot_known(slot);
+    let c = least(count, items);
+    let mut none = [0u64; 1];
+    walk_level(s, at, c, items, depth, 0, known, 0, true, &mut none[0..0])
+}
+
+// The ends of a key before; none where they are not those of a part of the input.
+fn key_ends(s: &[u8], prev: Span) -> Span
+    ensures { λ r. ⌜ (r .from ≤ r .to) × (r .to ≤ length (now (s .entry))) × (part (now (s .entry)) (r .from) (r .to) ≡ keyAt (now (s .entry)) (prev .from) (prev .to)) ⌝ }
+{
+    if prev.to < prev.from {
+        return Span { from: 0, to: 0 };
+    }
+    if s.len() < prev.to {
+        return Span { from: 0, to: 0 };
+    }
+    prev
+}
+
+// Test 11, after a key before.
+fn falls(s: &[u8], slot: u64, prev: Span, at: usize, end: usize) -> bool
+    requires { ⌜ (at ≤ end) × (end ≤ length (now s)) ⌝ }
+    ensures { λ r. ⌜ r ≡ notGreater (rule (slotOf slot) .extra) (keyOf (keyAt (now (s .entry)) (prev .from) (prev .to))) (keyOf (part (now (s .entry)) at end)) ⌝ }
+{
+    let extra = grammar::extra_test(slot);
+    let key = key_ends(s, prev);
+    is_not_greater(s, slot, extra, key, at, end)
+}
+
+// A walk's refusal is the head's.
+fn unwalked(w: Walk) -> Step
+    ensures { λ r. ⌜ r ≡ unwalkedOf w ⌝ }
+{
+    match w {
+        Walk::Refused { number, place } => Step::Refused { number, place },
+        Walk::Read { next: _, count: _ } => Step::Refused {
+            number: 0,
+            place: 0,
+        },
+    }
+}
+
+// One head, for those who take them one by one: the tests 2 to 12. It is the walk that takes it, so that its loop has them to itself; the head is then
+// looked at once more. A key before that does not lie in the input stands for none.
+pub fn take(
+    s: &[u8],
+    at: usize,
+    slot: u64,
+    prev: Span,
+    count: usize,
+    items: usize,
+    depth: usize,
+) -> Step
+    ensures { λ r. ⌜ r ≡ stepAt (now (s .entry)) at (slotOf slot) (keyOf (keyAt (now (s .entry)) (prev .from) (prev .to))) (items - count) depth ⌝ }
+    ensures { λ r. ⌜ Bounded (now (s .entry)) at count items depth slot r ⌝ }
+{
+    let w = first_head(s, at, slot, count, items, depth);
+    let Walk::Read {
+        next: end,
+        count: _,
+    } = w
+    else {
+        return unwalked(w);
+    };
+    let h = cbor::head_again(s, at);
+    let cbor::Head::Good { kind, arg, next: _ } = h else {
+        return no_head(h, at);
+    };
+    if falls(s, slot, prev, at, end) {
+        return Step::Refused {
+            number: 11,
+            place: at,
+        };
+    }
+    Step::Taken {
+        kind,
+        arg,
+        after: end,
     }
 }
 
@@ -439,6 +544,7 @@ fn read_single(s: &[u8], limits: Limits, entries: &mut [u64]) -> Answer
         0,
         grammar::ARI_ALONE,
         0,
+        false,
         entries,
     );
     let Walk::Read { next, count } = w else {
@@ -472,7 +578,18 @@ fn walk_version(s: &[u8], items: usize, containers: usize, entries: &mut [u64]) 
     ensures { λ r. ⌜ Walked (now (s .entry)) items (due (slotOf 0) 0) [] containers 0 0 0 r (now (entries .entry)) (now (entries .exit)) ⌝ }
 {
     if !stands(s, 0, 0x01, 0, items) {
-        return walk_level(s, 0, 0, items, containers, 0, grammar::VERSION, 0, entries);
+        return walk_level(
+            s,
+            0,
+            0,
+            items,
+            containers,
+            0,
+            grammar::VERSION,
+            0,
+            false,
+            entries,
+        );
     }
     item_table::put(entries, 0, 0, 1, 0, grammar::VERSION);
     Walk::Read { next: 1, count: 1 }
@@ -500,6 +617,7 @@ fn walk_set(
             0,
             grammar::ARI_MESSAGE,
             0,
+            false,
             entries,
         );
     }
@@ -513,6 +631,7 @@ fn walk_set(
             0,
             grammar::ARI_MESSAGE,
             0,
+            false,
             entries,
         );
     }
@@ -525,6 +644,7 @@ fn walk_set(
         1,
         grammar::TYPE_MESSAGE,
         0,
+        false,
         entries,
     );
     let Walk::Read { next, count: e } = w else {

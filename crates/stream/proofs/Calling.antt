@@ -211,6 +211,15 @@ pub ruleset outcomes = (walk-refuses, walk-waits, over-refuses, over-waits)
 pub set-room : (ws : List ℕ) (i x n : ℕ) → n ≤ length ws → n ≤ length (set ws i x)
 set-room ws i x n h = omega (arith, length-set ws i x)
 
+-- one byte
+only-byte : (f : List ℕ) → length f ≡ 1 → getD f 0 0 ∷ [] ≡ f
+only-byte [] e = absurd (omega arith)
+only-byte (x ∷ []) e = refl
+only-byte (x ∷ y ∷ f) e = absurd (omega arith)
+
+pub put-only : (f : List ℕ) → length f ≡ 1 → {room room′ : List ℕ} {at r : ℕ} → Put room room′ at r (getD f 0 0 ∷ []) → Put room room′ at r f
+put-only f e p = rw (only-byte f e) at p
+
 -- the bytes in the room, when more have been put behind them
 module _ (room b f : List ℕ) (held : take (length b) room ≡ b) (fits : length b + length f ≤ length room) where
   put-behind : take (length (b ++ f)) (sets room (length b) f) ≡ b ++ f

@@ -5,6 +5,7 @@ ghost use mathlib.Core.Bool.{false, _&&_};
 ghost use Prim.Native.Nat.{_+_, _-_, _≤_, _<_, min};
 ghost use lib.ListN.{length, set};
 ghost use lib.Dec.{eqb};
+ghost use Rattle.buffer.specs.Put.{Put};
 ghost use Rattle.cbor.specs.Answer.{headAt};
 ghost use Rattle.cbor.specs.Head.{isContainer};
 ghost use Rattle.grammar.specs.Code.{nextCode, insideCode};
@@ -401,6 +402,16 @@ fn count_to(state: &mut [u64], end: usize)
     state[RECEIVED] = end as u64;
 }
 
+// Many links hand over one byte at a time: it is not worth a copy's call.
+fn put_fragment(message: &mut [u8], at: usize, fragment: &[u8]) -> usize
+    ensures { λ r. ⌜ Put (now (message .entry)) (now (message .exit)) at r (now (fragment .entry)) ⌝ }
+{
+    if fragment.len() == 1 {
+        return buffer::put(message, at, fragment[0]);
+    }
+    buffer::put_block(message, at, fragment)
+}
+
 // A fragment goes behind the bytes that were received, and the message stays within the limit.
 fn append(limits: Limits, state: &mut [u64], message: &mut [u8], fragment: &[u8], end: usize) -> Fed
     requires { ⌜ (words ≤ length (now state)) × (limits .bytes ≤ length (now message)) × (limits .bytes < 65536) × (limits .containers ≤ 12) ⌝ }
@@ -409,7 +420,7 @@ fn append(limits: Limits, state: &mut [u64], message: &mut [u8], fragment: &[u8]
 {
     let n = state[RECEIVED] as usize;
     let until = state[UNTIL] as usize;
-    buffer::put_all(message, n, fragment);
+    put_fragment(message, n, fragment);
     count_to(state, end);
     if end < until {
         return Fed::GoOn;
@@ -425,7 +436,7 @@ fn fill(limits: Limits, state: &mut [u64], message: &mut [u8], fragment: &[u8], 
 {
     let n = state[RECEIVED] as usize;
     let limit = limits.bytes;
-    buffer::put_all(message, n, &fragment[0..free]);
+    buffer::put_block(message, n, &fragment[0..free]);
     overflow(&message[0..limit], limits, state)
 }
 

@@ -1,17 +1,17 @@
--- `buffer::put_all` meets its contract: byte after byte, as far as they fit.
-use Prim.Native.Nat.{_+_, _-_, _≤_}
-use lib.ListN.{take}
-use borrow.Author.Needs.{needs}
+-- `buffer::put_all` meets its contract: byte after byte.
+use Prim.Native.Nat.{_-_, _≤_}
+use lib.ListN.{length, take}
 use Rattle.buffer.specs.Put.{Put}
-use Rattle.buffer.proofs.Putting.{copying, put-next, in-text, in-room, in-lent}
+use Rattle.buffer.proofs.Putting.{putting}
+use borrow.Author.Needs.{needs}
 use Rattle.buffer.proofs.put_all.Statement.{statement}
 use Rattle.buffer.proofs.put_all.Tie as tie
 
 abbrev Inv-loop : tie.InvT-loop
-Inv-loop out₀ at s n i₀ out i = Put out₀ out at (at + i) (take i s) × (i ≤ n)
+Inv-loop out₀ at s r₀ i₀ out r i = Put out₀ out at r (take i s) × (i ≤ length s)
 
 abbrev μ-loop : tie.MeasureT-loop
-μ-loop out₀ at s n i₀ out i = n - i
+μ-loop out₀ at s r₀ i₀ out r i = length s - i
 
 pub put-all-spec : {M : Type 1} → statement M
 put-all-spec =
@@ -19,16 +19,11 @@ put-all-spec =
     (tie.spec
     Inv-loop
     μ-loop
-    (λ c. search (copying, needs))
-    (λ c. search (copying, needs))
-    (λ c κs. search (copying, needs))
-    (λ c. search (copying, needs))
-    (λ c. search (copying, needs))
-    (λ c. search (copying, needs))
-    (λ c. search (in-lent, needs))
-    (λ c. search (copying, needs))
-    (λ c. search (copying, needs))
-    (λ c. (search (put-next, in-text, in-room, needs), search needs))
-    (λ c. search (copying, needs))
-    (λ c. search (copying, needs))
-    (λ c. search (copying, needs)))
+    (λ c. search (putting, needs))
+    (λ c. search (putting, needs))
+    (λ c κs. search (putting, needs))
+    (λ c. search (putting, needs))
+    (λ c. search (putting, needs))
+    (λ c. search (putting, needs))
+    (λ c. search (putting, needs))
+    (λ c. search (putting, needs)))

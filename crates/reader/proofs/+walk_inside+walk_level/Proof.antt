@@ -16,7 +16,7 @@ use Rattle.grammar.specs.Code.{slotOf}
 use Rattle.grammar.specs.Code.{IsSlot}
 use Rattle.buffer.specs.Bytes.{part}
 use Rattle.reader.proofs.Bounds.{nothing-inside, opened, bounds, taken-on, taken-in, taken-kind, taken-fits, read-in, read-few, read-on, less-deep, one-in, one-fits, falls-on, span-order, span-within}
-use Rattle.reader.proofs.Loop.{Leads, begins, halts, breaks, ends, again, next-slotted, turns}
+use Rattle.reader.proofs.Loop.{Leads, First, first-turn, later-turn, levelled, on-level, head-alone, stops, begins, halts, breaks, ends, again, next-slotted, turns}
 use Rattle.reader.proofs.walk_inside.Reads as walk-inside
 use Rattle.reader.proofs.walk_inside.Kinds as walk-inside-kinds
 use Rattle.reader.proofs.+walk_inside+walk_level.Lts-walk_inside as walk-inside-lts
@@ -55,13 +55,13 @@ walk-level-below t =
     and 2 walk-level-kinds.ps (falls 2 walk-level-kinds.ps _<_ μ-walk-level t) walk-level.Pre
 
 abbrev walk-level-Inv-loop : walk-level-lts.InvT-loop
-walk-level-Inv-loop s at count items depth around slot more table₀ p₀ c₀ place₀ left₀ prev₀ table p c place left prev =
+walk-level-Inv-loop s at count items depth around slot more alone table₀ p₀ c₀ place₀ left₀ prev₀ table p c place left prev =
     Leads s items (slotOf slot) more [] depth around at count table₀ (slotOf place) left (keyOf (part s (prev .from) (prev .to))) p c table
     × IsSlot place × (prev .from ≤ prev .to) × (prev .to ≤ length s) × (p ≤ length s) × (c ≤ items) × (length table ≡ length table₀)
-    × (all isByte s ≡ true) × (depth + around < 2 ^ 64)
+    × (all isByte s ≡ true) × (depth + around < 2 ^ 64) × First alone slot at count (prev .from) (prev .to) place p c
 
 abbrev walk-level-μ-loop : walk-level-lts.MeasureT-loop
-walk-level-μ-loop s at count items depth around slot more table₀ p₀ c₀ place₀ left₀ prev₀ table p c place left prev = length s - p
+walk-level-μ-loop s at count items depth around slot more alone table₀ p₀ c₀ place₀ left₀ prev₀ table p c place left prev = length s - p
 
 pub +walk-inside+walk-level-spec : {M : Type 1} → statement M
 +walk-inside+walk-level-spec = close μ-walk-inside μ-walk-level (λ t. walk-inside-lts.spec (inside-reads.Asked, inside-reads.Learnt, walk-level-below t, walk-level.Post)
@@ -75,45 +75,48 @@ pub +walk-inside+walk-level-spec : {M : Type 1} → statement M
     (λ c κs. (search (less-deep, bounds, needs), (search needs, search (one-in, bounds, needs), search (bounds, needs), search needs, search needs)))
     (λ c. search (nothing-inside, needs))
     (λ c. search needs)
-    (λ c. search (opened, needs)))
+    (λ c. search (opened, levelled, needs)))
     λ t. walk-level-lts.spec (take-head-reads.Asked, take-head-reads.Learnt, stopped-reads.Asked, stopped-reads.Learnt, walk-inside-below t, walk-inside.Post, put-reads.Asked, put-reads.Learnt, key-after-reads.Asked, key-after-reads.Learnt, next-slot-reads.Asked, next-slot-reads.Learnt)
     (walk-level-at t)
     walk-level.Post
     walk-level-Inv-loop
     walk-level-μ-loop
-    (λ c. (search turns, search needs, search needs, search needs, search needs, search needs, search needs, search needs, search needs))
+    (λ c. (search turns, search needs, search needs, search needs, search needs, search needs, search needs, search needs, search needs, search first-turn))
     (λ c κs. search needs)
     (λ c. search needs)
     (λ c. search needs)
     (λ c κs. search needs)
     (λ c. search needs)
-    (λ c. search (turns, needs))
+    (λ c. search (stops, turns, needs))
+    (λ c. search (bounds, needs))
+    (λ c. search needs)
+    (λ c. search (head-alone, needs))
     (λ c. search (bounds, needs))
     (λ c κs. (search needs, ((search needs, search needs, search needs, search (bounds, needs), search (bounds, needs)), search (bounds, needs))))
     (λ c. search needs)
     (λ c. search needs)
     (λ c. search needs)
-    (λ c. search (turns, needs))
+    (λ c. search (on-level, turns, needs))
     (λ c κs. search needs)
     (λ c κs. search needs)
     (λ c κs. search needs)
     (λ c. search needs)
     (λ c. search needs)
     (λ c. search needs)
-    (λ c. search (turns, bounds, needs))
-    (λ c. let l = c .before .before .before .before .before .before .before .before .before .before .before .before .before .before .before .before .before .before .before .before .loop .inv in
-    let h = c .before .before .before .before .before .before .before .before .before .before .before .before .before .before .before .before .before .before .before .take-head .ensures in
-    let q = c .before .before .before .before .before .before .before .before .before .before .before .before .before .before .before .before .before .t .given .1 in
+    (λ c. search (on-level, turns, bounds, needs))
+    (λ c. let l = c .before .before .before .before .before .before .before .before .before .before .before .before .before .before .before .before .before .before .before .before .before .loop .inv in
+    let h = c .before .before .before .before .before .before .before .before .before .before .before .before .before .before .before .before .before .before .before .before .take-head .ensures in
+    let q = c .before .before .before .before .before .before .before .before .before .before .before .before .before .before .before .before .before .before .t .given .1 in
     let m = c .before .before .before .before .before .before .before .before .before .before .before .before .before .before .walk-inside .ensures in
     let g = c .before .before .before .before .before .before .before .before .before .before .r .given .1 in
     falls-on _ _ _ _ (taken-on _ _ _ _ _ _ (h .1) q) (read-on _ _ _ _ _ _ _ _ m g) (read-in _ _ _ _ _ _ _ _ m g))
-    (λ c. let l = c .before .before .before .before .before .before .before .before .before .before .before .before .before .before .before .before .before .before .before .before .loop .inv in
-    let h = c .before .before .before .before .before .before .before .before .before .before .before .before .before .before .before .before .before .before .before .take-head .ensures in
-    let q = c .before .before .before .before .before .before .before .before .before .before .before .before .before .before .before .before .before .t .given .1 in
+    (λ c. let l = c .before .before .before .before .before .before .before .before .before .before .before .before .before .before .before .before .before .before .before .before .before .loop .inv in
+    let h = c .before .before .before .before .before .before .before .before .before .before .before .before .before .before .before .before .before .before .before .before .take-head .ensures in
+    let q = c .before .before .before .before .before .before .before .before .before .before .before .before .before .before .before .before .before .before .t .given .1 in
     let m = c .before .before .before .before .before .before .before .before .before .before .before .before .before .before .walk-inside .ensures in
     let g = c .before .before .before .before .before .before .before .before .before .before .r .given .1 in
-    let sp = c .before .before .before .before .before .before .before .before .before .before .before .before .before .before .before .before .before .before .before .before .loop .prev in
-    let extra = rule (slotOf (c .before .before .before .before .before .before .before .before .before .before .before .before .before .before .before .before .before .before .before .before .loop .place)) .extra in
+    let sp = c .before .before .before .before .before .before .before .before .before .before .before .before .before .before .before .before .before .before .before .before .before .loop .prev in
+    let extra = rule (slotOf (c .before .before .before .before .before .before .before .before .before .before .before .before .before .before .before .before .before .before .before .before .before .loop .place)) .extra in
     let kk = taken-kind _ _ _ _ _ _ (h .1) q in
     let fit = taken-fits _ _ _ _ _ _ (h .1) q in
     let put = c .before .before .before .before .before .before .before .put .ensures in
@@ -129,4 +132,5 @@ pub +walk-inside+walk-level-spec : {M : Type 1} → statement M
       omega (arith, c .before .before .before .before .before .before .before .put .kept .0, c .before .before .before .before .before .before .before .before .before .before .before .before .before .before .walk-inside .kept .1 .1 .1 .1 .1 .1 .1 .1 .1 .0, l .6),
       l .7,
       l .8,
+      later-turn _ _ _ _ _ _ _ _ _ (c .before .before .before .before .before .before .before .before .before .before .before .before .before .before .before .before .if1 .left),
     ))

@@ -2,6 +2,7 @@
 use borrow.Author.Needs.{needs}
 use Rattle.reader.proofs.Bounds.{bounds}
 use Rattle.reader.proofs.Fixed.{fixed-heads}
+use Rattle.reader.proofs.Loop.{levelled}
 use Rattle.reader.proofs.walk_version.Statement.{statement}
 use Rattle.reader.proofs.walk_version.Tie as tie
 
@@ -11,8 +12,8 @@ walk-version-spec =
     (tie.spec
     (λ c κs. search needs)
     (λ c κs. search needs)
-    (λ c. search needs)
-    (λ c. search needs)
+    (λ c. search (levelled, needs))
+    (λ c. search (levelled, needs))
     (λ c κs. search needs)
-    (λ c. search needs)
-    (λ c. search (fixed-heads, bounds, needs)))
+    (λ c. search (levelled, needs))
+    (λ c. search (fixed-heads, bounds, levelled, needs)))
