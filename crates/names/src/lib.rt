@@ -1,0 +1,173 @@
+// Names beside numbers: two lists of lines, each a namespace name, "=" and a number. A name without "!" is looked for in the published list, one with "!" in
+// the subscriber's own.
+ghost use mathlib.Core.Path.{_≡_};
+ghost use Prim.Native.Nat.{_+_, _≤_, _<_, min};
+ghost use lib.ListN.{length};
+ghost use Rattle.buffer.specs.Runs.{RunTo};
+ghost use Rattle.names.specs.Names.{otherThan, lines, isNumber, formed, matches, found, isOwn, findLine, numberOf, numberFor, badFrom, wrongOf, checkNames};
+
+// Whether two lists have well-formed lines only: 19 has the first byte of the first that is not.
+pub enum Names {
+    Passes,
+    Refused { place: u64 },
+}
+
+// The first byte of the first line that is not well-formed.
+pub enum Wrong {
+    Nowhere,
+    At(usize),
+}
+
+fn is_other(x: u8, stop: u8) -> bool
+    ensures { λ r. ⌜ r ≡ otherThan stop x ⌝ }
+{
+    x != stop
+}
+
+// The place of the next byte of a kind, or the end.
+fn up_to(t: &[u8], from: usize, stop: u8) -> usize
+    requires { ⌜ from ≤ length (now t) ⌝ }
+    ensures { λ r. ⌜ RunTo (otherThan stop) (now (t .entry)) from r ⌝ }
+{
+    let mut i = from;
+    while i < t.len() {
+        if is_other(t[i], stop) {
+            i += 1;
+        } else {
+            return i;
+        }
+    }
+    i
+}
+
+// The number of a line; Bad where there is no "=" or no number behind it.
+pub fn number_of(line: &[u8]) -> buffer::Number
+    ensures { λ r. ⌜ r ≡ numberOf (now (line .entry)) ⌝ }
+{
+    let q = up_to(line, 0, b'=');
+    let end = line.len();
+    if q == end {
+        return buffer::Number::Bad;
+    }
+    buffer::signed(&line[q + 1..end])
+}
+
+fn is_number(n: buffer::Number) -> bool
+    ensures { λ r. ⌜ r ≡ isNumber n ⌝ }
+{
+    match n {
+        buffer::Number::Value(_) => true,
+        buffer::Number::Bad => false,
+    }
+}
+
+// A line without its line feed is well-formed.
+fn is_formed(line: &[u8]) -> bool
+    ensures { λ r. ⌜ r ≡ formed (now (line .entry)) ⌝ }
+{
+    let q = up_to(line, 0, b'=');
+    if !grammar::is_namespace_name(&line[0..q]) {
+        return false;
+    }
+    is_number(number_of(line))
+}
+
+// The names are compared first: most lines have another.
+fn is_match(line: &[u8], name: &[u8]) -> bool
+    ensures { λ r. ⌜ r ≡ matches (now (name .entry)) (now (line .entry)) ⌝ }
+{
+    let q = up_to(line, 0, b'=');
+    if !buffer::same(&line[0..q], name) {
+        return false;
+    }
+    is_formed(line)
+}
+
+// The first line of a list that matches a name, without its line feed; an empty part if none does.
+fn find_in<'a>(list: &'a [u8], name: &[u8]) -> &'a [u8]
+    ensures { λ r. ⌜ now r ≡ found (now (name .entry)) (lines (now (list .entry))) ⌝ }
+{
+    let mut p = 0;
+    while p < list.len() {
+        let e = up_to(list, p, b'\n');
+        if e == list.len() {
+            return &list[e..e];
+        }
+        if is_match(&list[p..e], name) {
+            return &list[p..e];
+        }
+        p = e + 1;
+    }
+    &list[0..0]
+}
+
+fn is_own(name: &[u8]) -> bool
+    ensures { λ r. ⌜ r ≡ isOwn (now (name .entry)) ⌝ }
+{
+    if name.len() == 0 {
+        return false;
+    }
+    name[0] == b'!'
+}
+
+// The line that a name has, as a part of whichever list holds it.
+pub fn find_line<'a>(published: &'a [u8], own: &'a [u8], name: &[u8]) -> &'a [u8]
+    ensures { λ r. ⌜ now r ≡ findLine (now (published .entry)) (now (own .entry)) (now (name .entry)) ⌝ }
+{
+    if is_own(name) {
+        return find_in(own, name);
+    }
+    find_in(published, name)
+}
+
+// The number that a name stands for.
+pub fn number_for<'a>(published: &'a [u8], own: &'a [u8], name: &[u8]) -> buffer::Number
+    ensures { λ r. ⌜ r ≡ numberFor (now (published .entry)) (now (own .entry)) (now (name .entry)) ⌝ }
+{
+    number_of(find_line(published, own, name))
+}
+
+// The first line of a list that is not well-formed.
+fn first_wrong(list: &[u8]) -> Wrong
+    ensures { λ r. ⌜ r ≡ wrongOf (badFrom 0 (lines (now (list .entry)))) ⌝ }
+{
+    let mut p = 0;
+    while p < list.len() {
+        let e = up_to(list, p, b'\n');
+        if e == list.len() {
+            return Wrong::At(p);
+        }
+        if !is_formed(&list[p..e]) {
+            return Wrong::At(p);
+        }
+        p = e + 1;
+    }
+    Wrong::Nowhere
+}
+
+// A place counted on from another, as far as 64 bits go.
+fn counted_on(from: usize, place: usize) -> u64
+    ensures { λ r. ⌜ r ≡ min (from + place) 18446744073709551615 ⌝ }
+{
+    if 18446744073709551615 - from < place {
+        return 18446744073709551615;
+    }
+    (from + place) as u64
+}
+
+// Test 19: each line of the two lists is well-formed.
+pub fn check_names(published: &[u8], own: &[u8]) -> Names
+    ensures { λ r. ⌜ r ≡ checkNames (now (published .entry)) (now (own .entry)) ⌝ }
+{
+    match first_wrong(published) {
+        Wrong::At(p) => Names::Refused {
+            place: counted_on(0, p),
+        },
+        Wrong::Nowhere => match first_wrong(own) {
+            Wrong::At(p) => Names::Refused {
+                place: counted_on(published.len(), p),
+            },
+            Wrong::Nowhere => Names::Passes,
+        },
+    }
+}
