@@ -26,7 +26,7 @@
    ANSWERS are one uint64_t. Its top byte tells which:
 
      0          accepted; released; the table passes; the stream goes on
-     1 to 18    refused, by the test of that number (see enum surfbodkin_test);
+     1 to 19    refused, by the test of that number (see enum surfbodkin_test);
                 the other 56 bits are the place, or another number, that goes with it
      255        held back (release's no); the other 56 bits are the entry
 
@@ -80,6 +80,7 @@ enum surfbodkin_test {
   SURFBODKIN_NOT_TEXT = 15,           /* not the text of an accepted ARI; place 0 */
   SURFBODKIN_ROOM = 16,               /* lent room is too short; place: the need */
   SURFBODKIN_TABLE = 18,              /* grant table; place: a row */
+  SURFBODKIN_NAMES = 19,              /* list of names; place: a line's first byte */
   SURFBODKIN_HELD = 255               /* not released; place: an entry */
 };
 
@@ -149,6 +150,15 @@ uint64_t surfbodkin_stream_feed(uint64_t *state, size_t words,
 uint64_t surfbodkin_stream_close(uint64_t *state, size_t words,
                                  uint8_t *message, size_t room,
                                  uint8_t *out, size_t out_length);
+
+/* Checks two lists of names, the published one and a subscriber's own; either may be
+   empty. Each is a run of lines: a namespace name, "=", a number in plain decimal from
+   -2^63 to 2^63 - 1, and a line feed.
+     0          each line is as it must be
+     refused    19, place: the first byte of the first line that is not, the own
+                list's bytes counted on from the end of the published one */
+uint64_t surfbodkin_check_names(const uint8_t *published, size_t published_length,
+                                const uint8_t *own, size_t own_length);
 
 /* Checks a grant table: SURFBODKIN_ROW bytes a row, of any length, in any order, as
    surfbodkin_put_row writes them. Private (negative) namespaces have one subscriber

@@ -9,6 +9,9 @@ use Rattle.grants.specs.Grants.{Check, passes}
 use Rattle.release.specs.Release.{Release, yes, no}
 use Rattle.listing.specs.declared.Listed.{Listed}
 use Rattle.listing.specs.declared.Listed.the-variants as listed
+use Rattle.names.specs.declared.Names.{Names}
+use Rattle.names.specs.declared.Names.the-variants.{Passes}
+use Rattle.names.specs.declared.Names.the-variants as names
 use Rattle.stream.specs.declared.Fed.{Fed}
 use Rattle.stream.specs.declared.Fed.the-variants.{GoOn}
 use Rattle.stream.specs.declared.Fed.the-variants as fed
@@ -53,6 +56,11 @@ pub record ClosesAs (m : Limits) (ws room out : List ℕ) (r : ℕ) (ws′ out�
   pub answer : Listed
   pub code : r ≡ listCode answer
   pub closes : Closes m ws room out answer ws′ out′
+
+-- 19 with the first byte of the first wrong line
+abbrev pub namesCode : Names → ℕ
+namesCode Passes = 0
+namesCode (names.Refused p) = refusalCode 19 p
 
 abbrev pub tableCode : Check → ℕ
 tableCode passes = 0

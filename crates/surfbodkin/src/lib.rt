@@ -6,15 +6,17 @@ ghost use Rattle.ari.specs.declared.Input.the-variants.{Single, Message};
 ghost use Rattle.ari.specs.Reader.{read};
 ghost use Rattle.ari.specs.Limits.{firstLimits};
 ghost use Rattle.reader.specs.Answers.{answerOf};
+ghost use Rattle.names.specs.Names.{checkNames};
 ghost use Rattle.grants.specs.Bytes.{checkBytes};
 ghost use Rattle.grants.specs.Verdict.{checkOf};
 ghost use Rattle.listing.specs.Answers.{listOf, writtenOf as listedIn};
 ghost use Rattle.release.specs.Release.{releaseBytes, answerOf as releasedOf};
 ghost use Rattle.text.specs.Answer.{writeText, readText, lent};
 ghost use Rattle.text_write.specs.Written.{writtenOf, roomAfter};
-ghost use Rattle.surfbodkin.specs.Code.{refusalCode, countCode, checkCode, listCode, tableCode, releaseCode, textCode, fedCode, OpensAs, FeedsAs, ClosesAs};
+ghost use Rattle.surfbodkin.specs.Code.{refusalCode, countCode, checkCode, listCode, tableCode, releaseCode, textCode, fedCode, OpensAs, FeedsAs, ClosesAs, namesCode};
 use grants::Verdict;
 use listing::Listed;
+use names::Names;
 use reader::Answer;
 use release::Released;
 use stream::Fed;
@@ -115,6 +117,22 @@ pub extern "C" fn surfbodkin_stream_close(state: &mut [u64], message: &[u8], out
     ensures { λ r. ⌜ ClosesAs firstLimits (now (state .entry)) (now (message .entry)) (now (out .entry)) r (now (state .exit)) (now (out .exit)) ⌝ }
 {
     list_code(stream::close(state, message, out))
+}
+
+fn names_code(a: Names) -> u64
+    ensures { λ r. ⌜ r ≡ namesCode a ⌝ }
+{
+    match a {
+        Names::Passes => 0,
+        Names::Refused { place } => refusal_code(19, place),
+    }
+}
+
+#[no_mangle]
+pub extern "C" fn surfbodkin_check_names(published: &[u8], own: &[u8]) -> u64
+    ensures { λ r. ⌜ r ≡ namesCode (checkNames (now (published .entry)) (now (own .entry))) ⌝ }
+{
+    names_code(names::check_names(published, own))
 }
 
 fn table_code(a: Verdict) -> u64
