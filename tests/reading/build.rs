@@ -8,9 +8,9 @@ use std::env;
 use std::path::{Path, PathBuf};
 use std::process::Command;
 
-const FUNCTIONS: [&str; 10] = [
+const FUNCTIONS: [&str; 11] = [
     "check_single", "check_message", "list", "check_table", "release", "write_text", "read_text",
-    "stream_open", "stream_feed", "stream_close",
+    "check_names", "stream_open", "stream_feed", "stream_close",
 ];
 
 /// The functions that the archive defines, as nm names them.

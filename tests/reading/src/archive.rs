@@ -40,6 +40,9 @@ functions! {
     "read_text" surfbodkin_read_text(
         text: *const u8, length: usize, out: *mut u8, out_length: usize
     );
+    "check_names" surfbodkin_check_names(
+        published: *const u8, published_length: usize, own: *const u8, own_length: usize
+    );
     "stream_open" surfbodkin_stream_open(state: *mut u64, words: usize);
     "stream_feed" surfbodkin_stream_feed(
         state: *mut u64, words: usize, message: *mut u8, room: usize,
@@ -114,6 +117,18 @@ pub fn write_text(ari: &[u8], room: &mut [u8]) -> u64 {
 pub fn read_text(text: &[u8], room: &mut [u8]) -> u64 {
     unsafe {
         functions::surfbodkin_read_text(text.as_ptr(), text.len(), room.as_mut_ptr(), room.len())
+    }
+}
+
+#[inline]
+pub fn check_names(published: &[u8], own: &[u8]) -> u64 {
+    unsafe {
+        functions::surfbodkin_check_names(
+            published.as_ptr(),
+            published.len(),
+            own.as_ptr(),
+            own.len(),
+        )
     }
 }
 

@@ -8,7 +8,8 @@
 //! [`Visitor`], and a check's visitor does nothing. `check_table` and `release`
 //! judge by the listing and a grant table, `write_text` and `read_text` go from
 //! a single ARI to its text and back, `read_table` reads the text of a grant table. A
-//! [`Stream`] takes a message in fragments.
+//! [`Stream`] takes a message in fragments; [`names`] has the lists of names, and release
+//! by them.
 //!
 //! Not part of the reading: [`archive`] calls the gate, [`generate`] makes
 //! inputs for comparisons and times, [`vectors`] holds the fixed inputs,
@@ -17,6 +18,7 @@
 mod grants;
 mod head;
 mod listing;
+pub mod names;
 mod spelling;
 mod stream;
 mod table_text;
@@ -90,6 +92,8 @@ pub enum Test {
     Room = 16,
     /// "grant table"
     Table = 18,
+    /// "a list line wrongly formed"
+    Names = 19,
 }
 
 /// "A refusal is a number with one further number, the place"; with tests 16

@@ -16,7 +16,7 @@ fn any_namespace(random: &mut Random) -> i64 {
     }
 }
 
-fn shuffle<T>(random: &mut Random, list: &mut [T]) {
+pub(super) fn shuffle<T>(random: &mut Random, list: &mut [T]) {
     for k in (1..list.len()).rev() {
         list.swap(k, random.below(k + 1));
     }
@@ -68,6 +68,16 @@ pub fn table(random: &mut Random) -> Vec<u8> {
 /// A table for the release of a message, and a subscriber. Most often it grants
 /// all the numbers that are listed, or all but one.
 pub fn table_for(random: &mut Random, message: &[u8]) -> (Vec<u8>, u64) {
+    let entries = listing(message).unwrap_or_default().entries;
+    let numbers = entries.iter().filter_map(|entry| match entry.namespace {
+        Namespace::Number(number) => Some(number),
+        _ => None,
+    });
+    table_granting(random, numbers)
+}
+
+/// The same for any numbers.
+pub fn table_granting(random: &mut Random, wanted: impl Iterator<Item = i64>) -> (Vec<u8>, u64) {
     let subscriber = match random.below(8) {
         0 => random.word(),
         _ => random.pick(&SUBSCRIBERS),
@@ -76,10 +86,9 @@ pub fn table_for(random: &mut Random, message: &[u8]) -> (Vec<u8>, u64) {
         return (table(random), subscriber);
     }
     let mut numbers: Vec<i64> = Vec::new();
-    for entry in listing(message).unwrap_or_default().entries {
-        match entry.namespace {
-            Namespace::Number(number) if !numbers.contains(&number) => numbers.push(number),
-            _ => (),
+    for number in wanted {
+        if !numbers.contains(&number) {
+            numbers.push(number);
         }
     }
     let mut list: Vec<Row> =

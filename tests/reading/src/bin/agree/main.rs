@@ -16,7 +16,7 @@ use std::time::{Instant, SystemTime, UNIX_EPOCH};
 
 use lent::Lent;
 use reading::archive::{self, packed, packed_plain, packed_release, packed_written, unpacked};
-use reading::generate::{self, tables, texts, Random, Settings};
+use reading::generate::{self, names, tables, texts, Random, Settings};
 use reading::vectors::to_hex;
 use reading::{Record, Refusal, Test, Written, ENTRY, LIMITS};
 use tally::Column;
@@ -30,13 +30,15 @@ enum Call {
     Release,
     Write,
     Read,
+    Names,
 }
 
 /// What a call is lent. Most use only a part of it.
 #[derive(Default)]
 struct Case {
-    /// The message, the single ARI or the text.
+    /// The message, the single ARI, the text or the published list.
     input: Vec<u8>,
+    /// The grant table or the own list.
     table: Vec<u8>,
     subscriber: u64,
     /// What the room for the answer holds before.
@@ -44,7 +46,7 @@ struct Case {
 }
 
 impl Call {
-    const ALL: [Call; 7] = [
+    const ALL: [Call; 8] = [
         Call::Single,
         Call::Message,
         Call::List,
@@ -52,6 +54,7 @@ impl Call {
         Call::Release,
         Call::Write,
         Call::Read,
+        Call::Names,
     ];
 
     fn function(self) -> &'static str {
@@ -68,6 +71,7 @@ impl Call {
             Call::Release => (0..=12).chain([18, archive::NO]).collect(),
             Call::Write => (0..=7).chain(9..=14).chain([16]).collect(),
             Call::Read => vec![0, 1, 15, 16],
+            Call::Names => vec![0, 19],
         }
     }
 
@@ -82,6 +86,7 @@ impl Call {
             Call::Release => packed_release(reading::release(input, table, subscriber)),
             Call::Write => packed_written(reading::write_text(input, room)),
             Call::Read => packed_written(reading::read_text(input, room)),
+            Call::Names => packed_plain(reading::names::check_names(input, table)),
         }
     }
 
@@ -94,6 +99,7 @@ impl Call {
             Call::Release => archive::release(input, table, subscriber),
             Call::Write => archive::write_text(input, room),
             Call::Read => archive::read_text(input, room),
+            Call::Names => archive::check_names(input, table),
         }
     }
 
@@ -195,6 +201,7 @@ impl Call {
         match self {
             Call::Table => case.table = tables::table(random),
             Call::Read => case.input = text(random),
+            Call::Names => (case.input, case.table) = names::lists(random),
             _ => case.input = self.binary(random),
         }
         if self == Call::Release {
@@ -268,6 +275,7 @@ fn compare(call: Call, case: &Case, shift: usize) -> Result<u64, String> {
     match call {
         Call::Table => words = format!("{call:?}, table {}", to_hex(table)),
         Call::Release => words += &format!(", table {}, subscriber {subscriber}", to_hex(table)),
+        Call::Names => words += &format!(", own list {}", to_hex(table)),
         Call::Read => words += &format!(" ({})", String::from_utf8_lossy(input)),
         _ => (),
     }

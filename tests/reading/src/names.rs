@@ -1,0 +1,129 @@
+//! Request (i), 'Names beside numbers': the two lists of names, the line found for a
+//! name, and release by the numbers that names stand for. The module is not taken apart
+//! in the crate's root, since [`release`] has its name there already.
+
+use crate::head::{self, Kind};
+use crate::spelling::is_namespace_name;
+use crate::{listing_within, rows, Limits, Namespace, Refusal, Release, Row, Test};
+
+/// The lines of a list, each with the place of its first byte and with its line feed.
+/// Only bytes behind the last line feed are a line without one.
+pub fn lines(list: &[u8]) -> impl Iterator<Item = (usize, &[u8])> {
+    let mut after = 0;
+    list.split_inclusive(|byte| *byte == b'\n').map(move |line| {
+        let first = after;
+        after += line.len();
+        (first, line)
+    })
+}
+
+/// A line that is well formed.
+#[derive(Clone, Copy, Debug, PartialEq, Eq)]
+pub struct Line<'a> {
+    /// The line "without its line feed".
+    pub text: &'a [u8],
+    pub name: &'a [u8],
+    pub number: i64,
+}
+
+impl<'a> Line<'a> {
+    /// "any namespace name, "=", a plain decimal number in the range of ns, and a line
+    /// feed"; none if the line is wrongly formed. No name has a "=", so the first one is
+    /// the one behind the name.
+    pub fn read(line: &'a [u8]) -> Option<Line<'a>> {
+        let text = line.strip_suffix(b"\n")?;
+        let equals = text.iter().position(|byte| *byte == b'=')?;
+        let (name, number) = (&text[..equals], &text[equals + 1..]);
+        is_namespace_name(name).then_some(())?;
+        Some(Line { text, name, number: plain_decimal(number)? })
+    }
+}
+
+/// "no leading zero, plus sign or -0", as in document 01; parsing refuses what is out of
+/// range or goes on with something else than digits.
+fn plain_decimal(digits: &[u8]) -> Option<i64> {
+    match digits {
+        b"0" | [b'1'..=b'9', ..] | [b'-', b'1'..=b'9', ..] => {
+            std::str::from_utf8(digits).ok()?.parse().ok()
+        }
+        _ => None,
+    }
+}
+
+/// "A name without "!" is looked for in the first, a name with "!" in the second". "The
+/// first matching line counts; a wrongly formed one matches no name."
+fn find<'a>(published: &'a [u8], own: &'a [u8], name: &[u8]) -> Option<Line<'a>> {
+    let list = if name.starts_with(b"!") { own } else { published };
+    // A line that starts otherwise isn't read any further, which is for the time only.
+    let like_it = lines(list).filter(|(_, line)| line.starts_with(name));
+    like_it.filter_map(|(_, line)| Line::read(line)).find(|line| line.name == name)
+}
+
+/// "the line found is handed back as a part of whichever list held it, without its line
+/// feed; an empty part if none does"
+pub fn find_line<'a>(published: &'a [u8], own: &'a [u8], name: &[u8]) -> &'a [u8] {
+    find(published, own, name).map_or(&[], |line| line.text)
+}
+
+/// The number that a namespace of an accepted message is, or stands for by the lists.
+pub fn number_of(
+    message: &[u8],
+    namespace: Namespace,
+    published: &[u8],
+    own: &[u8],
+) -> Option<i64> {
+    match namespace {
+        Namespace::Number(number) => Some(number),
+        Namespace::Name(place) => {
+            find(published, own, name_at(message, place)).map(|line| line.number)
+        }
+        Namespace::Relative => None,
+    }
+}
+
+/// The name whose head is at a place of an accepted message.
+pub fn name_at(message: &[u8], place: usize) -> &[u8] {
+    match head::read(&message[place..]) {
+        Ok((Kind::Text(length), rest)) => &rest[..length as usize],
+        _ => panic!("no accepted name at {place}"),
+    }
+}
+
+/// The first byte of the first line that is wrongly formed.
+fn first_wrong(list: &[u8]) -> Option<usize> {
+    lines(list).find(|(_, line)| Line::read(line).is_none()).map(|(first, _)| first)
+}
+
+/// "19, a list line wrongly formed, with the first such line's first byte, the second
+/// list's bytes being counted on from the end of the published one (where that would
+/// pass 2^64 - 1 it is 2^64 - 1)". No two slices are long enough for that.
+pub fn check_names(published: &[u8], own: &[u8]) -> Result<(), Refusal> {
+    let in_own = || first_wrong(own).map(|first| published.len().saturating_add(first));
+    match first_wrong(published).or_else(in_own) {
+        Some(place) => Err(Refusal { test: Test::Names, place }),
+        None => Ok(()),
+    }
+}
+
+/// 19 is "tested after the message, before 18 and release"; "Release then judges the
+/// number". "A name not found stays ungranted", as a relative reference does.
+pub fn release(
+    message: &[u8],
+    table: &[u8],
+    published: &[u8],
+    own: &[u8],
+    subscriber: u64,
+    limits: &Limits,
+) -> Result<Release, Refusal> {
+    let entries = listing_within(message, limits)?.entries;
+    check_names(published, own)?;
+    let rows = rows(table)?;
+    let granted = |namespace| {
+        number_of(message, namespace, published, own)
+            .is_some_and(|namespace| rows.contains(&Row { subscriber, namespace }))
+    };
+    Ok(match entries.iter().position(|entry| !granted(entry.namespace)) {
+        Some(entry) => Release::No(entry),
+        None => Release::Yes,
+    })
+}
