@@ -1,4 +1,4 @@
-//! Request (i), 'Names beside numbers': the two lists of names, the line found for a
+//! Names beside numbers (R139 to R143): the two lists of names, the line found for a
 //! name, and release by the numbers that names stand for. The module is not taken apart
 //! in the crate's root, since [`release`] has its name there already.
 
@@ -20,15 +20,14 @@ pub fn lines(list: &[u8]) -> impl Iterator<Item = (usize, &[u8])> {
 /// A line that is well formed.
 #[derive(Clone, Copy, Debug, PartialEq, Eq)]
 pub struct Line<'a> {
-    /// The line "without its line feed".
+    /// The line with its line feed left off.
     pub text: &'a [u8],
     pub name: &'a [u8],
     pub number: i64,
 }
 
 impl<'a> Line<'a> {
-    /// "any namespace name, "=", a plain decimal number in the range of ns, and a line
-    /// feed"; none if the line is wrongly formed. No name has a "=", so the first one is
+    /// R140; none if the line is not well-formed. No name has a "=", so the first one is
     /// the one behind the name.
     pub fn read(line: &'a [u8]) -> Option<Line<'a>> {
         let text = line.strip_suffix(b"\n")?;
@@ -39,8 +38,8 @@ impl<'a> Line<'a> {
     }
 }
 
-/// "no leading zero, plus sign or -0", as in document 01; parsing refuses what is out of
-/// range or goes on with something else than digits.
+/// One spelling for each number; parsing refuses what is out of range or goes on with
+/// something else than digits.
 fn plain_decimal(digits: &[u8]) -> Option<i64> {
     match digits {
         b"0" | [b'1'..=b'9', ..] | [b'-', b'1'..=b'9', ..] => {
@@ -50,8 +49,8 @@ fn plain_decimal(digits: &[u8]) -> Option<i64> {
     }
 }
 
-/// "A name without "!" is looked for in the first, a name with "!" in the second". "The
-/// first matching line counts; a wrongly formed one matches no name."
+/// R141, R142: the mark in front tells the list, and the first well-formed line with the
+/// name is its line.
 fn find<'a>(published: &'a [u8], own: &'a [u8], name: &[u8]) -> Option<Line<'a>> {
     let list = if name.starts_with(b"!") { own } else { published };
     // A line that starts otherwise isn't read any further, which is for the time only.
@@ -59,8 +58,7 @@ fn find<'a>(published: &'a [u8], own: &'a [u8], name: &[u8]) -> Option<Line<'a>>
     like_it.filter_map(|(_, line)| Line::read(line)).find(|line| line.name == name)
 }
 
-/// "the line found is handed back as a part of whichever list held it, without its line
-/// feed; an empty part if none does"
+/// The line as a part of its list; empty if there is none.
 pub fn find_line<'a>(published: &'a [u8], own: &'a [u8], name: &[u8]) -> &'a [u8] {
     find(published, own, name).map_or(&[], |line| line.text)
 }
@@ -94,9 +92,7 @@ fn first_wrong(list: &[u8]) -> Option<usize> {
     lines(list).find(|(_, line)| Line::read(line).is_none()).map(|(first, _)| first)
 }
 
-/// "19, a list line wrongly formed, with the first such line's first byte, the second
-/// list's bytes being counted on from the end of the published one (where that would
-/// pass 2^64 - 1 it is 2^64 - 1)". No two slices are long enough for that.
+/// R143. No two slices are so long that the place would pass 64 bits.
 pub fn check_names(published: &[u8], own: &[u8]) -> Result<(), Refusal> {
     let in_own = || first_wrong(own).map(|first| published.len().saturating_add(first));
     match first_wrong(published).or_else(in_own) {
@@ -105,8 +101,8 @@ pub fn check_names(published: &[u8], own: &[u8]) -> Result<(), Refusal> {
     }
 }
 
-/// 19 is "tested after the message, before 18 and release"; "Release then judges the
-/// number". "A name not found stays ungranted", as a relative reference does.
+/// Release by the numbers that names stand for: the message's refusal, then 19, then 18. A
+/// name with no line is granted to nobody, as a relative reference is.
 pub fn release(
     message: &[u8],
     table: &[u8],

@@ -1,20 +1,18 @@
-//! Request (ii), 'Take the message as the link delivers it': answers to a message that
-//! is fed in fragments. They depend on all bytes received and on nothing else, so
+//! A message as the link delivers it (R130 to R137): answers to a message that is fed
+//! in fragments. They depend on all bytes received and on nothing else, so
 //! those are all that a [`Stream`] keeps, and each answer is read from the front.
 
 use crate::{listing_within, walk_message, Limits, Listing, Refusal, Test, Written};
 
-/// "the closing answer, item count and listing are those of the whole message, if that
-/// keeps within the length limit. For a longer one the answer is what the bytes up to
-/// the limit would give by themselves, if that is a refusal other than 2, 9 and 16, and
-/// otherwise 1." (A listing is refused by 16 where it is handed over, not here.)
+/// R130, R131: the answer of all bytes received; of too many, that of the first ones if
+/// more bytes could not mend it, and else 1. (A listing is refused by 16 where it is
+/// handed over, not here.)
 pub fn closing(bytes: &[u8], limits: &Limits) -> Result<Listing, Refusal> {
     judge(bytes, limits, |bytes| listing_within(bytes, limits))
 }
 
-/// "A refusal comes before the close exactly when every continuation, closing at once
-/// included, gives the same one": 2 and 9 say that bytes are missing, which may still
-/// come, and past the limit no continuation is anything but refused.
+/// R132: the refusal that no further bytes can change. 2 and 9 say that bytes are missing,
+/// which may still come, and past the limit no continuation is anything but refused.
 pub fn standing(bytes: &[u8], limits: &Limits) -> Option<Refusal> {
     let items = judge(bytes, limits, |bytes| walk_message(bytes, limits, &mut ()));
     items.err().filter(|refusal| !bytes_are_missing(refusal))
@@ -62,7 +60,7 @@ impl Stream {
     }
 
     /// The bytes are put into the message's room behind those before them, as far as the
-    /// limit lets them. "then later fragments change nothing": after a refusal none are.
+    /// limit lets them; once a refusal stands none are (R134).
     pub fn feed(
         &mut self,
         fragment: &[u8],
@@ -79,8 +77,7 @@ impl Stream {
         self.standing.map_or(Ok(()), Err)
     }
 
-    /// "A close that answers 16 closes nothing and may be repeated; after any other a
-    /// fresh message begins."
+    /// R137: 16 leaves all as it was, and any other answer begins anew.
     pub fn close(&mut self, room: &mut [u8], limits: &Limits) -> Result<Written, Refusal> {
         let answer = closing(&self.received, limits).and_then(|listing| listing.write(room));
         if !matches!(answer, Err(Refusal { test: Test::Room, .. })) {

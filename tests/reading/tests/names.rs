@@ -92,7 +92,7 @@ fn wrong_lines() -> Vec<(String, String)> {
     wrong
 }
 
-/// "any namespace name, "=", a plain decimal number in the range of ns, and a line feed"
+/// Both ends of the numbers' range, names of every length and with the mark (R140).
 #[test]
 fn well_formed_lines() {
     assert_eq!(checked("", ""), "passes");
@@ -114,7 +114,7 @@ fn well_formed_lines() {
 }
 
 /// In either list, at its start, behind other lines and before them; and what is wrongly
-/// formed "matches no name", so a line behind it does, or none.
+/// formed is passed over when a name is looked for.
 #[test]
 fn wrongly_formed_lines() {
     let right = "b=1\n!b=2\n";
@@ -191,7 +191,7 @@ fn places() {
     assert_eq!(checked(&long, &long), "passes");
 }
 
-/// "The first matching line counts".
+/// Of two lines with one name the first is its line.
 #[test]
 fn repeated_names() {
     assert_eq!(found("b=1\na=1\na=2\na=1\n", "", "a"), "a=1");
@@ -203,7 +203,7 @@ fn repeated_names() {
     assert_eq!(found("\n\na=\na\na=1\r\na=5\n", "", "a"), "a=5");
 }
 
-/// "A name without "!" is looked for in the first, a name with "!" in the second".
+/// The mark in front of a name tells where it is looked for.
 #[test]
 fn which_list() {
     assert_eq!(found("a=1\n!a=2\n", "a=3\n!a=4\n", "a"), "a=1");
@@ -399,8 +399,7 @@ fn releases() {
     assert_eq!(released(within, &zero, "a=0\n", "", 7), "no 1");
 }
 
-/// The message's refusal, then 19, then 18. "A call that answers 19 or 18 releases
-/// nothing, not even a message with no references".
+/// The message's refusal, then 19, then 18; a message that names nothing is held to both.
 #[test]
 fn order_of_refusals() {
     let all = table(&[(7, 0)]);
@@ -466,7 +465,7 @@ fn case(random: &mut Random) -> (Vec<u8>, Lists, Vec<u8>, u64) {
     (message, lists, table, subscriber)
 }
 
-/// "either may be empty": with both empty it is the release of document 01.
+/// With both lists empty it is release as it is without lists.
 #[test]
 fn empty_lists_change_nothing() {
     let mut random = Random::new(22);
@@ -538,8 +537,8 @@ fn names_are_as_good_as_their_numbers() {
     assert!(yes > 400 && no > 400 && later > 200, "{yes} {no} {later}");
 }
 
-/// "if a table passes its own check, no messages released under it for different
-/// subscribers, equal or not, name the same private number, whatever lists each has"
+/// Under a table that passes its check two subscribers never get messages that come to
+/// one private number, by whatever lists.
 #[test]
 fn private_numbers_stay_apart() {
     let mut random = Random::new(24);

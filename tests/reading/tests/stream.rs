@@ -161,7 +161,7 @@ fn before_the_close_exactly_when_every_continuation_is_refused_so() {
     assert!(seen[0] > 500 && seen[1] > 100_000, "{seen:?}");
 }
 
-/// "then later fragments change nothing", for each prefix of made messages, most of them
+/// What is fed behind a refusal is of no account: each prefix of made messages, most of them
 /// past the limit; and a made message is refused early only if it is refused.
 #[test]
 fn every_prefix() {
