@@ -7,7 +7,7 @@ use mathlib.Core.List.{List, [], _∷_, _++_, append-assoc, map, List·Memᴰ, L
 use native.Mathlib.Omega.{arith}
 use native.Mathlib.Numerals.{add-one}
 use lib.ListN.{length, getD, drop, length-append, length-map}
-use lib.Seq.{drop-cons, drop-drop, drop-at, drop-length}
+use lib.Seq.{drop-cons, drop-drop, drop-at, take-at, drop-length}
 use lib.IntN.{pos, negsuc}
 use lib.Dec.{eqb}
 use borrow.Author.Tests.{eqb-true}
@@ -35,7 +35,7 @@ use Rattle.listing.specs.declared.Namespace.{Namespace}
 use Rattle.listing.specs.declared.Namespace.the-variants.{Number, Name, Relative}
 use Rattle.listing.specs.declared.Reference.{Reference}
 use Rattle.listing.specs.declared.Reference.the-variants.{Nothing, To}
-use Rattle.listing.specs.Entries.{namespaceOf, arrayReference, referenceFrom, spaceCode}
+use Rattle.listing.specs.Entries.{namespaceOf, arrayReference, referenceFrom, spaceCode, stringIn, NameStands}
 use Rattle.listing.proofs.ReferenceWays.{unasked, asked}
 
 -- the listing from item k on
@@ -61,6 +61,29 @@ member-space b p (item l s ms rs) r e n =
     go false false true q = ap (Name p) (long q)
     go false false false q = refl
 
+-- and its string behind it
+member-name : (b : List ℕ) (p : ℕ) (g : Items) (r : List ℕ) → drop p b ≡ encode g ++ r → Named g → NameStands b (spaceIn p g)
+unfolding stringIn stringSize
+member-name b p none r e n = absurd n
+member-name b p (item l s ms rs) r e n = go (eqb (l .kind) unsigned) (eqb (l .kind) negative) (eqb (l .kind) text) refl
+  where
+    rest : List ℕ
+    rest = (encode ms ++ encode rs) ++ r
+
+    whole : drop p b ≡ leadBytes l ++ (s ++ rest)
+    whole = e ∙ simp append-assoc
+
+    long : eqb (l .kind) text ≡ true → l .arg ≡ length s
+    long q = sym (n .sized ∙ rw (eqb-true (l .kind) text q))
+
+    go : (t u v : Bool) → eqb (l .kind) text ≡ v → NameStands b (cond t (number (pos (l .arg))) (cond u (number (negsuc (l .arg))) (cond v (name p s) relative)))
+    go true u v q = tt
+    go false true v q = tt
+    go false false false q = tt
+    go false false true q =
+        let a : drop (p + size l) b ≡ s ++ rest = sym (drop-drop (size l) p b) ∙ rw whole (drop-at (leadBytes l) (s ++ rest) (size l) (length-lead l)) in
+        rw (head-is b p l (s ++ rest) whole (n .head), a) (take-at s rest (l .arg) (sym (long q)))
+
 found-at : (xs : List Spot) (k : ℕ) (d : Spot) → k < length xs → isReference (getD xs k d .slot) (getD xs k d .lead) ≡ true → List·Memᴰ (getD xs k d) (referring xs)
 found-at [] k d h e = absurd (omega arith)
 found-at (x ∷ xs) zero d h e = rw e (List·Memᴰ·head refl)
@@ -85,6 +108,7 @@ pub record Here (b : List ℕ) (k first after : ℕ) (n : Namespace) : Type 0 wh
   pub after-is : after ≡ entry .after
   pub space-is : n ≡ spaceCode (entry .space)
   pub range : InRange (entry .space)
+  pub name-is : NameStands b (entry .space)
   pub short : (first < 65536) × (after < 65536)
 
 module _ {m : Limits} {b t : List ℕ} {n : ℕ} (c : Tabled m Message b n t) where
@@ -162,6 +186,7 @@ module _ {m : Limits} {b t : List ℕ} {n : ℕ} (c : Tabled m Message b n t) wh
                 after-is = sym ea;
                 space-is = sym es ∙ member-space b _ (x .inside) (drop (x .after) b) members-at named;
                 range = numbers-in-range (c .is) (ari.entryOf x) (Memᴰ·map ari.entryOf one);
+                name-is = member-name b _ (x .inside) (drop (x .after) b) members-at named;
                 short = (omega (arith, ef, short-at c k h .0), omega (arith, ea, short-at c k h .1));
               }
           go false e u = absurd (let z : _≡_ {A = ℕ} 0 1 = cc in omega arith)

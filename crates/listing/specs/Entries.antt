@@ -1,8 +1,9 @@
--- What is read off a word of the item table and the bytes. Interface: namespaceOf, referenceFrom, spaceCode. Private to src/: arrayReference, referenceOf.
+-- What is read off a word of the item table and the bytes. Interface: namespaceOf, referenceFrom, spaceCode, stringIn, NameStands. Private to src/: arrayReference, referenceOf.
 use Prim.Native.Nat.{ℕ, _-_}
+use mathlib.Core.Path.{_≡_}
 use mathlib.Core.Bool.{cond, not, _&&_}
-use mathlib.Core.List.{List}
-use lib.ListN.{length}
+use mathlib.Core.List.{List, []}
+use lib.ListN.{length, take, drop}
 use lib.Dec.{eqb}
 use Rattle.cbor.specs.Head.{unsigned, negative, text, array}
 use Rattle.cbor.specs.declared.Head.{Head}
@@ -41,3 +42,17 @@ abbrev pub spaceCode : Space → Namespace
 spaceCode (number z) = Number (word z)
 spaceCode (name p s) = Name p (length s)
 spaceCode relative = Relative
+
+-- the bytes of the string whose head stands at a place, as far as they are there
+abbrev pub stringBy : List ℕ → Head → List ℕ
+stringBy b (Good k a q) = take a (drop q b)
+stringBy b (Bad r) = []
+
+unfoldable pub stringIn : List ℕ → ℕ → List ℕ
+stringIn b p = stringBy b (headAt b p)
+
+-- a listed name is the string at its place
+abbrev pub NameStands : List ℕ → Space → Type 0
+NameStands b (number z) = Unit {0}
+NameStands b (name p s) = stringIn b p ≡ s
+NameStands b relative = Unit {0}

@@ -13,7 +13,7 @@ ghost use Rattle.ari.specs.Listing.{listing};
 ghost use Rattle.item_table.specs.Entries.{Tabled};
 ghost use Rattle.listing.specs.Bytes.{listingBytes};
 ghost use Rattle.listing.specs.Answers.{listedOf, listOf, writtenBy, writtenOf};
-ghost use Rattle.listing.specs.Entries.{namespaceOf, arrayReference, referenceFrom};
+ghost use Rattle.listing.specs.Entries.{namespaceOf, arrayReference, referenceFrom, stringIn};
 ghost use Rattle.listing.specs.Codes.{kindCode, wordCode, entryCode};
 use ari::Input;
 use ari::Limits;
@@ -64,6 +64,22 @@ fn namespace_at(s: &[u8], at: usize) -> Namespace
         },
         _ => Namespace::Relative,
     }
+}
+
+// The string whose head stands at a place, as far as it is there: a name's bytes.
+pub fn string_at<'a>(s: &'a [u8], at: usize) -> &'a [u8]
+    ensures { λ r. ⌜ now r ≡ stringIn (now (s .entry)) at ⌝ }
+{
+    let h = cbor::head_again(s, at);
+    let cbor::Head::Good { kind: _, arg, next } = h else {
+        return &s[0..0];
+    };
+    let end = s.len();
+    let size = arg as usize;
+    if end - next < size {
+        return &s[next..end];
+    }
+    &s[next..next + size]
 }
 
 // The reference of an item whose slot takes one, by its head.
