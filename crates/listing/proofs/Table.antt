@@ -3,10 +3,10 @@
 use Prim.Native.Nat.{ℕ, zero, suc, _+_, _-_, _*_, _<_, _≤_}
 use mathlib.Core.Path.{_≡_, refl, sym, _∙_, ap}
 use mathlib.Core.Bool.{Bool, true, false, not, _&&_, cond}
-use mathlib.Core.List.{List, [], _∷_, _++_, append-assoc, map, List·Memᴰ, List·Memᴰ·head, List·Memᴰ·tail, Memᴰ·map}
+use mathlib.Core.List.{List, [], _∷_, _++_, append-assoc, append-nil, map, List·Memᴰ, List·Memᴰ·head, List·Memᴰ·tail, Memᴰ·map}
 use native.Mathlib.Omega.{arith}
 use native.Mathlib.Numerals.{add-one}
-use lib.ListN.{length, getD, drop, length-append, length-map}
+use lib.ListN.{length, getD, take, drop, length-append, length-drop, length-map, take-append-drop}
 use lib.Seq.{drop-cons, drop-drop, drop-at, take-at, drop-length}
 use lib.IntN.{pos, negsuc}
 use lib.Dec.{eqb}
@@ -23,7 +23,9 @@ use Rattle.ari.specs.Decode.{decode}
 use Rattle.ari.specs.Rules.{Is}
 use Rattle.ari.specs.Listing.{Space, number, name, relative, Entry, spaceIn, referring, listing}
 use Rattle.ari.specs.Listing as ari
+use Rattle.ari.specs.References.{entryFor}
 use Rattle.ari.proofs.Spots.{spot-count}
+use Rattle.ari.proofs.Listed.{nothing-else-is-listed, own-bytes}
 use Rattle.ari.proofs.Referring.{placeOf, found-references}
 use Rattle.ari.proofs.Named.{Named, InRange, own-namespace, numbers-in-range}
 use Rattle.ari.proofs.ListingBound.{at-most-half}
@@ -82,7 +84,24 @@ member-name b p (item l s ms rs) r e n = go (eqb (l .kind) unsigned) (eqb (l .ki
     go false false false q = tt
     go false false true q =
         let a : drop (p + size l) b ≡ s ++ rest = sym (drop-drop (size l) p b) ∙ rw whole (drop-at (leadBytes l) (s ++ rest) (size l) (length-lead l)) in
-        rw (head-is b p l (s ++ rest) whole (n .head), a) (take-at s rest (l .arg) (sym (long q)))
+        (omega (arith, length-drop p b, ap length whole, length-append (leadBytes l) (s ++ rest), length-lead l),
+          rw (head-is b p l (s ++ rest) whole (n .head), a) (take-at s rest (l .arg) (sym (long q))))
+
+-- each listed name is the string at its place
+pub names-stand : {m : Limits} {b : List ℕ} {g : Items} {n : ℕ} → Is m Message b g n → (e : Entry) → List·Memᴰ e (listing b) → NameStands b (e .space)
+names-stand {b = b} c e k =
+    let (r, at, is) = nothing-else-is-listed c e k in
+    let p = r .first in
+    let l = r .lead in
+    let tail : List ℕ = drop (entryFor r .after - p) (drop p b) in
+    let front : List ℕ = leadBytes l ++ r .str in
+    let whole : drop p b ≡ front ++ (encode (r .inside) ++ tail) =
+        sym (take-append-drop (entryFor r .after - p) (drop p b)) ∙ rw (own-bytes c r at, append-nil) (simp append-assoc) in
+    let long : length front ≡ size l + length (r .str) = simp length-append (omega (arith, length-lead l)) in
+    rw (← is)
+    (member-name b (insideAt p l (r .str)) (r .inside) tail
+    (sym (drop-drop (size l + length (r .str)) p b) ∙ ap (drop (size l + length (r .str))) whole ∙ drop-at front (encode (r .inside) ++ tail) (size l + length (r .str)) long)
+    (own-namespace c r at))
 
 found-at : (xs : List Spot) (k : ℕ) (d : Spot) → k < length xs → isReference (getD xs k d .slot) (getD xs k d .lead) ≡ true → List·Memᴰ (getD xs k d) (referring xs)
 found-at [] k d h e = absurd (omega arith)
@@ -186,7 +205,7 @@ module _ {m : Limits} {b t : List ℕ} {n : ℕ} (c : Tabled m Message b n t) wh
                 after-is = sym ea;
                 space-is = sym es ∙ member-space b _ (x .inside) (drop (x .after) b) members-at named;
                 range = numbers-in-range (c .is) (ari.entryOf x) (Memᴰ·map ari.entryOf one);
-                name-is = member-name b _ (x .inside) (drop (x .after) b) members-at named;
+                name-is = names-stand (c .is) (ari.entryOf x) (Memᴰ·map ari.entryOf one);
                 short = (omega (arith, ef, short-at c k h .0), omega (arith, ea, short-at c k h .1));
               }
           go false e u = absurd (let z : _≡_ {A = ℕ} 0 1 = cc in omega arith)

@@ -1,5 +1,5 @@
 -- What is read off a word of the item table and the bytes. Interface: namespaceOf, referenceFrom, spaceCode, stringIn, NameStands. Private to src/: arrayReference, referenceOf.
-use Prim.Native.Nat.{ℕ, _-_}
+use Prim.Native.Nat.{ℕ, _-_, _<_}
 use mathlib.Core.Path.{_≡_}
 use mathlib.Core.Bool.{cond, not, _&&_}
 use mathlib.Core.List.{List, []}
@@ -54,5 +54,5 @@ stringIn b p = stringBy b (headAt b p)
 -- a listed name is the string at its place
 abbrev pub NameStands : List ℕ → Space → Type 0
 NameStands b (number z) = Unit {0}
-NameStands b (name p s) = stringIn b p ≡ s
+NameStands b (name p s) = (p < length b) × (stringIn b p ≡ s)
 NameStands b relative = Unit {0}
