@@ -19,3 +19,4 @@ pub mod ListingBound
 pub mod ListingExample
 pub mod Named
 pub mod Well
+pub mod SignedLaws

@@ -33,24 +33,15 @@ pub const LIMITS: Limits = Limits {
     text: TEXT,
 };
 
-fn least(a: usize, b: usize) -> usize
-    ensures { λ r. ⌜ r ≡ min a b ⌝ }
-{
-    if a < b {
-        return a;
-    }
-    b
-}
-
 // Limits that a caller gives, none above the gate's own: what functions lend is sized by those.
 pub fn cap(limits: Limits) -> Limits
     ensures { λ r. ⌜ r ≡ capped limits ⌝ }
     ensures { λ r. ⌜ (r .bytes ≤ firstLimits .bytes) × (r .items ≤ firstLimits .items) × (r .containers ≤ firstLimits .containers) × (r .text ≤ firstLimits .text) ⌝ }
 {
     Limits {
-        bytes: least(limits.bytes, BYTES),
-        items: least(limits.items, ITEMS),
-        containers: least(limits.containers, CONTAINERS),
-        text: least(limits.text, TEXT),
+        bytes: buffer::least(limits.bytes, BYTES),
+        items: buffer::least(limits.items, ITEMS),
+        containers: buffer::least(limits.containers, CONTAINERS),
+        text: buffer::least(limits.text, TEXT),
     }
 }

@@ -6,11 +6,11 @@ use mathlib.Core.List.{List, [], _∷_, _++_}
 use native.Mathlib.Omega.{arith}
 use lib.ListN.{length, getD, length-append}
 use lib.Dec.{ltb, leb, eqb}
-use borrow.Author.Tests.{ltb-true, ltb-false, leb-true, le-leb, ne-eqb}
+use borrow.Author.Tests.{ltb-true, ltb-false, leb-true, le-leb, eqb-false, ne-eqb}
 use Rattle.buffer.specs.declared.Number.{Number}
 use Rattle.buffer.specs.declared.Number.the-variants.{Value, Bad}
 use Rattle.buffer.specs.Bytes.{within, all}
-use Rattle.buffer.specs.Decimal.{digitOf, digits, decimal, pushOf, onward, digitsOf, unsignedOf}
+use Rattle.buffer.specs.Decimal.{digitOf, digits, decimal, pushOf, onward, digitsOf, unsignedOf, positiveOf, negativeOf, signedOf}
 use Rattle.buffer.proofs.ByteLaws.{within-is, all-append}
 
 abbrev pub isDigit : ℕ → Bool
@@ -152,3 +152,28 @@ unsigned-most t = go (eqb (length t) 0 || (leb 2 (length t) && eqb (getD t 0 0) 
     go : (b : Bool) → Most (cond b Bad (digitsOf 0 t))
     go true = tt
     go false = digits-most 0 t (omega arith)
+
+pub signed-most : (t : List ℕ) → Most (signedOf t)
+signed-most [] = tt
+signed-most (x ∷ t) = go (eqb x 45)
+  where
+    negatives : (m : Number) → Most (negativeOf m)
+    negatives (Value n) = low (eqb n 0) (leb n 9223372036854775808) refl
+      where
+        low : (z l : Bool) → eqb n 0 ≡ z → Most (cond z Bad (cond l (Value (18446744073709551616 - n)) Bad))
+        low true l e = tt
+        low false true e = let h = eqb-false n 0 e in omega arith
+        low false false e = tt
+    negatives Bad = tt
+
+    positives : (m : Number) → Most m → Most (positiveOf m)
+    positives (Value n) h = high (ltb n 9223372036854775808)
+      where
+        high : (l : Bool) → Most (cond l (Value n) Bad)
+        high true = h
+        high false = tt
+    positives Bad h = tt
+
+    go : (b : Bool) → Most (cond b (negativeOf (unsignedOf t)) (positiveOf (unsignedOf (x ∷ t))))
+    go true = negatives (unsignedOf t)
+    go false = positives (unsignedOf (x ∷ t)) (unsigned-most (x ∷ t))

@@ -34,7 +34,8 @@ pub fn put_all(out: &mut [u8], at: usize, s: &[u8]) -> usize
     r
 }
 
-fn least(a: usize, b: usize) -> usize
+// The smaller of two numbers.
+pub fn least(a: usize, b: usize) -> usize
     ensures { λ r. ⌜ r ≡ min a b ⌝ }
 {
     if a < b {

@@ -138,39 +138,6 @@ fn write_found<'a>(published: &'a [u8], own: &'a [u8], name: &[u8]) {
     write_line(names::find_line(published, own, name));
 }
 
-// So many bytes of a file stand in the room, or what was wrong has been said.
-enum Loaded {
-    Bytes(usize),
-    Nothing,
-}
-
-fn end_of(fd: i32, path: &[u8], n: usize) -> Loaded {
-    let mut one = [0u8; 1];
-    let got = libc::read(fd, &mut one);
-    if got < 0 {
-        os::fail(path);
-        return Loaded::Nothing;
-    }
-    if 0 < got {
-        io::write_all(2, path);
-        io::write_all(2, b": more than 262144 bytes\n");
-        return Loaded::Nothing;
-    }
-    Loaded::Bytes(n)
-}
-
-fn load(path: &[u8], text: &mut [u8]) -> Loaded {
-    let fd = os::open_read(path);
-    if fd < 0 {
-        os::fail(path);
-        return Loaded::Nothing;
-    }
-    let n = io::read_full(fd, text);
-    let r = end_of(fd, path, n);
-    libc::close(fd);
-    r
-}
-
 // Lists by the two files, of which the second may be missing; a name asks for its line.
 fn judge<'a>(published: &'a [u8], own: &'a [u8], published_name: &[u8], own_name: &[u8]) {
     if os::arg_count() == 4 {
@@ -184,32 +151,28 @@ fn judge<'a>(published: &'a [u8], own: &'a [u8], published_name: &[u8], own_name
 }
 
 fn judge_own(published: &[u8], published_name: &[u8], text: &mut [u8]) {
-    if os::arg_count() < 3 {
-        judge(published, &text[0..0], published_name, b"OWN");
-        return;
-    }
     let mut path = io::buffer();
     let n = os::arg(2, &mut path);
-    match load(&path[..n], text) {
-        Loaded::Bytes(size) => {
+    match list_file::load_argument(2, text) {
+        list_file::Loaded::Bytes(size) => {
             if size <= text.len() {
                 judge(published, &text[0..size], published_name, &path[..n]);
             }
         }
-        Loaded::Nothing => {}
+        list_file::Loaded::Nothing => {}
     }
 }
 
 fn judge_published(text: &mut [u8], own: &mut [u8]) {
     let mut path = io::buffer();
     let n = os::arg(1, &mut path);
-    match load(&path[..n], text) {
-        Loaded::Bytes(size) => {
+    match list_file::load_argument(1, text) {
+        list_file::Loaded::Bytes(size) => {
             if size <= text.len() {
                 judge_own(&text[0..size], &path[..n], own);
             }
         }
-        Loaded::Nothing => {}
+        list_file::Loaded::Nothing => {}
     }
 }
 
@@ -219,7 +182,7 @@ fn main() {
         io::write_all(2, b"usage: gate names PUBLISHED [OWN [NAME]]\n");
         return;
     }
-    let mut text = grant_file::buffer();
-    let mut own = grant_file::buffer();
+    let mut text = list_file::buffer();
+    let mut own = list_file::buffer();
     judge_published(&mut text, &mut own);
 }

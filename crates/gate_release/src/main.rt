@@ -1,6 +1,6 @@
-// `gate release TABLE SUBSCRIBER`: reads a message from standard input and writes whether it may be released to the subscriber
-// under the grant table whose text is in the file TABLE: `yes`, `no` with the number and the line of the first entry that isn't
-// granted, or the message's refusal.
+// `gate release TABLE SUBSCRIBER [PUBLISHED [OWN]]`: reads a message from standard input and writes whether it may be released to the subscriber under the
+// grant table whose text is in the file TABLE and the two lists of names: `yes`, `no` with the number and the line of the first entry that isn't granted, or a
+// refusal.
 
 fn show_no(s: &[u8], k: usize, room: &mut [u8], out: &mut [u8]) {
     let a = buffer::put_all(out, 0, b"no ");
@@ -22,8 +22,16 @@ fn show_no(s: &[u8], k: usize, room: &mut [u8], out: &mut [u8]) {
     }
 }
 
-fn judge(s: &[u8], grants: &[u8], subscriber: u64, room: &mut [u8], out: &mut [u8]) {
-    match release::release_message(s, grants, subscriber) {
+fn judge<'a>(
+    s: &[u8],
+    grants: &[u8],
+    published: &'a [u8],
+    own: &'a [u8],
+    subscriber: u64,
+    room: &mut [u8],
+    out: &mut [u8],
+) {
+    match release::release_message(s, grants, published, own, subscriber) {
         release::Released::Yes => {
             let a = buffer::put_all(out, 0, b"yes\n");
             print::flush(out, a);
@@ -37,12 +45,49 @@ fn judge(s: &[u8], grants: &[u8], subscriber: u64, room: &mut [u8], out: &mut [u
 }
 
 // At most one byte past the limit is read.
-fn judge_input(grants: &[u8], subscriber: u64) {
+fn judge_input<'a>(grants: &[u8], published: &'a [u8], own: &'a [u8], subscriber: u64) {
     let mut input = [0u8; ari::BYTES + 1];
     let n = io::read_full(0, &mut input);
     let mut room = [0u8; listing::ROOM];
     let mut out = io::buffer();
-    judge(&input[..n], grants, subscriber, &mut room, &mut out);
+    judge(
+        &input[..n],
+        grants,
+        published,
+        own,
+        subscriber,
+        &mut room,
+        &mut out,
+    );
+}
+
+// The lists that the third and fourth argument name.
+fn judge_own(grants: &[u8], published: &[u8], subscriber: u64, text: &mut [u8]) {
+    match list_file::load_argument(4, text) {
+        list_file::Loaded::Bytes(size) => {
+            if size <= text.len() {
+                judge_input(grants, published, &text[0..size], subscriber);
+            }
+        }
+        list_file::Loaded::Nothing => {}
+    }
+}
+
+fn judge_published(grants: &[u8], subscriber: u64, text: &mut [u8], own: &mut [u8]) {
+    match list_file::load_argument(3, text) {
+        list_file::Loaded::Bytes(size) => {
+            if size <= text.len() {
+                judge_own(grants, &text[0..size], subscriber, own);
+            }
+        }
+        list_file::Loaded::Nothing => {}
+    }
+}
+
+fn judge_lists(grants: &[u8], subscriber: u64) {
+    let mut text = list_file::buffer();
+    let mut own = list_file::buffer();
+    judge_published(grants, subscriber, &mut text, &mut own);
 }
 
 fn judge_rows(room: &[u8], rows: usize, subscriber: u64) {
@@ -50,7 +95,7 @@ fn judge_rows(room: &[u8], rows: usize, subscriber: u64) {
         return;
     }
     let size = rows * 16;
-    judge_input(&room[0..size], subscriber);
+    judge_lists(&room[0..size], subscriber);
 }
 
 fn judge_file(path: &[u8], subscriber: u64, room: &mut [u8]) {
@@ -99,8 +144,12 @@ fn run() {
 }
 
 fn main() {
-    if os::arg_count() != 3 {
-        io::write_all(2, b"usage: gate release TABLE SUBSCRIBER\n");
+    let count = os::arg_count();
+    if count < 3 || 5 < count {
+        io::write_all(
+            2,
+            b"usage: gate release TABLE SUBSCRIBER [PUBLISHED [OWN]]\n",
+        );
         return;
     }
     run();

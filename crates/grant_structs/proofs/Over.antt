@@ -1,11 +1,12 @@
 -- Steps of a walk over a `&[Grant]`, once for all walks. `R` is the row of Grant, LR that of the limits; a slice's pointer is (b, o) and its list ys.
 --     fine, fine-limits    a row of numbers that fit, and such limits
---     slice ℓ, Own, Shr    the MIR type of a `&ℓ [Grant]`; what one owns; and the fractured borrow in it
+--     slice ℓ, slice-of, Own, Shr    the MIR type of a `&ℓ [Grant]`; a slice's machine value; what one owns; and the fractured borrow in it
 --     own-word, own-int, own-bool, own-grant, own-limits      what a number, a bool, a row or limits own is had for nothing, where its relation holds
 --     opens-rows       at entry: the slice's `own` and the token.        A `&` is Copy: Own is kept whole, for the exit and for a callee, and Shr beside it
 --     copies-rows, copies-bytes     what a slice owns, twice
 --     looks-row, shuts-row     row i is taken out, with its cell at its place, and put back
 --     at-row           what the code's `16 * i` past the pointer is
+--     use5             five items replaced by one that they entail
 --     answered         what a callee that has no lifetime left: its result's machine value is in hand with what its `ensures` says.        answered-κ, answered-κκ     the same of a callee at κ, or at two, whose tokens come back
 -- Assumes `Given`.
 use mathlib.Core.Path.{_≡_, refl, sym}
@@ -24,7 +25,7 @@ use base.Fml.{Lft, Share, Fml, ftrue, flft, fobor, fshr-bor}
 use prog.Wp.{Heap}
 use ghost.Atoms.{Atoms, sem}
 use contract.Monad.{fact}
-use types.Kit.{Given, Item, Goal, Soaks, Seq, Step, step, ‵, raw, _⊛_, some, later, _$_, move, drop, use1, split, pick, fsplit, await}
+use types.Kit.{Given, Item, Goal, Soaks, Seq, Step, step, ‵, raw, _⊛_, ⋆, mean, cut, some, later, _$_, move, drop, use1, split, pick, fsplit, await}
 use types.Share.{arr-parts}
 use denote.RattleType.{RattleType}
 use denote.Laws.{Is, Tells, shows}
@@ -82,12 +83,16 @@ limits-vals = LL.vals L.the-type L′.the-laws
 pub limits-tells : Tells LR (Is LR) limits-vals
 limits-tells = LL.tells L.the-type L′.the-laws
 
+-- a slice's machine value
+abbrev pub slice-of : {X : Type 0} → RefT (List X) → Val
+slice-of a = sliceVal (a .ptr) (length (a .now))
+
 abbrev pub Own : Lft → RefT (List Grant) → Fml
-Own κ a = ShrSlice (named 0) κ R .own a (sliceVal (a .ptr) (length (a .now)) ∷ [])
+Own κ a = ShrSlice (named 0) κ R .own a (slice-of a ∷ [])
 
 -- the same of lent bytes
 abbrev pub Bytes : Lft → RefT (List ℕ) → Fml
-Bytes κ a = ShrSlice (named 0) κ u8 .own a (sliceVal (a .ptr) (length (a .now)) ∷ [])
+Bytes κ a = ShrSlice (named 0) κ u8 .own a (slice-of a ∷ [])
 
 abbrev pub Shr : Lft → List Grant → ℕ → ℕ → Fml
 Shr κ ys b o = fshr-bor κ (λ p. arr-parts (shares R) (length ys) .part p ys b o)
@@ -101,6 +106,10 @@ module _ {M : Type 1} {𝓤 : URA M} {H : Heap 𝓤} {A : Atoms 𝓤} (W : Given
 
   pub limits-typed : (m : Limits) → FineLimits m → Holds (hasTy L′.mir (low-limits m)) × WT (low-limits m)
   limits-typed m f = LL.lawful L.the-type L′.the-laws 𝓤 H A W .typed m _ f .0
+
+module _ {M : Type 1} {𝓤 : URA M} {H : Heap 𝓤} {A : Atoms 𝓤} {K : Type 0} (W : Given 𝓤 H A) {Γ : List (Item 𝓤)} {G : Goal 𝓤 H} where
+  abbrev pub use5 : {h i j k l : Item 𝓤} (x : Item 𝓤) → ent 𝓤 (⋆ 𝓤 H A (h ∷ i ∷ j ∷ k ∷ l ∷ [])) (mean 𝓤 H A x) → Step K W (x ∷ Γ) G (h ∷ i ∷ j ∷ k ∷ l ∷ Γ) G
+  use5 {h} {i} {j} {k} {l} x e = cut (h ∷ i ∷ j ∷ k ∷ l ∷ []) (x ∷ []) Γ e
 
 -- a contract's `ensures`: φ, beside what is said of the parameters at exit
 module _ {M : Type 1} (𝓤 : URA M) (H : Heap 𝓤) (A : Atoms 𝓤) (T : Ended) (x : Bound 𝓤 H A (T .signature)) where

@@ -6,14 +6,12 @@ use mathlib.Core.List.{List, [], _∷_, _++_}
 use native.Mathlib.Omega.{arith}
 use lib.ListN.{length, take, drop, length-append}
 use lib.Seq.{take-at, drop-at, drop-drop}
-use lib.IntN.{ℤ, pos, negsuc}
+use lib.IntN.{ℤ}
 use borrow.Author.Tests.{eq-eqb}
 use Rattle.buffer.specs.Bytes.{be, value}
 use Rattle.buffer.proofs.ByteLaws.{length-be, value-be}
 use Rattle.ari.specs.declared.Limits.{Limits}
-use Rattle.ari.specs.declared.Input.the-variants.{Message}
-use Rattle.ari.specs.Reader.{Answer, accept, refuse, read}
-use Rattle.ari.specs.Listing.{Space, number, listing}
+use Rattle.ari.specs.Listing.{Space, number}
 use Rattle.ari.proofs.Named.{InRange}
 use Rattle.grants.specs.Grants.{Grant, granted, check}
 use Rattle.ari.specs.Signed.{word}
@@ -21,9 +19,9 @@ use Rattle.grants.specs.Bytes.{rowBy, rowOf, rowsOf, rows, ragged, checkBytes}
 use Rattle.grants.specs.Verdict.{checkOf}
 use Rattle.grants.specs.declared.Verdict.{Verdict}
 use Rattle.grants.specs.declared.Verdict.the-variants.{Passes, Refused}
-use Rattle.grants.proofs.Signed.{signed-word}
+use Rattle.ari.proofs.SignedLaws.{signed-word, word-fits}
 use Rattle.release.specs.declared.Released.{Released}
-use Rattle.release.specs.Release.{judge, release, whole, releaseBytes, answerOf}
+use Rattle.release.specs.Release.{releaseRows, releaseBytes, answerOf}
 use Rattle.grant_structs.specs.declared.Grant.{Grant as Row}
 use Rattle.grant_structs.specs.Structs.{grantOf, grants}
 use Rattle.grant_structs.specs.Bytes.{tableBytes}
@@ -32,10 +30,6 @@ use Rattle.grant_structs.specs.Bytes.{tableBytes}
 abbrev pub Fit : List Row → Type 0
 Fit [] = Unit {0}
 Fit (r ∷ rs) = (r .subscriber < 2 ^ 64) × InRange (number (r .namespace)) × Fit rs
-
-pub word-fits : (z : ℤ) → InRange (number z) → word z < 256 ^ 8
-word-fits (pos a) h = omega arith
-word-fits (negsuc a) h = omega arith
 
 long : (t : List Row) → length (tableBytes t) ≡ 16 * length t
 long [] = refl
@@ -92,17 +86,14 @@ module _ (t : List Row) (f : Fit t) where
   unfolding checkBytes
   same-check = rw (not-ragged t, same-rows t f)
 
-  pub same-release : (m : Limits) (b : List ℕ) (s : ℕ) → releaseBytes m b (tableBytes t) s ≡ release m b (grants t) s
-  unfolding releaseBytes release
-  same-release m b s = rw (same-rows t f) (go (read m Message b))
-    where
-      go : (a : Answer) → whole a (tableBytes t) (judge a (granted (grants t) s) (listing b)) ≡ judge a (granted (grants t) s) (listing b)
-      go (refuse r p) = refl
-      go (accept n) = rw (not-ragged t)
+  module _ (m : Limits) (b published own : List ℕ) (s : ℕ) where
+    pub same-release : releaseBytes m b (tableBytes t) published own s ≡ releaseRows m b (grants t) published own s
+    unfolding releaseBytes releaseRows
+    same-release = rw (not-ragged t, same-rows t f)
 
-  -- so what `release::release_within` answers of the bytes is what `release_grants_within` answers of the structs
-  pub same-answer : (m : Limits) (b : List ℕ) (s : ℕ) (r r′ : Released) → answerOf r ≡ releaseBytes m b (tableBytes t) s → answerOf r′ ≡ release m b (grants t) s → answerOf r ≡ answerOf r′
-  same-answer m b s r r′ e e′ = e ∙ same-release m b s ∙ sym e′
+    -- so what `release::release_within` answers of the bytes is what `release_grants_within` answers of the structs
+    pub same-answer : (r r′ : Released) → answerOf r ≡ releaseBytes m b (tableBytes t) published own s → answerOf r′ ≡ releaseRows m b (grants t) published own s → answerOf r ≡ answerOf r′
+    same-answer r r′ e e′ = e ∙ same-release ∙ sym e′
 
   -- and what `check_table` answers of the bytes is what `check_grants` answers of the structs
   pub same-verdict : (r r′ : Verdict) → checkOf r ≡ checkBytes (tableBytes t) → checkOf r′ ≡ check (grants t) → r ≡ r′

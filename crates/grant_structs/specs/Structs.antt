@@ -12,7 +12,7 @@ use Rattle.grants.specs.Grants.{Grant, some, clash, holds, Check, passes, refus
 use Rattle.buffer.specs.Bytes.{loadAt}
 use Rattle.listing.specs.declared.Listed.{Listed}
 use Rattle.listing.specs.declared.Listed.the-variants.{Entries, Refused}
-use Rattle.release.specs.Release.{Release, yes, no, release}
+use Rattle.release.specs.Release.{Release, yes, no, releaseRows}
 use Rattle.grant_structs.specs.declared.Grant.{Grant as Row}
 
 abbrev pub rowBy : ℕ → ℤ → Grant
@@ -78,7 +78,7 @@ abbrev pub answerBy : Listed → Release → Release
 answerBy (Entries k n) x = x
 answerBy (Refused r p) x = Release.refused r p
 
--- The listing's answer and its bytes decide as the message does, whatever the table.
-pub record Decides (m : Limits) (b : List ℕ) (l : Listed) (x : List ℕ) : Type 0 where
+-- The listing's answer and its bytes decide as the message does under two lists, whatever the table.
+pub record Decides (m : Limits) (b published own : List ℕ) (l : Listed) (x : List ℕ) : Type 0 where
   pub most : entriesOf l ≤ length x / 24
-  pub decides : (t : List Grant) (s : ℕ) → answerBy l (judgedFrom (grantedAt t s x) 0 (entriesOf l)) ≡ release m b t s
+  pub decides : (t : List Grant) (s : ℕ) → answerBy l (judgedFrom (grantedAt t s x) 0 (entriesOf l)) ≡ releaseRows m b t published own s

@@ -8,11 +8,12 @@ ghost use Rattle.ari.specs.Listing.{number};
 ghost use Rattle.ari.specs.Signed.{signed};
 ghost use Rattle.grants.specs.Grants.{some, clash, holds, granted, check};
 ghost use Rattle.grants.specs.Verdict.{checkOf};
-ghost use Rattle.release.specs.Release.{release, answerOf};
+ghost use Rattle.release.specs.Release.{releaseRows, answerOf};
 ghost use Rattle.grant_structs.specs.Structs.{rowBy, grantOf, grants, meetsBy, foundAt, wantedAt, rowsFor, grantedAt, judgedFrom, heldAt, entriesOf, answerBy, Decides};
 use ari::Limits;
 use grants::Verdict;
 use listing::Listed;
+use names::Names;
 use release::Released;
 
 // A grant: a subscriber and a namespace number.
@@ -129,7 +130,7 @@ const ROOM: usize = ENTRY * (ari::ITEMS / 2);
 // The kind of an entry whose namespace is a number.
 const NUMBER: u64 = 0;
 
-// The row that grants entry i of a list to the subscriber who asks, if its namespace is a number.
+// The row that grants entry i of a listing to the subscriber who asks, if its namespace is a number.
 fn wanted(list: &[u8], i: usize, asker: u64) -> Grant
     requires { ⌜ i < length (now list) / 24 ⌝ }
     ensures { λ r. ⌜ r ≡ wantedAt (now (list .entry)) i asker ⌝ }
@@ -141,7 +142,7 @@ fn wanted(list: &[u8], i: usize, asker: u64) -> Grant
     }
 }
 
-// How many of n rows are looked through for entry i: a name or a relative reference is granted by none.
+// How many of n rows are looked through for entry i: a name without a line or a relative reference is granted by none.
 fn rows_for(list: &[u8], i: usize, n: usize) -> usize
     requires { ⌜ i < length (now list) / 24 ⌝ }
     ensures { λ r. ⌜ r ≡ rowsFor (now (list .entry)) i n ⌝ }
@@ -184,15 +185,34 @@ fn release_entries(list: &[u8], n: usize, t: &[Grant], subscriber: u64) -> Relea
     judged(i, n)
 }
 
-// A message's listing in lent room, and what is known of it: it decides as the message does.
-fn listed_in(limits: Limits, message: &[u8], room: &mut [u8]) -> Listed
+// A message's listing in lent room, a name that has a line by its number, so that it decides as the message does under the two lists. The message's refusal
+// comes before theirs.
+fn listed_in<'a>(
+    limits: Limits,
+    message: &'a [u8],
+    published: &'a [u8],
+    own: &'a [u8],
+    room: &mut [u8],
+) -> Listed
     requires { ⌜ 24 * 512 ≤ length (now room) ⌝ }
-    ensures { λ r. ⌜ Decides (capped limits) (now (message .entry)) r (now (room .exit)) ⌝ }
+    ensures { λ r. ⌜ Decides (capped limits) (now (message .entry)) (now (published .entry)) (now (own .entry)) r (now (room .exit)) ⌝ }
 {
-    listing::list_within(limits, message, room)
+    match listing::list_within(limits, message, room) {
+        Listed::Refused { number, place } => Listed::Refused { number, place },
+        Listed::Entries { listed, count } => match names::check_names(published, own) {
+            Names::Refused { place } => Listed::Refused {
+                number: 19,
+                place: place as usize,
+            },
+            Names::Passes => {
+                names::translate_entries(published, own, message, room, listed);
+                Listed::Entries { listed, count }
+            }
+        },
+    }
 }
 
-// How many entries a listing has: of a refused message none.
+// How many entries a listing has: a refusal has none.
 fn entries_of(listed: Listed) -> usize
     ensures { λ r. ⌜ r ≡ entriesOf listed ⌝ }
 {
@@ -205,7 +225,7 @@ fn entries_of(listed: Listed) -> usize
     }
 }
 
-// The message's refusal, or what its entries gave.
+// The refusal of the message or of a list, or what the entries gave.
 fn answered(listed: Listed, given: Released) -> Released
     ensures { λ r. ⌜ answerOf r ≡ answerBy listed (answerOf given) ⌝ }
 {
@@ -218,26 +238,35 @@ fn answered(listed: Listed, given: Released) -> Released
     }
 }
 
-// Whether a message within these limits, none above the gate's own, is released to a subscriber.
-pub fn release_grants_within(
+// Whether a message within these limits, none above the gate's own, is released to a subscriber under two lists of names. Message and lists share a lifetime:
+// the walk then has two, theirs and the table's.
+pub fn release_grants_within<'a>(
     limits: Limits,
-    message: &[u8],
+    message: &'a [u8],
     t: &[Grant],
+    published: &'a [u8],
+    own: &'a [u8],
     subscriber: u64,
 ) -> Released
-    ensures { λ r. ⌜ answerOf r ≡ release (capped limits) (now (message .entry)) (grants (now (t .entry))) subscriber ⌝ }
+    ensures { λ r. ⌜ answerOf r ≡ releaseRows (capped limits) (now (message .entry)) (grants (now (t .entry))) (now (published .entry)) (now (own .entry)) subscriber ⌝ }
 {
     let mut room = [0u8; ROOM];
-    let listed = listed_in(limits, message, &mut room);
+    let listed = listed_in(limits, message, published, own, &mut room);
     let given = release_entries(&room, entries_of(listed), t, subscriber);
     answered(listed, given)
 }
 
 // Whether a message is released to a subscriber.
-pub fn release_grants(message: &[u8], t: &[Grant], subscriber: u64) -> Released
-    ensures { λ r. ⌜ answerOf r ≡ release firstLimits (now (message .entry)) (grants (now (t .entry))) subscriber ⌝ }
+pub fn release_grants<'a>(
+    message: &'a [u8],
+    t: &[Grant],
+    published: &'a [u8],
+    own: &'a [u8],
+    subscriber: u64,
+) -> Released
+    ensures { λ r. ⌜ answerOf r ≡ releaseRows firstLimits (now (message .entry)) (grants (now (t .entry))) (now (published .entry)) (now (own .entry)) subscriber ⌝ }
 {
-    release_grants_within(ari::LIMITS, message, t, subscriber)
+    release_grants_within(ari::LIMITS, message, t, published, own, subscriber)
 }
 
 // What a table answers to the three questions.
@@ -248,13 +277,20 @@ pub struct Answers {
 }
 
 // The three of a table of four rows by value, for a caller that is covered, as a program's main: the array is lent. A shorter table repeats a row.
-pub fn ask_four(message: &[u8], t: [Grant; 4], subscriber: u64, namespace: i64) -> Answers
-    ensures { λ r. ⌜ (checkOf (r .check) ≡ check (grants t)) × (r .granted ≡ granted (grants t) subscriber (number namespace)) × (answerOf (r .release) ≡ release firstLimits (now (message .entry)) (grants t) subscriber) ⌝ }
+pub fn ask_four<'a>(
+    message: &'a [u8],
+    t: [Grant; 4],
+    published: &'a [u8],
+    own: &'a [u8],
+    subscriber: u64,
+    namespace: i64,
+) -> Answers
+    ensures { λ r. ⌜ (checkOf (r .check) ≡ check (grants t)) × (r .granted ≡ granted (grants t) subscriber (number namespace)) × (answerOf (r .release) ≡ releaseRows firstLimits (now (message .entry)) (grants t) (now (published .entry)) (now (own .entry)) subscriber) ⌝ }
 {
     let rows: &[Grant] = &t;
     Answers {
         check: check_grants(rows),
         granted: granted(rows, subscriber, namespace),
-        release: release_grants(message, rows, subscriber),
+        release: release_grants(message, rows, published, own, subscriber),
     }
 }

@@ -1,4 +1,4 @@
--- Two's complement in 64 bits: words and numbers.
+-- Words and the numbers that they are, compared.
 use Prim.Native.Nat.{ℕ, _-_, _^_, _<_, _≤_}
 use mathlib.Core.Path.{_≡_, refl, sym, ap}
 use mathlib.Core.Bool.{Bool, true, false, cond}
@@ -7,23 +7,8 @@ use lib.IntN.{ℤ, pos, negsuc}
 use lib.Dec.{leb, eqb}
 use borrow.Author.Tests.{eqb-true, eqb-false, eq-eqb, ne-eqb, leb-true, leb-false, le-leb, lt-leb}
 use Rattle.ari.specs.Table.{max63, max64}
-use Rattle.ari.specs.Listing.{number}
-use Rattle.ari.proofs.Named.{InRange}
 use Rattle.grants.specs.Grants.{same, below0}
-use Rattle.ari.specs.Signed.{word, signed}
-
-pub signed-word : (z : ℤ) → InRange (number z) → signed (word z) ≡ z
-unfolding signed
-signed-word (pos a) h = rw (le-leb a max63 h)
-signed-word (negsuc a) h = let e : max64 - (max64 - a) ≡ a = omega arith in rw (lt-leb (max64 - a) max63 (omega arith), e)
-
-pub word-signed : (n : ℕ) → n < 2 ^ 64 → word (signed n) ≡ n
-unfolding signed
-word-signed n h = go (leb n max63)
-  where
-    go : (t : Bool) → word (cond t (pos n) (negsuc (max64 - n))) ≡ n
-    go true = refl
-    go false = omega arith
+use Rattle.ari.specs.Signed.{signed}
 
 -- words are equal as their numbers are
 pub same-words : (a b : ℕ) → a < 2 ^ 64 → b < 2 ^ 64 → same (signed a) (signed b) ≡ eqb a b

@@ -3,3 +3,4 @@ pub mod Stored
 pub mod Table
 pub mod Written
 pub mod Outcome
+pub mod EntryBytes

@@ -83,9 +83,10 @@ member-name b p (item l s ms rs) r e n = go (eqb (l .kind) unsigned) (eqb (l .ki
     go false true v q = tt
     go false false false q = tt
     go false false true q =
-        let a : drop (p + size l) b ≡ s ++ rest = sym (drop-drop (size l) p b) ∙ rw whole (drop-at (leadBytes l) (s ++ rest) (size l) (length-lead l)) in
-        (omega (arith, length-drop p b, ap length whole, length-append (leadBytes l) (s ++ rest), length-lead l),
-          rw (head-is b p l (s ++ rest) whole (n .head), a) (take-at s rest (l .arg) (sym (long q))))
+        let a : drop (p + size l) b ≡ s ++ rest = sym (drop-drop (size l) p b) ∙ rw whole (drop-at (leadBytes l) (s ++ rest) (size l) (length-lead l)) in (
+          omega (arith, length-drop p b, ap length whole, length-append (leadBytes l) (s ++ rest), length-lead l),
+          rw (head-is b p l (s ++ rest) whole (n .head), a) (take-at s rest (l .arg) (sym (long q))),
+        )
 
 -- each listed name is the string at its place
 pub names-stand : {m : Limits} {b : List ℕ} {g : Items} {n : ℕ} → Is m Message b g n → (e : Entry) → List·Memᴰ e (listing b) → NameStands b (e .space)
@@ -96,7 +97,7 @@ names-stand {b = b} c e k =
     let tail : List ℕ = drop (entryFor r .after - p) (drop p b) in
     let front : List ℕ = leadBytes l ++ r .str in
     let whole : drop p b ≡ front ++ (encode (r .inside) ++ tail) =
-        sym (take-append-drop (entryFor r .after - p) (drop p b)) ∙ rw (own-bytes c r at, append-nil) (simp append-assoc) in
+    sym (take-append-drop (entryFor r .after - p) (drop p b)) ∙ rw (own-bytes c r at, append-nil) (simp append-assoc) in
     let long : length front ≡ size l + length (r .str) = simp length-append (omega (arith, length-lead l)) in
     rw (← is)
     (member-name b (insideAt p l (r .str)) (r .inside) tail

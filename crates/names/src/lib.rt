@@ -1,10 +1,12 @@
 // Names beside numbers: two lists of lines, each a namespace name, "=" and a number. A name without "!" is looked for in the published list, one with "!" in
 // the subscriber's own.
 ghost use mathlib.Core.Path.{_≡_};
-ghost use Prim.Native.Nat.{_+_, _≤_, _<_, min};
+ghost use Prim.Native.Nat.{_+_, _/_, _≤_, _<_, min};
 ghost use lib.ListN.{length};
 ghost use Rattle.buffer.specs.Runs.{RunTo};
+ghost use Rattle.names.specs.Translated.{standsBy, numberedCode, renumbered, entryTranslated, entriesTranslated};
 ghost use Rattle.names.specs.Names.{otherThan, lines, isNumber, formed, matches, found, isOwn, findLine, numberOf, numberFor, badFrom, wrongOf, checkNames};
+use listing::Namespace;
 
 // Whether two lists have well-formed lines only: 19 has the first byte of the first that is not.
 pub enum Names {
@@ -169,5 +171,79 @@ pub fn check_names(published: &[u8], own: &[u8]) -> Names
             },
             Wrong::Nowhere => Names::Passes,
         },
+    }
+}
+
+// What a namespace that is listed of a message stands for: a number for itself, a name for the number of its line, or for no number.
+pub fn stands_for<'a>(
+    published: &'a [u8],
+    own: &'a [u8],
+    message: &[u8],
+    namespace: Namespace,
+) -> Namespace
+    ensures { λ r. ⌜ r ≡ standsBy (now (published .entry)) (now (own .entry)) (now (message .entry)) namespace ⌝ }
+{
+    match namespace {
+        Namespace::Number(word) => Namespace::Number(word),
+        Namespace::Name { place, length } => {
+            match number_for(published, own, listing::string_at(message, place)) {
+                buffer::Number::Value(word) => Namespace::Number(word),
+                buffer::Number::Bad => Namespace::Name { place, length },
+            }
+        }
+        Namespace::Relative => Namespace::Relative,
+    }
+}
+
+// Each entry of a listing is 24 bytes (R94): kind and word of its namespace behind its two ends.
+const ENTRY: usize = 24;
+
+// The kind of an entry whose namespace is a name, and of one whose namespace is a number.
+const NAME: u64 = 1;
+
+const NUMBER: u64 = 0;
+
+fn renumber(number: buffer::Number, room: &mut [u8], at: usize)
+    requires { ⌜ at + 24 ≤ length (now room) ⌝ }
+    ensures { λ _. ⌜ now (room .exit) ≡ renumbered number (now (room .entry)) at ⌝ }
+{
+    if let buffer::Number::Value(word) = number {
+        buffer::store8(room, at + 8, NUMBER);
+        buffer::store8(room, at + 16, word);
+    }
+}
+
+fn translate_entry<'a>(
+    published: &'a [u8],
+    own: &'a [u8],
+    message: &[u8],
+    room: &mut [u8],
+    at: usize,
+)
+    requires { ⌜ at + 24 ≤ length (now room) ⌝ }
+    ensures { λ _. ⌜ now (room .exit) ≡ entryTranslated (now (published .entry)) (now (own .entry)) (now (message .entry)) (now (room .entry)) at ⌝ }
+{
+    if buffer::load8(room, at + 8) == NAME {
+        let place = buffer::load8(room, at + 16) as usize;
+        let number = number_for(published, own, listing::string_at(message, place));
+        renumber(number, room, at);
+    }
+}
+
+// The first entries of a message's listing as bytes, each with what its namespace stands for in its place: so many, or as many as are there.
+pub fn translate_entries<'a>(
+    published: &'a [u8],
+    own: &'a [u8],
+    message: &[u8],
+    room: &mut [u8],
+    many: usize,
+)
+    ensures { λ _. ⌜ now (room .exit) ≡ entriesTranslated (now (published .entry)) (now (own .entry)) (now (message .entry)) 0 (min many (length (now (room .entry)) / 24)) (now (room .entry)) ⌝ }
+{
+    let n = buffer::least(many, room.len() / ENTRY);
+    let mut i = 0;
+    while i < n {
+        translate_entry(published, own, message, room, ENTRY * i);
+        i += 1;
     }
 }

@@ -405,15 +405,6 @@ fn slot_known(slot: u64) -> u64
     grammar::VERSION
 }
 
-fn least(a: usize, b: usize) -> usize
-    ensures { λ r. ⌜ r ≡ min a b ⌝ }
-{
-    if a < b {
-        return a;
-    }
-    b
-}
-
 // One head, with no key before it.
 fn first_head(s: &[u8], at: usize, slot: u64, count: usize, items: usize, depth: usize) -> Walk
     ensures { λ r. ⌜ r ≡ headWalk (min count items) (stepAt (now (s .entry)) at (slotOf slot) [] (items - count) depth) ⌝ }
@@ -425,7 +416,7 @@ fn first_head(s: &[u8], at: usize, slot: u64, count: usize, items: usize, depth:
         };
     }
     let known = slot_known(slot);
-    let c = least(count, items);
+    let c = buffer::least(count, items);
     let mut none = [0u64; 1];
     walk_level(s, at, c, items, depth, 0, known, 0, true, &mut none[0..0])
 }

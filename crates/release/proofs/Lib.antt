@@ -2,4 +2,3 @@ pub mod Judged
 pub mod Clause
 pub mod ReleaseDemand
 pub mod Search
-pub mod NamedClause

@@ -1,4 +1,4 @@
--- Release: R86 to R91, R96, R97. Interface: all of it.
+-- Release: R86 to R91, R96, R97, over the numbers that names stand for (R146 to R149). Interface: all of it.
 use Prim.Native.Nat.{ℕ, suc, _/_}
 use mathlib.Core.Bool.{Bool, cond}
 use mathlib.Core.List.{List, [], _∷_}
@@ -6,7 +6,11 @@ use lib.ListN.{length}
 use Rattle.ari.specs.declared.Limits.{Limits}
 use Rattle.ari.specs.declared.Input.the-variants.{Message}
 use Rattle.ari.specs.Reader.{Answer, refuse, accept, read}
-use Rattle.ari.specs.Listing.{Space, Entry, listing}
+use Rattle.ari.specs.Listing.{Space, Entry}
+use Rattle.names.specs.declared.Names.{Names}
+use Rattle.names.specs.declared.Names.the-variants as lists
+use Rattle.names.specs.Names.{checkNames}
+use Rattle.names.specs.Translated.{translated}
 use Rattle.grants.specs.Grants.{Grant, granted}
 use Rattle.grants.specs.Bytes.{rows, ragged}
 use Rattle.release.specs.declared.Released.{Released}
@@ -26,17 +30,26 @@ abbrev pub judge : Answer → (Space → Bool) → List Entry → Release
 judge (refuse r p) ok es = refused r p
 judge (accept n) ok es = judgeFrom ok 0 es
 
--- R86; it doesn't run the table's check (R91)
-unfoldable pub release : Limits → List ℕ → List Grant → ℕ → Release
-release m b t s = judge (read m Message b) (granted t s) (listing b)
+-- R86, R147: the message's listing is judged, with what its namespaces stand for; the table's check isn't run (R91)
+unfoldable pub release : Limits → List ℕ → List Grant → List ℕ → List ℕ → ℕ → Release
+release m b t published own s = judge (read m Message b) (granted t s) (translated published own b)
 
--- R96, R97: release by a table as bytes; no whole rows are 18, after the message's own refusal
-abbrev pub whole : Answer → List ℕ → Release → Release
-whole (refuse r p) t x = refused r p
-whole (accept n) t x = cond (ragged t) (refused 18 (length t / 16)) x
+-- R148: the message's refusal, then 19, then what is behind them
+abbrev pub withLists : Names → Release → Release
+withLists lists.Passes x = x
+withLists (lists.Refused p) x = refused 19 p
 
-unfoldable pub releaseBytes : Limits → List ℕ → List ℕ → ℕ → Release
-releaseBytes m b t s = whole (read m Message b) t (release m b (rows t) s)
+abbrev pub afterLists : Answer → Names → Release → Release
+afterLists (refuse r p) c x = refused r p
+afterLists (accept n) c x = withLists c x
+
+unfoldable pub releaseRows : Limits → List ℕ → List Grant → List ℕ → List ℕ → ℕ → Release
+releaseRows m b t published own s = afterLists (read m Message b) (checkNames published own) (release m b t published own s)
+
+-- R96, R97: release by a table as bytes; no whole rows are 18, after 19
+unfoldable pub releaseBytes : Limits → List ℕ → List ℕ → List ℕ → List ℕ → ℕ → Release
+releaseBytes m b t published own s =
+    afterLists (read m Message b) (checkNames published own) (cond (ragged t) (refused 18 (length t / 16)) (release m b (rows t) published own s))
 
 -- the code's answer in these terms
 abbrev pub answerOf : Released → Release

@@ -1,11 +1,11 @@
-// Release: whether a message may be handed on for a subscriber, by the grants that a table of bytes has for it.
+// Release: whether a message may be handed on for a subscriber, by the grants that a table of bytes has for it and the numbers that two lists have for names.
 ghost use mathlib.Core.Path.{_≡_};
 ghost use Prim.Native.Nat.{_<_, _≤_, min};
 ghost use lib.ListN.{length};
 ghost use Rattle.ari.specs.declared.Input.the-variants as input;
 ghost use Rattle.ari.specs.Limits.{firstLimits, capped};
-ghost use Rattle.ari.specs.Listing.{listing};
 ghost use Rattle.item_table.specs.Entries.{Tabled};
+ghost use Rattle.names.specs.Translated.{standsBy, translated};
 ghost use Rattle.grants.specs.Grants.{granted};
 ghost use Rattle.grants.specs.Bytes.{rows};
 ghost use Rattle.release.specs.Release.{judgeFrom, releaseBytes, answerOf};
@@ -14,22 +14,24 @@ use ari::Input;
 use ari::Limits;
 use listing::Namespace;
 use listing::Reference;
+use names::Names;
 use reader::Answer;
 
-// Yes; no with the number of the first listed entry that is not granted; the message's own refusal, or 18 with the number of whole rows.
+// Yes; no with the number of the first listed entry that is not granted; the message's own refusal, 19 with the place of a line, or 18 with the number of whole
+// rows.
 pub enum Released {
     Yes,
     No { entry: usize },
     Refused { number: u8, place: usize },
 }
 
-// What a row must hold to grant a namespace: a number. A name or a relative one no row grants.
+// What a row must hold to grant what a namespace stands for: a number. A name that has none or a relative one no row grants.
 struct RowSought {
     number: bool,
     word: u64,
 }
 
-fn sought(n: Namespace) -> RowSought
+fn row_for(n: Namespace) -> RowSought
     ensures { λ r. ⌜ r ≡ soughtBy n ⌝ }
 {
     match n {
@@ -48,17 +50,25 @@ fn sought(n: Namespace) -> RowSought
     }
 }
 
-// Entries by rows. The search is left at the first entry that no row grants: a number to the subscriber, a name or a relative one to nobody.
-fn release_table(
+fn sought<'a>(published: &'a [u8], own: &'a [u8], s: &[u8], n: Namespace) -> RowSought
+    ensures { λ r. ⌜ r ≡ soughtBy (standsBy (now (published .entry)) (now (own .entry)) (now (s .entry)) n) ⌝ }
+{
+    row_for(names::stands_for(published, own, s, n))
+}
+
+// Entries by rows. The search is left at the first entry that no row grants: a number to the subscriber, an unknown name or a relative one to nobody.
+fn release_table<'a>(
     s: &[u8],
     limits: Limits,
     count: usize,
     entries: &[u64],
     grants: &[u8],
+    published: &'a [u8],
+    own: &'a [u8],
     subscriber: u64,
 ) -> Released
     requires { ⌜ Tabled limits input.Message (now s) count (now entries) ⌝ }
-    ensures { λ r. ⌜ answerOf r ≡ judgeFrom (granted (rows (now (grants .entry))) subscriber) 0 (listing (now (s .entry))) ⌝ }
+    ensures { λ r. ⌜ answerOf r ≡ judgeFrom (granted (rows (now (grants .entry))) subscriber) 0 (translated (now (published .entry)) (now (own .entry)) (now (s .entry))) ⌝ }
 {
     let mut entry = 0;
     let mut k = 0;
@@ -71,7 +81,7 @@ fn release_table(
                 after: _,
                 namespace,
             } => {
-                let n = sought(namespace);
+                let n = sought(published, own, s, namespace);
                 if !n.number {
                     break 'entries;
                 }
@@ -97,54 +107,91 @@ fn release_table(
     Released::Yes
 }
 
-fn release_in(
+fn release_in<'a>(
     s: &[u8],
     limits: Limits,
     grants: &[u8],
+    published: &'a [u8],
+    own: &'a [u8],
     subscriber: u64,
     entries: &mut [u64],
 ) -> Released
     requires { ⌜ (min (limits .items) (length (now s)) ≤ length (now entries)) × (limits .bytes < 65536) × (limits .containers < 256) ⌝ }
-    ensures { λ r. ⌜ answerOf r ≡ releaseBytes limits (now (s .entry)) (now (grants .entry)) subscriber ⌝ }
+    ensures { λ r. ⌜ answerOf r ≡ releaseBytes limits (now (s .entry)) (now (grants .entry)) (now (published .entry)) (now (own .entry)) subscriber ⌝ }
 {
     match reader::keep(Input::Message, limits, s, entries) {
         Answer::Refused { number, place } => Released::Refused { number, place },
-        Answer::Accepted(count) => {
-            if grants.len() % 16 != 0 {
-                return Released::Refused {
-                    number: 18,
-                    place: grants.len() / 16,
-                };
+        Answer::Accepted(count) => match names::check_names(published, own) {
+            Names::Refused { place } => Released::Refused {
+                number: 19,
+                place: place as usize,
+            },
+            Names::Passes => {
+                if grants.len() % 16 != 0 {
+                    return Released::Refused {
+                        number: 18,
+                        place: grants.len() / 16,
+                    };
+                }
+                release_table(
+                    s,
+                    limits,
+                    count,
+                    entries,
+                    grants,
+                    published,
+                    own,
+                    subscriber,
+                )
             }
-            release_table(s, limits, count, entries, grants, subscriber)
-        }
+        },
     }
 }
 
 // A message has no more items than bytes: a table of 128 serves a small one, and is cleared in a fraction of the time.
-fn release_small(s: &[u8], limits: Limits, grants: &[u8], subscriber: u64) -> Released
+fn release_small<'a>(
+    s: &[u8],
+    limits: Limits,
+    grants: &[u8],
+    published: &'a [u8],
+    own: &'a [u8],
+    subscriber: u64,
+) -> Released
     requires { ⌜ (length (now s) ≤ 128) × (limits .bytes < 65536) × (limits .containers < 256) ⌝ }
-    ensures { λ r. ⌜ answerOf r ≡ releaseBytes limits (now (s .entry)) (now (grants .entry)) subscriber ⌝ }
+    ensures { λ r. ⌜ answerOf r ≡ releaseBytes limits (now (s .entry)) (now (grants .entry)) (now (published .entry)) (now (own .entry)) subscriber ⌝ }
 {
     let mut entries = [0u64; 128];
-    release_in(s, limits, grants, subscriber, &mut entries)
+    release_in(s, limits, grants, published, own, subscriber, &mut entries)
 }
 
-// Whether a message within these limits, none above the gate's own, is released to a subscriber under a grant table as bytes.
-pub fn release_within(limits: Limits, s: &[u8], grants: &[u8], subscriber: u64) -> Released
-    ensures { λ r. ⌜ answerOf r ≡ releaseBytes (capped limits) (now (s .entry)) (now (grants .entry)) subscriber ⌝ }
+// Whether a message within these limits, none above the gate's own, is released to a subscriber under a grant table as bytes and two lists of names.
+pub fn release_within<'a>(
+    limits: Limits,
+    s: &[u8],
+    grants: &[u8],
+    published: &'a [u8],
+    own: &'a [u8],
+    subscriber: u64,
+) -> Released
+    ensures { λ r. ⌜ answerOf r ≡ releaseBytes (capped limits) (now (s .entry)) (now (grants .entry)) (now (published .entry)) (now (own .entry)) subscriber ⌝ }
 {
     let most = ari::cap(limits);
     if s.len() <= 128 {
-        return release_small(s, most, grants, subscriber);
+        return release_small(s, most, grants, published, own, subscriber);
     }
     let mut entries = [0u64; ari::ITEMS];
-    release_in(s, most, grants, subscriber, &mut entries)
+    release_in(s, most, grants, published, own, subscriber, &mut entries)
 }
 
 // Whether a message is released to a subscriber.
-pub fn release_message(s: &[u8], grants: &[u8], subscriber: u64) -> Released
-    ensures { λ r. ⌜ answerOf r ≡ releaseBytes firstLimits (now (s .entry)) (now (grants .entry)) subscriber ⌝ }
+pub fn release_message<'a>(
+    s: &[u8],
+    grants: &[u8],
+    published: &'a [u8],
+    own: &'a [u8],
+    subscriber: u64,
+) -> Released
+    ensures { λ r. ⌜ answerOf r ≡ releaseBytes firstLimits (now (s .entry)) (now (grants .entry)) (now (published .entry)) (now (own .entry)) subscriber ⌝ }
 {
-    release_within(ari::LIMITS, s, grants, subscriber)
+    release_within(ari::LIMITS, s, grants, published, own, subscriber)
 }

@@ -179,22 +179,13 @@ fn enter(
     }
 }
 
-fn least(a: u64, b: usize) -> usize
-    ensures { λ r. ⌜ r ≡ min a b ⌝ }
-{
-    if a < b as u64 {
-        return a as usize;
-    }
-    b
-}
-
 // The length below which the string of the head at a place is not all there. One that no message has room for ends past the limit.
 fn string_until(s: &[u8], at: usize, most: usize) -> usize
     requires { ⌜ (length (now s) < 65536) × (most < 65536) ⌝ }
     ensures { λ r. ⌜ r ≡ stringUntil (headAt (now (s .entry)) at) most (length (now (s .entry))) ⌝ }
 {
     match cbor::head_again(s, at) {
-        cbor::Head::Good { kind: _, arg, next } => next + least(arg, most),
+        cbor::Head::Good { kind: _, arg, next } => next + buffer::least(arg as usize, most),
         cbor::Head::Bad(_) => s.len() + 1,
     }
 }
@@ -543,7 +534,7 @@ fn answer(limits: Limits, state: &[u64], message: &[u8], out: &mut [u8]) -> List
             place: state[PLACE] as usize,
         };
     }
-    let n = least(state[RECEIVED], message.len());
+    let n = buffer::least(state[RECEIVED] as usize, message.len());
     listing::list_within(limits, &message[0..n], out)
 }
 

@@ -22,27 +22,18 @@ use release::Released;
 use stream::Fed;
 use text_write::Written;
 
-fn least(a: u64, b: u64) -> u64
-    ensures { λ r. ⌜ r ≡ min a b ⌝ }
-{
-    if a < b {
-        return a;
-    }
-    b
-}
-
 // The top byte is the refusal's number, the low 56 bits its place.
 fn refusal_code(number: u8, low: u64) -> u64
     ensures { λ r. ⌜ r ≡ refusalCode number low ⌝ }
 {
-    number as u64 * 72057594037927936 + least(low, 72057594037927935)
+    number as u64 * 72057594037927936 + buffer::least(low as usize, 72057594037927935) as u64
 }
 
 // An acceptance: the item count in bits 32 to 55, a length or a number of entries below.
 fn count_code(count: usize, low: usize) -> u64
     ensures { λ r. ⌜ r ≡ countCode count low ⌝ }
 {
-    least(count as u64, 16777215) * 4294967296 + least(low as u64, 4294967295)
+    buffer::least(count, 16777215) as u64 * 4294967296 + buffer::least(low, 4294967295) as u64
 }
 
 fn check_code(a: Answer) -> u64
@@ -162,10 +153,16 @@ fn release_code(a: Released) -> u64
 }
 
 #[no_mangle]
-pub extern "C" fn surfbodkin_release(message: &[u8], table: &[u8], subscriber: u64) -> u64
-    ensures { λ r. ⌜ r ≡ releaseCode (releaseBytes firstLimits (now (message .entry)) (now (table .entry)) subscriber) ⌝ }
+pub extern "C" fn surfbodkin_release<'a>(
+    message: &[u8],
+    table: &[u8],
+    published: &'a [u8],
+    own: &'a [u8],
+    subscriber: u64,
+) -> u64
+    ensures { λ r. ⌜ r ≡ releaseCode (releaseBytes firstLimits (now (message .entry)) (now (table .entry)) (now (published .entry)) (now (own .entry)) subscriber) ⌝ }
 {
-    release_code(release::release_message(message, table, subscriber))
+    release_code(release::release_message(message, table, published, own, subscriber))
 }
 
 fn text_code(a: Written) -> u64

@@ -364,21 +364,12 @@ fn write_small(limits: Limits, s: &[u8], out: &mut [u8]) -> Written
     write_in(limits, s, &mut scratch, out)
 }
 
-fn least(a: usize, b: usize) -> usize
-    ensures { λ r. ⌜ r ≡ min a b ⌝ }
-{
-    if a < b {
-        return a;
-    }
-    b
-}
-
 // The most bytes that the text of an ARI of this size has.
 fn longest(limits: Limits, size: usize) -> usize
     requires { ⌜ (limits .bytes ≤ firstLimits .bytes) × (limits .items ≤ firstLimits .items) ⌝ }
     ensures { λ r. ⌜ r ≡ longest limits size ⌝ }
 {
-    4 + 3 * least(size, limits.bytes) + 16 * least(size, limits.items)
+    4 + 3 * buffer::least(size, limits.bytes) + 16 * buffer::least(size, limits.items)
 }
 
 // The text of a single ARI in binary form, within these limits, none above the gate's own, is written into lent room: at once, if the room holds any

@@ -9,17 +9,17 @@ use Rattle.release.proofs.release_table.Statement.{statement}
 use Rattle.release.proofs.release_table.Tie as tie
 
 abbrev Inv-rows : tie.InvT-rows
-Inv-rows s count entries grants subscriber entry k word at₀ at =
-    (k < count) × (entry ≤ k) × (at ≤ length grants) × Searched s grants subscriber entry k word at
+Inv-rows s count entries grants published own subscriber entry k word at₀ at =
+    (k < count) × (entry ≤ k) × (at ≤ length grants) × Searched s grants published own subscriber entry k word at
 
 abbrev μ-rows : tie.MeasureT-rows
-μ-rows s count entries grants subscriber entry k word at₀ at = length grants - at
+μ-rows s count entries grants published own subscriber entry k word at₀ at = length grants - at
 
 abbrev Inv-entries : tie.InvT-entries
-Inv-entries s count entries grants subscriber entry₀ k₀ entry k = (k ≤ count) × (entry ≤ k) × Passed s grants subscriber entry k
+Inv-entries s count entries grants published own subscriber entry₀ k₀ entry k = (k ≤ count) × (entry ≤ k) × Passed s grants published own subscriber entry k
 
 abbrev μ-entries : tie.MeasureT-entries
-μ-entries s count entries grants subscriber entry₀ k₀ entry k = count - k
+μ-entries s count entries grants published own subscriber entry₀ k₀ entry k = count - k
 
 entries-again-2 : tie.Need-entries-again-2 Inv-rows μ-rows Inv-entries μ-entries
 entries-again-2 c = (
@@ -57,7 +57,7 @@ release-table-spec =
     (λ c. search (searches, needs))
     (λ c. search (searches, needs))
     (λ c κs. search (searches, needs))
-    (λ c. search (searches, needs))
+    (λ c. search (c .before .before .before .before .before .before .before .before .before .before .before .before .before .before .before .before .before .before .before .good, needs))
     (λ c. search (searches, needs))
     (λ c. search (searches, needs))
     (λ c. search (searches, needs))
