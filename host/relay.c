@@ -1,16 +1,18 @@
 /* The relay's host program, as an example: may this message go to this subscriber?
 
-     relay TABLE SUBSCRIBER [MESSAGE]
+     relay TABLE SUBSCRIBER [MESSAGE [PUBLISHED [OWN]]]
 
    TABLE is a file of grant rows, 16 bytes each: subscriber and namespace, both
    big-endian, 8 bytes. SUBSCRIBER is a number. MESSAGE is a file, a link's device or
-   a pipe with one message; standard input if it is missing or `-`. The message is
-   taken in the pieces that come, and refused as soon as nothing can mend it, without
-   waiting for its end. The table and the message are checked, the message's
-   references listed, and it is said whether they are all granted.
+   a pipe with one message; standard input if it is missing or `-`. PUBLISHED and OWN
+   are files of names, a line `NAME=NUMBER` each: the published ones and the
+   subscriber's own; a list that is missing is empty. The message is taken in the
+   pieces that come, and refused as soon as nothing can mend it, without waiting for
+   its end. The table, the lists and the message are checked, the message's references
+   listed, and it is said whether they are all granted.
 
-   Exit status: 0 released, 1 held back, 2 the table or the message was refused, 3
-   anything else went wrong. */
+   Exit status: 0 released, 1 held back, 2 the table, a list or the message was
+   refused, 3 anything else went wrong. */
 #define _POSIX_C_SOURCE 200809L
 #include <errno.h>
 #include <fcntl.h>
@@ -134,6 +136,19 @@ static int refuse_table(uint64_t answer, size_t length) {
   return REFUSED;
 }
 
+/* The file and the line of it that is wrong. */
+static int refuse_names(uint64_t answer, struct bytes published, const char *const files[2],
+                        struct bytes own) {
+  uint64_t place = surfbodkin_place(answer);
+  int second = place >= published.length;
+  struct bytes list = second ? own : published;
+  size_t first = second ? place - published.length : place, line = 1;
+  for (size_t k = 0; k < first; k++) line += list.at[k] == '\n';
+  printf("names: refused %u at byte %" PRIu64 ": %s: line %zu is not NAME=NUMBER and a line feed\n",
+         surfbodkin_number(answer), place, files[second], line);
+  return REFUSED;
+}
+
 static void print_entry(size_t k) {
   struct surfbodkin_entry entry = surfbodkin_get_entry(listing, k);
   printf("entry %zu: bytes %" PRIu32 " to %" PRIu32 ", ", k, entry.first, entry.after);
@@ -151,13 +166,16 @@ static void print_entry(size_t k) {
 }
 
 int main(int count, char **words) {
-  if (count != 3 && count != 4) {
-    fputs("usage: relay TABLE SUBSCRIBER [MESSAGE]\n", stderr);
+  if (count < 3 || 6 < count) {
+    fputs("usage: relay TABLE SUBSCRIBER [MESSAGE [PUBLISHED [OWN]]]\n", stderr);
     return FAILED;
   }
-  struct bytes table = read_file(words[1]);
+  struct bytes table = read_file(words[1]), published = {NULL, 0}, own = {NULL, 0};
   uint64_t subscriber = subscriber_number(words[2]);
-  const char *name = count == 4 ? words[3] : "-";
+  const char *name = count > 3 ? words[3] : "-";
+  const char *const files[2] = {count > 4 ? words[4] : "", count > 5 ? words[5] : ""};
+  if (count > 4) published = read_file(words[4]);
+  if (count > 5) own = read_file(words[5]);
   int from = open_message(name);
 
   /* Release itself doesn't ask whether the table passes its check: a table that
@@ -165,6 +183,10 @@ int main(int count, char **words) {
   uint64_t answer = surfbodkin_check_table(table.at, table.length);
   if (surfbodkin_number(answer) != SURFBODKIN_ACCEPTED) {
     return refuse_table(answer, table.length);
+  }
+  answer = surfbodkin_check_names(published.at, published.length, own.at, own.length);
+  if (surfbodkin_number(answer) != SURFBODKIN_ACCEPTED) {
+    return refuse_names(answer, published, files, own);
   }
   /* Nothing is printed before the message is there: if it can't be read, only that
      is said. */
@@ -176,8 +198,11 @@ int main(int count, char **words) {
   for (uint32_t k = 0; k < surfbodkin_low(answer); k++) print_entry(k);
 
   answer = surfbodkin_release(message, message_length, table.at, table.length,
+                              published.at, published.length, own.at, own.length,
                               subscriber);
   free(table.at);
+  free(published.at);
+  free(own.at);
   switch (surfbodkin_number(answer)) {
     case SURFBODKIN_ACCEPTED:
       printf("release to %" PRIu64 ": yes\n", subscriber);

@@ -170,17 +170,23 @@ uint64_t surfbodkin_check_names(const uint8_t *published, size_t published_lengt
 uint64_t surfbodkin_check_table(const uint8_t *table, size_t table_length);
 
 /* Says whether a message may go to a subscriber: whether each listed reference has a
-   namespace number, and for each some row of the table grants that number to that
-   subscriber. Names and relative references are never granted. The rows of others
-   don't matter, nor whether the table passes its check.
+   namespace number, or a name that stands for one, and for each some row of the table
+   grants that number to that subscriber. A name stands for the number of the first
+   line that has it, exactly as spelled: a name with "!" in the subscriber's own list,
+   any other in the published one. Names without a line and relative references are
+   never granted. The rows of others don't matter, nor whether the table passes its
+   check. With both lists empty only numbers are granted.
      0          yes: release it
      255        no, place: the first entry of the listing, counted from 0, that is
                 not granted
      refused    1 to 12 as check_message
+                19 as check_names
                 18, place: the number of whole rows, if table_length is no multiple
                 of 16 */
 uint64_t surfbodkin_release(const uint8_t *message, size_t length,
                             const uint8_t *table, size_t table_length,
+                            const uint8_t *published, size_t published_length,
+                            const uint8_t *own, size_t own_length,
                             uint64_t subscriber);
 
 /* Writes the text of a single ARI in binary form, as "ari:/UINT/10", with no zero
