@@ -151,6 +151,19 @@ fn note(length: u16) -> Vec<u8> {
     note
 }
 
+/// A target with so many namespace references as parameters, in turns by a published name
+/// and by an own one; the lines that they have are spread over 1,000.
+fn named_references(count: u16) -> Vec<u8> {
+    let mut message = hex("01 82 14 82 f6 84 00 20 00 99");
+    message.extend(count.to_be_bytes());
+    for k in 0..count {
+        let name = format!("{}n{}", if k % 2 == 0 { "" } else { "!" }, u32::from(k) * 7 % 1_000);
+        message.extend([0x81, 0x60 + name.len() as u8]);
+        message.extend(name.as_bytes());
+    }
+    message
+}
+
 struct Check {
     name: &'static str,
     messages: Vec<Vec<u8>>,
@@ -438,12 +451,30 @@ fn main() {
     let table = reading::table_bytes(&rows.chain(own).collect::<Vec<_>>());
     let release = Call {
         function: "surfbodkin_release",
-        archive: &|message, _| archive::release(message, &table, 7),
+        archive: &|message, _| archive::release(message, &table, b"", b"", 7),
         reading: &|message, _| packed_release(reading::release(message, &table, 7)),
     };
     time_call("e  release, 500 rows, message C", &release, &c);
     time_call("e  release, 500 rows, 4,096 bytes", &release, &few[..1]);
     time_call("e  release, 500 rows, 500 like it", &release, &few);
+
+    // References in namespaces by name, against lists of 1,000 lines; all are granted.
+    let list = |k: usize, mark: &str| format!("{mark}n{k}={}\n", k % 500);
+    let [published, own] =
+        ["", "!"].map(|mark| (0..1_000).map(|k| list(k, mark)).collect::<String>().into_bytes());
+    let all: Vec<Row> = (0..500).map(|k| Row { subscriber: 7, namespace: k }).collect();
+    let granting = reading::table_bytes(&all);
+    let named = Call {
+        function: "surfbodkin_release",
+        archive: &|message, _| archive::release(message, &granting, &published, &own, 7),
+        reading: &|message, _| {
+            packed_release(reading::names::release(
+                message, &granting, &published, &own, 7, &LIMITS,
+            ))
+        },
+    };
+    time_call("e  no references, 2,000 lines of names", &named, &[vec![1]]);
+    time_call("e  500 named references, 2,000 lines", &named, &[named_references(500)]);
 
     let target = [c[0][5..].to_vec()];
     let aris = varied(500, 4, 4_096..=4_096, 980..=1_024, check_single, |random| {

@@ -11,11 +11,12 @@
 #pragma weak surfbodkin_release
 #pragma weak surfbodkin_write_text
 #pragma weak surfbodkin_read_text
+#pragma weak surfbodkin_check_names
 #pragma weak surfbodkin_stream_open
 #pragma weak surfbodkin_stream_feed
 #pragma weak surfbodkin_stream_close
 
-enum call { SINGLE, MESSAGE, LIST, TABLE, RELEASE, WRITE, READ, STREAM, CALLS };
+enum call { SINGLE, MESSAGE, LIST, TABLE, RELEASE, WRITE, READ, LISTS, STREAM, CALLS };
 static int there[CALLS];
 static unsigned long calls_made;
 
@@ -24,6 +25,7 @@ struct arguments {
   struct bytes input, table;
   uint64_t subscriber;
   size_t room;
+  struct bytes published, own;
 };
 
 /* Opens a stream, feeds the input in pieces, an empty one first, and closes it. A
@@ -67,8 +69,10 @@ static uint64_t make(const struct arguments *a, enum way way, const uint8_t *out
   for (size_t k = 0; k < a->room; k++) room[k] = room_byte(k);
   struct bytes content = {room, a->room};
   struct lent input = lend(a->input, way, 0), table = lend(a->table, way, 0);
+  struct lent published = lend(a->published, way, 0), own = lend(a->own, way, 0);
   struct lent answer_room = lend(content, way, 1);
   struct bytes in = input.lent, rows = table.lent, to = answer_room.lent;
+  struct bytes first = published.lent, second = own.lent;
   uint64_t answer = 0;
   switch (a->call) {
     case SINGLE: answer = surfbodkin_check_single(in.at, in.length); break;
@@ -76,10 +80,14 @@ static uint64_t make(const struct arguments *a, enum way way, const uint8_t *out
     case LIST: answer = surfbodkin_list(in.at, in.length, to.at, to.length); break;
     case TABLE: answer = surfbodkin_check_table(rows.at, rows.length); break;
     case RELEASE:
-      answer = surfbodkin_release(in.at, in.length, rows.at, rows.length, a->subscriber);
+      answer = surfbodkin_release(in.at, in.length, rows.at, rows.length, first.at, first.length,
+                                  second.at, second.length, a->subscriber);
       break;
     case WRITE: answer = surfbodkin_write_text(in.at, in.length, to.at, to.length); break;
     case READ: answer = surfbodkin_read_text(in.at, in.length, to.at, to.length); break;
+    case LISTS:
+      answer = surfbodkin_check_names(first.at, first.length, second.at, second.length);
+      break;
     case STREAM: answer = stream(a->input, way, to); break;
     default: fail("no such call");
   }
@@ -92,6 +100,8 @@ static uint64_t make(const struct arguments *a, enum way way, const uint8_t *out
   }
   take_back(input, a->input.at, "the input");
   take_back(table, a->table.at, "the table");
+  take_back(published, a->published.at, "the published list");
+  take_back(own, a->own.at, "the own list");
   take_back(answer_room, room, "the room");
   return answer;
 }
@@ -125,12 +135,12 @@ static void attempt(struct arguments a, const char *call, const char *input) {
 
 static const char *const NAMES[CALLS] = {"check_single", "check_message", "list",
                                          "check_table",  "release",       "write_text",
-                                         "read_text",    "stream_close"};
+                                         "read_text",    "check_names",   "stream_close"};
 
 /* A check, and each beginning of its input with whatever answer. */
 static void check(enum call call, const char *input, uint64_t answer) {
   if (!there[call]) return;
-  struct arguments a = {call, bytes(input), {NULL, 0}, 0, 0};
+  struct arguments a = {.call = call, .input = bytes(input)};
   expect(a, NAMES[call], input, answer, NULL);
   size_t whole = a.input.length;
   for (a.input.length = 0; a.input.length < whole && whole < 100; a.input.length++) {
@@ -145,7 +155,7 @@ static void write_out(enum call call, const char *input, uint32_t count, uint32_
                       const char *out) {
   if (!there[call]) return;
   struct bytes written = bytes(out);
-  struct arguments a = {call, bytes(input), {NULL, 0}, 0, 0};
+  struct arguments a = {.call = call, .input = bytes(input)};
   size_t most = written.length + 30;
   for (a.room = 0; a.room <= most; a.room += a.room < written.length && most > 400 ? 211 : 1) {
     uint64_t answer = a.room < written.length ? refused(SURFBODKIN_ROOM, size)
@@ -164,7 +174,7 @@ static void write_out(enum call call, const char *input, uint32_t count, uint32_
 /* A refusal, in no room and in some. */
 static void refuse_out(enum call call, const char *input, unsigned number, uint64_t place) {
   if (!there[call]) return;
-  struct arguments a = {call, bytes(input), {NULL, 0}, 0, 0};
+  struct arguments a = {.call = call, .input = bytes(input)};
   for (a.room = 0; a.room <= 100; a.room += 50) {
     expect(a, NAMES[call], input, refused(number, place), NULL);
   }
@@ -174,7 +184,8 @@ static void refuse_out(enum call call, const char *input, unsigned number, uint6
 static void with_table(enum call call, const char *input, const char *table, uint64_t subscriber,
                        uint64_t answer) {
   if (!there[call]) return;
-  struct arguments a = {call, bytes(input), bytes(table), subscriber, 0};
+  struct arguments a = {.call = call, .input = bytes(input), .table = bytes(table),
+                        .subscriber = subscriber};
   expect(a, NAMES[call], call == TABLE ? table : input, answer, NULL);
   size_t whole = a.table.length;
   for (a.table.length = 0; a.table.length < whole; a.table.length++) {
@@ -182,6 +193,25 @@ static void with_table(enum call call, const char *input, const char *table, uin
   }
   free(a.input.at);
   free(a.table.at);
+}
+
+/* With lists of names, each of them at each of its lengths too. */
+static void with_lists(enum call call, const char *input, const char *table, const char *published,
+                       const char *own, uint64_t answer) {
+  if (!there[call]) return;
+  struct arguments a = {.call = call, .input = bytes(input), .table = bytes(table),
+                        .subscriber = 7, .published = bytes(published), .own = bytes(own)};
+  expect(a, NAMES[call], published, answer, NULL);
+  size_t whole = a.published.length;
+  for (a.published.length = 0; a.published.length < whole; a.published.length++) {
+    attempt(a, NAMES[call], published);
+  }
+  whole = a.own.length;
+  for (a.own.length = 0; a.own.length < whole; a.own.length++) attempt(a, NAMES[call], own);
+  free(a.input.at);
+  free(a.table.at);
+  free(a.published.at);
+  free(a.own.at);
 }
 
 /* A text or hex with one part repeated, kept until the end. */
@@ -197,6 +227,7 @@ static const char *repeated(const char *before, const char *part, int times, con
 
 #define C "01 82 14 82 f6 84 1a00010000 22 00 81 83 33 2a 05"
 #define ORDER "01 82 14 83 1904d2 83 1a00010000 22 12 83 1a00010000 21 182b"
+#define NAMED "01 82 14 83 f6 83 6161 20 00 83 622161 20 00"
 #define ROW_65536 "0000000000000007 0000000000010000 "
 #define ROW_20 "0000000000000007 ffffffffffffffec "
 #define OTHER_20 "0000000000000008 ffffffffffffffec "
@@ -211,6 +242,7 @@ int main(void) {
   there[RELEASE] = surfbodkin_release != NULL;
   there[WRITE] = surfbodkin_write_text != NULL;
   there[READ] = surfbodkin_read_text != NULL;
+  there[LISTS] = surfbodkin_check_names != NULL;
   there[STREAM] = surfbodkin_stream_open != NULL && surfbodkin_stream_feed != NULL &&
                   surfbodkin_stream_close != NULL;
   const char *before = "guards: skipped, not in the archive:";
@@ -275,6 +307,18 @@ int main(void) {
   with_table(RELEASE, "02", ROW_65536 "00", 7, refused(8, 0));
   with_table(RELEASE, "01", "", 7, 0);
   with_table(RELEASE, "01", "00", 7, refused(18, 0));
+
+  with_lists(LISTS, "", "", ":", ":", 0);
+  with_lists(LISTS, "", "", ":a=1\n!a=2\n", ":a=-3\n", 0);
+  with_lists(LISTS, "", "", ":a=1\nb=01\n", ":=\n", refused(19, 4));
+  with_lists(LISTS, "", "", ":a=1\n", ":a=1\nb=2", refused(19, 8));
+  with_lists(RELEASE, NAMED, ROW_65536 ROW_20, ":a=65536\na=1\n", ":!a=-20\n", 0);
+  with_lists(RELEASE, NAMED, ROW_65536 ROW_20, ":a=65536\n", ":a=-20\n", refused(SURFBODKIN_HELD, 1));
+  with_lists(RELEASE, NAMED, ROW_65536 OTHER_20, ":a=65536\n", ":!a=-20\n", refused(SURFBODKIN_HELD, 1));
+  with_lists(RELEASE, NAMED, ROW_65536 "00", ":a=65536\n", ":!a=-20", refused(19, 8));
+  with_lists(RELEASE, NAMED, ROW_65536 "00", ":a=65536\n", ":!a=-20\n", refused(18, 1));
+  with_lists(RELEASE, "02", ROW_65536 "00", ":a", ":a", refused(8, 0));
+  with_lists(RELEASE, "01", "", ":a", ":", refused(19, 0));
 
   write_out(WRITE, "82050a", 3, 12, ":ari:/UINT/10");
   write_out(WRITE, "83f621181e", 4, 7, ":./-2/30");

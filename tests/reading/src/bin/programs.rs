@@ -1,17 +1,19 @@
 //! `programs COMMAND PROGRAM [--seed S]`: gives the program of `gate list`, `stream`,
-//! `text`, `table` or `release` fixed inputs and made ones, and compares what it writes
-//! with the reading.
+//! `text`, `table`, `names` or `release` fixed inputs and made ones, and compares what it
+//! writes with the reading.
 
 use std::fmt::Write as _;
 use std::io::Write as _;
 use std::process::{Command, ExitCode, Stdio};
 
+use reading::generate::names::{self as made, Lists};
 use reading::generate::{self, tables, texts, Random};
+use reading::names::{self, check_names, find_line, lines};
 use reading::printed::{entry_line, listing_lines};
 use reading::vectors::{self, to_hex, Call, Line};
 use reading::{
-    check_table, closing, listing, read_table, read_text, release, rows, table_bytes, text_of,
-    Listing, NoTable, Refusal, Release, Row, LIMITS, TABLE_ROWS, TABLE_TEXT,
+    check_table, closing, is_namespace_name, listing, read_table, read_text, rows, table_bytes,
+    text_of, Listing, NoTable, Refusal, Release, Row, LIMITS, TABLE_ROWS, TABLE_TEXT,
 };
 
 /// What a program writes to standard output and to standard error.
@@ -261,9 +263,135 @@ fn table(program: &Program, random: &mut Random) -> Result<String, String> {
     Ok(format!("{fixed} fixed and {made} made tables, {passed} passed and {refused} refused"))
 }
 
+/// Files of a folder of their own, which goes away with this.
+struct Files(std::path::PathBuf);
+
+impl Files {
+    fn new() -> Result<Files, String> {
+        let folder = std::env::temp_dir().join(format!("programs-{}", std::process::id()));
+        std::fs::create_dir_all(&folder).map_err(|error| error.to_string())?;
+        Ok(Files(folder))
+    }
+
+    /// The file's path.
+    fn put(&self, name: &str, content: &[u8]) -> Result<String, String> {
+        std::fs::write(self.0.join(name), content).map_err(|error| error.to_string())?;
+        self.path(name)
+    }
+
+    fn path(&self, name: &str) -> Result<String, String> {
+        Ok(self.0.join(name).to_str().ok_or("no path")?.to_string())
+    }
+}
+
+impl Drop for Files {
+    fn drop(&mut self) {
+        let _ = std::fs::remove_dir_all(&self.0);
+    }
+}
+
+/// A list may have as many bytes as a table's text.
+const LIST: usize = TABLE_TEXT;
+
+/// Lists as the third and fourth argument of a program, or as its first and second; an
+/// empty one may be left out, if no other follows.
+fn list_arguments(random: &mut Random, lists: &Lists, files: [String; 2]) -> Vec<String> {
+    let left_out = random.chance(50);
+    let count = match (lists.0.is_empty(), lists.1.is_empty()) {
+        (true, true) if left_out => 0,
+        (_, true) if left_out => 1,
+        _ => 2,
+    };
+    files.into_iter().take(count).collect()
+}
+
+fn strings(words: &[String]) -> Vec<&str> {
+    words.iter().map(String::as_str).collect()
+}
+
+/// What is wrong with a line, in the program's words.
+fn fault(line: &[u8]) -> &'static str {
+    let Some(text) = line.strip_suffix(b"\n") else { return "no line feed behind it" };
+    match text.iter().position(|byte| *byte == b'=') {
+        None => "no \"=\" in it",
+        Some(at) if !is_namespace_name(&text[..at]) => "no namespace name before the \"=\"",
+        _ => "no plain decimal number from -2^63 to 2^63 - 1 behind the \"=\"",
+    }
+}
+
+/// "passes" with the number of lines, or the refusal with the file, the line and its fault.
+fn names_lines((published, own): &Lists, files: &[String]) -> String {
+    let Err(refusal) = check_names(published, own) else {
+        return format!("passes {}\n", lines(published).count() + lines(own).count());
+    };
+    let (list, place, file) = match refusal.place < published.len() {
+        true => (published, refusal.place, &files[0]),
+        false => (own, refusal.place - published.len(), &files[1]),
+    };
+    let (number, (_, line)) =
+        lines(list).enumerate().find(|(_, (first, _))| *first == place).expect("a line's start");
+    format!("{refusal}\n{file}: line {}: {}\n", number + 1, fault(line))
+}
+
+fn compare_names(program: &Program, random: &mut Random) -> Result<String, String> {
+    let files = Files::new()?;
+    let text = |words: &str| words.as_bytes().to_vec();
+    let mut cases: Vec<Lists> = [("", ""), ("a=1\n", "a=1"), ("\n", ""), ("a=1\n=2\n", "")]
+        .map(|(published, own)| (text(published), text(own)))
+        .to_vec();
+    // As long as a list may be, and one byte longer.
+    let full = "a=1234567\nb=12345\n".repeat(LIST / 18) + "a=1234567\n";
+    assert_eq!(full.len(), LIST);
+    cases.push((text(&full), text(&full)));
+    let fixed = cases.len();
+    cases.extend((0..600).map(|_| made::lists(random)));
+    let (mut passed, mut refused, mut found) = (0, 0, 0);
+    for lists in &cases {
+        let paths = [files.put("published", &lists.0)?, files.put("own", &lists.1)?];
+        let mut given = list_arguments(random, lists, paths.clone());
+        if given.is_empty() {
+            given.push(paths[0].clone());
+        }
+        let due = names_lines(lists, &given);
+        *(if due.starts_with("passes") { &mut passed } else { &mut refused }) += 1;
+        program.compare(&strings(&given), b"", Printed::out(due))?;
+        let name = made::sought(random, lists);
+        // No argument holds a zero byte.
+        let Ok(name) = String::from_utf8(name) else { continue };
+        if name.contains('\0') {
+            continue;
+        }
+        let mut due = find_line(&lists.0, &lists.1, name.as_bytes()).to_vec();
+        if !due.is_empty() {
+            found += 1;
+            due.push(b'\n');
+        }
+        program.compare(&[&paths[0], &paths[1], &name], b"", Printed::out(due))?;
+    }
+    let long = files.put("long", &[text(&full), text("\n")].concat())?;
+    let error = format!("{long}: more than {LIST} bytes\n");
+    program.compare(&[&long], b"", Printed::error(error.clone()))?;
+    program.compare(&["/dev/null", &long], b"", Printed::error(error))?;
+    let usage = "usage: gate names PUBLISHED [OWN [NAME]]\n";
+    for arguments in [&[][..], &["a", "b", "c", "d"]] {
+        program.compare(arguments, b"", Printed::error(usage))?;
+    }
+    let missing = files.path("missing")?;
+    let error = format!("{missing}: No such file or directory\n");
+    program.compare(&[&missing], b"", Printed::error(error.clone()))?;
+    program.compare(&["/dev/null", &missing], b"", Printed::error(error))?;
+    program.compare(&["/"], b"", Printed::error("/: Is a directory\n"))?;
+    let made = cases.len() - fixed;
+    Ok(format!(
+        "{fixed} fixed and {made} made pairs of lists: {passed} passed, {refused} refused, {found} \
+         lines found"
+    ))
+}
+
 /// "yes", "no" with the entry's number and line, or the refusal.
-fn release_lines(message: &[u8], table: &[Row], subscriber: u64) -> Printed {
-    match release(message, &table_bytes(table), subscriber) {
+fn release_lines(message: &[u8], table: &[Row], lists: &Lists, subscriber: u64) -> Printed {
+    let (published, own) = lists;
+    match names::release(message, &table_bytes(table), published, own, subscriber, &LIMITS) {
         Err(refusal) => line(refusal),
         Ok(Release::Yes) => Printed::out("yes\n"),
         Ok(Release::No(k)) => {
@@ -273,15 +401,8 @@ fn release_lines(message: &[u8], table: &[Row], subscriber: u64) -> Printed {
     }
 }
 
-fn released(program: &Program, random: &mut Random) -> Result<String, String> {
-    let path = std::env::temp_dir().join(format!("table-{}", std::process::id()));
-    let name = path.to_str().ok_or("no path")?.to_string();
-    let outcome = compare_released(program, random, &name);
-    let _ = std::fs::remove_file(&path);
-    outcome
-}
-
-fn compare_released(program: &Program, random: &mut Random, name: &str) -> Result<String, String> {
+fn compare_released(program: &Program, random: &mut Random) -> Result<String, String> {
+    let files = Files::new()?;
     let mut messages = fixed(Call::Message);
     let fixed = messages.len();
     for _ in 0..1_000 {
@@ -289,37 +410,53 @@ fn compare_released(program: &Program, random: &mut Random, name: &str) -> Resul
         let few_namespaces = random.chance(60);
         messages.push(generate::message(random, generate::Settings { few_namespaces, ..settings }));
     }
-    let mut answers = [0; 3];
-    for message in &messages {
-        let (mut bytes, subscriber) = tables::table_for(random, message);
+    let mut answers = [0; 4];
+    for message in &mut messages {
+        let mut lists = Lists::default();
+        if random.chance(60) {
+            let (published, own) = made::lists(random);
+            let known = [made::names_of(&published), made::names_of(&own)].concat();
+            made::rename(random, message, &known, 60);
+            lists = made::lists_for(random, message);
+        }
+        let (mut bytes, subscriber) = made::table_for(random, message, &lists);
         bytes.truncate(bytes.len() / 16 * 16);
         let faults = random.chance(5);
         let text = table_text(random, &rows(&bytes).expect("whole rows"), faults);
-        std::fs::write(name, &text).map_err(|error| error.to_string())?;
+        let table = files.put("table", &text)?;
         let due = match read_table(&text) {
-            Err(why) => no_table(name, why),
-            Ok(table) => release_lines(message, &table, subscriber),
+            Err(why) => no_table(&table, why),
+            Ok(rows) => release_lines(message, &rows, &lists, subscriber),
         };
-        for (k, start) in ["yes", "no", "refused"].into_iter().enumerate() {
+        for (k, start) in ["yes", "no", "refused", "refused 19"].into_iter().enumerate() {
             answers[k] += usize::from(due.out.starts_with(start.as_bytes()));
         }
-        program.compare(&[name, &subscriber.to_string()], message, due)?;
+        let paths = [files.put("published", &lists.0)?, files.put("own", &lists.1)?];
+        let mut given = vec![table, subscriber.to_string()];
+        given.extend(list_arguments(random, &lists, paths));
+        program.compare(&strings(&given), message, due)?;
     }
+    let name: &str = &files.put("table", b"1 1\n")?;
     for subscriber in ["", "x", "-1", "+1", "01", "18446744073709551616", "1 "] {
         let error = "SUBSCRIBER is no number from 0 to 18446744073709551615\n";
         program.compare(&[name, subscriber], b"\x01", Printed::error(error))?;
     }
-    for arguments in [&[][..], &[name], &[name, "1", "1"]] {
-        let error = "usage: gate release TABLE SUBSCRIBER\n";
+    for arguments in [&[][..], &[name], &[name, "1", name, name, name]] {
+        let error = "usage: gate release TABLE SUBSCRIBER [PUBLISHED [OWN]]\n";
         program.compare(arguments, b"\x01", Printed::error(error))?;
     }
-    let missing = format!("{name}-missing");
+    let missing: &str = &files.path("missing")?;
     let error = format!("{missing}: No such file or directory\n");
-    program.compare(&[&missing, "1"], b"\x01", Printed::error(error))?;
+    for arguments in [&[missing, "1"][..], &[name, "1", missing], &[name, "1", name, missing]] {
+        program.compare(arguments, b"\x01", Printed::error(error.clone()))?;
+    }
     program.compare(&["/", "1"], b"\x01", Printed::error("/: Is a directory\n"))?;
     let made = messages.len() - fixed;
-    let [yes, no, refused] = answers;
-    Ok(format!("{fixed} fixed and {made} made messages: {yes} yes, {no} no, {refused} refused"))
+    let [yes, no, refused, names] = answers;
+    Ok(format!(
+        "{fixed} fixed and {made} made messages: {yes} yes, {no} no, {refused} refused, {names} of \
+         them for a list"
+    ))
 }
 
 fn main() -> ExitCode {
@@ -336,11 +473,12 @@ fn main() -> ExitCode {
         "stream" => Some(stream as _),
         "text" => Some(text as _),
         "table" => Some(table as _),
-        "release" => Some(released as _),
+        "names" => Some(compare_names as _),
+        "release" => Some(compare_released as _),
         _ => None,
     });
     let (Some(seed), Some((command, program)), Some(compare)) = (seed, known, compare) else {
-        eprintln!("usage: programs list|stream|text|table|release PROGRAM [--seed S]");
+        eprintln!("usage: programs list|stream|text|table|names|release PROGRAM [--seed S]");
         return ExitCode::FAILURE;
     };
     match compare(&Program(program.clone()), &mut Random::new(seed)) {

@@ -18,7 +18,7 @@ use lent::Lent;
 use reading::archive::{self, packed, packed_plain, packed_release, packed_written, unpacked};
 use reading::generate::{self, names, tables, texts, Random, Settings};
 use reading::vectors::to_hex;
-use reading::{Record, Refusal, Test, Written, ENTRY, LIMITS};
+use reading::{Entry, Namespace, Record, Refusal, Test, Written, ENTRY, LIMITS};
 use tally::Column;
 
 #[derive(Clone, Copy, Debug, PartialEq, Eq)]
@@ -36,10 +36,11 @@ enum Call {
 /// What a call is lent. Most use only a part of it.
 #[derive(Default)]
 struct Case {
-    /// The message, the single ARI, the text or the published list.
+    /// The message, the single ARI or the text.
     input: Vec<u8>,
-    /// The grant table or the own list.
     table: Vec<u8>,
+    /// The published list of names and the subscriber's own.
+    lists: names::Lists,
     subscriber: u64,
     /// What the room for the answer holds before.
     room: Vec<u8>,
@@ -68,14 +69,15 @@ impl Call {
             Call::Message => (0..=12).collect(),
             Call::List => (0..=12).chain([16]).collect(),
             Call::Table => vec![0, 18],
-            Call::Release => (0..=12).chain([18, archive::NO]).collect(),
+            Call::Release => (0..=12).chain([18, 19, archive::NO]).collect(),
             Call::Write => (0..=7).chain(9..=14).chain([16]).collect(),
             Call::Read => vec![0, 1, 15, 16],
             Call::Names => vec![0, 19],
         }
     }
 
-    fn reading(self, input: &[u8], table: &[u8], subscriber: u64, room: &mut [u8]) -> u64 {
+    fn reading(self, case: &Case, room: &mut [u8]) -> u64 {
+        let Case { input, table, lists: (published, own), subscriber, .. } = case;
         match self {
             Call::Single => packed(reading::check_single(input)),
             Call::Message => packed(reading::check_message(input)),
@@ -83,23 +85,27 @@ impl Call {
             Call::Table => {
                 packed_plain(reading::rows(table).and_then(|rows| reading::check_table(&rows)))
             }
-            Call::Release => packed_release(reading::release(input, table, subscriber)),
+            Call::Release => packed_release(reading::names::release(
+                input, table, published, own, *subscriber, &LIMITS,
+            )),
             Call::Write => packed_written(reading::write_text(input, room)),
             Call::Read => packed_written(reading::read_text(input, room)),
-            Call::Names => packed_plain(reading::names::check_names(input, table)),
+            Call::Names => packed_plain(reading::names::check_names(published, own)),
         }
     }
 
-    fn archive(self, input: &[u8], table: &[u8], subscriber: u64, room: &mut [u8]) -> u64 {
+    /// What is lent to read is the input, the table and the two lists.
+    fn archive(self, lent: [&[u8]; 4], subscriber: u64, room: &mut [u8]) -> u64 {
+        let [input, table, published, own] = lent;
         match self {
             Call::Single => archive::check_single(input),
             Call::Message => archive::check_message(input),
             Call::List => archive::list(input, room),
             Call::Table => archive::check_table(table),
-            Call::Release => archive::release(input, table, subscriber),
+            Call::Release => archive::release(input, table, published, own, subscriber),
             Call::Write => archive::write_text(input, room),
             Call::Read => archive::read_text(input, room),
-            Call::Names => archive::check_names(input, table),
+            Call::Names => archive::check_names(published, own),
         }
     }
 
@@ -196,16 +202,39 @@ impl Call {
         input
     }
 
+    /// A table and lists for a message, in which names of lists take the place of some
+    /// namespaces; now and then there are no lists.
+    fn give_names(self, random: &mut Random, case: &mut Case) {
+        if random.chance(25) {
+            (case.table, case.subscriber) = tables::table_for(random, &case.input);
+            return;
+        }
+        if random.chance(50) {
+            let (published, own) = names::lists(random);
+            let known = [names::names_of(&published), names::names_of(&own)].concat();
+            names::rename(random, &mut case.input, &known, 60);
+        }
+        case.lists = names::lists_for(random, &case.input);
+        if random.chance(8) {
+            let (published, own) = &mut case.lists;
+            match random.chance(50) {
+                true => names::damage(random, published, own),
+                false => names::damage(random, own, published),
+            }
+        }
+        (case.table, case.subscriber) = names::table_for(random, &case.input, &case.lists);
+    }
+
     fn case(self, random: &mut Random) -> Case {
         let mut case = Case::default();
         match self {
             Call::Table => case.table = tables::table(random),
             Call::Read => case.input = text(random),
-            Call::Names => (case.input, case.table) = names::lists(random),
+            Call::Names => case.lists = names::lists(random),
             _ => case.input = self.binary(random),
         }
         if self == Call::Release {
-            (case.table, case.subscriber) = tables::table_for(random, &case.input);
+            self.give_names(random, &mut case);
         }
         let need = match self {
             Call::List => reading::list(&case.input, &mut []).map_err(|r| (r, ENTRY)),
@@ -246,41 +275,40 @@ fn text(random: &mut Random) -> Vec<u8> {
     text
 }
 
-/// Both answers, if they differ or lent memory isn't as it has to be: the input
-/// and the table unchanged, the room as the reading leaves its own.
+/// Both answers, if they differ or lent memory isn't as it has to be: what is lent to
+/// read unchanged, the room as the reading leaves its own.
 fn compare(call: Call, case: &Case, shift: usize) -> Result<u64, String> {
-    let Case { input, table, subscriber, room } = case;
+    let Case { input, table, lists: (published, own), subscriber, room } = case;
     let mut expected_room = room.clone();
-    let expected = call.reading(input, table, *subscriber, &mut expected_room);
+    let expected = call.reading(case, &mut expected_room);
     assert!(expected >> 56 == 0 || expected_room == *room, "the reading wrote on a refusal");
 
-    let (lent_input, lent_table) = (Lent::new(input, shift), Lent::new(table, shift / 2));
+    let contents = [input, table, published, own];
+    let lent = [0, 1, 2, 3].map(|k| Lent::new(contents[k], shift / (k + 1)));
     let mut lent_room = Lent::new(room, shift / 3);
-    let given = call.archive(
-        lent_input.content(),
-        lent_table.content(),
-        *subscriber,
-        lent_room.content_mut(),
-    );
+    let given =
+        call.archive(lent.each_ref().map(Lent::content), *subscriber, lent_room.content_mut());
     let wrong = if given != expected {
         unpacked(given)
-    } else if !lent_input.is(input) || !lent_table.is(table) {
+    } else if !lent.iter().zip(contents).all(|(lent, content)| lent.is(content)) {
         "wrote to what it was lent to read, or around it".to_string()
     } else if !lent_room.is(&expected_room) {
         format!("left in the room, or around it, {}", to_hex(lent_room.block()))
     } else {
         return Ok(expected);
     };
-    let mut words = format!("{call:?}, input {}", to_hex(input));
+    let mut words = format!("{call:?}");
+    for (name, content) in ["input", "table", "published", "own", "room"]
+        .into_iter()
+        .zip([input, table, published, own, room])
+        .filter(|(_, content)| !content.is_empty())
+    {
+        words += &format!(", {name} {}", to_hex(content));
+    }
     match call {
-        Call::Table => words = format!("{call:?}, table {}", to_hex(table)),
-        Call::Release => words += &format!(", table {}, subscriber {subscriber}", to_hex(table)),
-        Call::Names => words += &format!(", own list {}", to_hex(table)),
+        Call::Release => words += &format!(", subscriber {subscriber}"),
         Call::Read => words += &format!(" ({})", String::from_utf8_lossy(input)),
         _ => (),
-    }
-    if !room.is_empty() {
-        words += &format!(", room {}", to_hex(room));
     }
     Err(format!("{words}\n  reading: {}\n  archive: {wrong}", unpacked(expected)))
 }
@@ -304,8 +332,9 @@ struct Tally {
     /// Refusals of a binary input at byte 16 or later.
     deep: usize,
     entries: usize,
-    /// Answers of yes to messages with references.
+    /// Answers of yes to messages with references, and with names among them.
     yes: usize,
+    named_yes: usize,
     /// Answers of no at another entry than the first.
     later_no: usize,
     read_back: usize,
@@ -315,7 +344,7 @@ impl Tally {
     fn new(calls: &[Call]) -> Tally {
         let column = |call: &Call| (*call, Column::new(&format!("{call:?}"), call.numbers()));
         let answers = calls.iter().map(column).collect();
-        Tally { answers, deep: 0, entries: 0, yes: 0, later_no: 0, read_back: 0 }
+        Tally { answers, deep: 0, entries: 0, yes: 0, named_yes: 0, later_no: 0, read_back: 0 }
     }
 
     fn add(&mut self, call: Call, input: &[u8], answer: u64) {
@@ -326,7 +355,10 @@ impl Tally {
         match number {
             0 if call == Call::List => self.entries += low as u32 as usize,
             0 if call == Call::Release => {
-                self.yes += usize::from(!reading::listing(input).unwrap().entries.is_empty());
+                let entries = reading::listing(input).unwrap().entries;
+                let is_name = |entry: &Entry| matches!(entry.namespace, Namespace::Name(_));
+                self.yes += usize::from(!entries.is_empty());
+                self.named_yes += usize::from(entries.iter().any(is_name));
             }
             1..=14 => self.deep += usize::from(low >= 16),
             archive::NO => self.later_no += usize::from(low > 0),
@@ -410,9 +442,9 @@ fn main() -> ExitCode {
     }
     let complete = tally::print(&columns) && (!with_stream || streams.is_complete());
     println!(
-        "refused at byte 16 or later {}, entries listed {}, yes with references {}, no past entry 0 \
-         {}, texts read back {}",
-        tally.deep, tally.entries, tally.yes, tally.later_no, tally.read_back
+        "refused at byte 16 or later {}, entries listed {}, yes with references {}, with names \
+         {}, no past entry 0 {}, texts read back {}",
+        tally.deep, tally.entries, tally.yes, tally.named_yes, tally.later_no, tally.read_back
     );
     if with_stream {
         println!("{streams}");
