@@ -8,6 +8,27 @@ ghost use Rattle.buffer.specs.Put.{Put};
 ghost use Rattle.buffer.specs.Bytes.{be, value, loadAt, storeAt, same};
 ghost use Rattle.buffer.specs.Decimal.{digitOf, digits, decimal, pushOf, digitsOf, unsignedOf, positiveOf, negativeOf, signedOf};
 
+// The smaller of two numbers.
+pub fn least(a: usize, b: usize) -> usize
+    ensures { λ r. ⌜ r ≡ min a b ⌝ }
+{
+    if a < b {
+        return a;
+    }
+    b
+}
+
+// The sum, as far as 64 bits go; in these words LLVM makes it two instructions.
+pub fn saturating_add(a: u64, b: u64) -> u64
+    ensures { λ r. ⌜ r ≡ min (a + b) 18446744073709551615 ⌝ }
+{
+    let left = 18446744073709551615 - a;
+    if left < b {
+        return a + left;
+    }
+    a + b
+}
+
 // What is put goes into lent room from a place on: each function answers the place behind it, and leaves out what there is no room for.
 
 // One byte.
@@ -32,16 +53,6 @@ pub fn put_all(out: &mut [u8], at: usize, s: &[u8]) -> usize
         i += 1;
     }
     r
-}
-
-// The smaller of two numbers.
-pub fn least(a: usize, b: usize) -> usize
-    ensures { λ r. ⌜ r ≡ min a b ⌝ }
-{
-    if a < b {
-        return a;
-    }
-    b
 }
 
 // The same for long runs: what fits is known before the loop, so that LLVM makes one copy of it. For a word or a name the call would cost more than it saves.

@@ -1,8 +1,14 @@
 // `gate release TABLE SUBSCRIBER [PUBLISHED [OWN]]`: reads a message from standard input and writes whether it may be released to the subscriber under the
-// grant table whose text is in the file TABLE and the two lists of names: `yes`, `no` with the number and the line of the first entry that isn't granted, or a
-// refusal.
+// grant table whose text is in the file TABLE and the two lists of names: `yes`, `no` with the number and the line of the first entry that isn't granted, each
+// with a second line `compared N`, the number of rows compared; or a refusal.
 
-fn show_no(s: &[u8], k: usize, room: &mut [u8], out: &mut [u8]) {
+fn show_compared(out: &mut [u8], at: usize, compared: u64) {
+    let a = print::numbered(out, at, b"compared ", compared);
+    let b = buffer::put(out, a, b'\n');
+    print::flush(out, b);
+}
+
+fn show_no(s: &[u8], k: usize, compared: u64, room: &mut [u8], out: &mut [u8]) {
     let a = buffer::put_all(out, 0, b"no ");
     let b = print::field(out, a, k as u64);
     match listing::list_message(s, room) {
@@ -12,7 +18,7 @@ fn show_no(s: &[u8], k: usize, room: &mut [u8], out: &mut [u8]) {
         } => {
             if k < listing::ENTRIES {
                 let c = print::entry(out, b, s, room, k * 24);
-                print::flush(out, c);
+                show_compared(out, c, compared);
             }
         }
         listing::Listed::Refused { number, place } => {
@@ -32,11 +38,11 @@ fn judge<'a>(
     out: &mut [u8],
 ) {
     match release::release_message(s, grants, published, own, subscriber) {
-        release::Released::Yes => {
+        release::Released::Yes { compared } => {
             let a = buffer::put_all(out, 0, b"yes\n");
-            print::flush(out, a);
+            show_compared(out, a, compared);
         }
-        release::Released::No { entry } => show_no(s, entry, room, out),
+        release::Released::No { entry, compared } => show_no(s, entry, compared, room, out),
         release::Released::Refused { number, place } => {
             let a = print::refused(out, 0, number, place);
             print::flush(out, a);

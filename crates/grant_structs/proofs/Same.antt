@@ -21,7 +21,8 @@ use Rattle.grants.specs.declared.Verdict.{Verdict}
 use Rattle.grants.specs.declared.Verdict.the-variants.{Passes, Refused}
 use Rattle.ari.proofs.SignedLaws.{signed-word, word-fits}
 use Rattle.release.specs.declared.Released.{Released}
-use Rattle.release.specs.Release.{releaseRows, releaseBytes, answerOf}
+use Rattle.release.specs.Release.{Release, releaseRows, releaseBytes}
+use Rattle.release.specs.Compared.{compared, counted, countedRows, countedBytes}
 use Rattle.grant_structs.specs.declared.Grant.{Grant as Row}
 use Rattle.grant_structs.specs.Structs.{grantOf, grants}
 use Rattle.grant_structs.specs.Bytes.{tableBytes}
@@ -91,9 +92,16 @@ module _ (t : List Row) (f : Fit t) where
     unfolding releaseBytes releaseRows
     same-release = rw (not-ragged t, same-rows t f)
 
+    -- and with the rows compared
+    pub same-count : countedBytes m b (tableBytes t) published own s ≡ countedRows m b (grants t) published own s
+    unfolding countedBytes countedRows
+    same-count =
+        ap (λ (x : Release). counted x (compared (rows (tableBytes t)) b published own s)) same-release
+        ∙ ap (λ (g : List Grant). counted (releaseRows m b (grants t) published own s) (compared g b published own s)) (same-rows t f)
+
     -- so what `release::release_within` answers of the bytes is what `release_grants_within` answers of the structs
-    pub same-answer : (r r′ : Released) → answerOf r ≡ releaseBytes m b (tableBytes t) published own s → answerOf r′ ≡ releaseRows m b (grants t) published own s → answerOf r ≡ answerOf r′
-    same-answer r r′ e e′ = e ∙ same-release ∙ sym e′
+    pub same-answer : (r r′ : Released) → r ≡ countedBytes m b (tableBytes t) published own s → r′ ≡ countedRows m b (grants t) published own s → r ≡ r′
+    same-answer r r′ e e′ = e ∙ same-count ∙ sym e′
 
   -- and what `check_table` answers of the bytes is what `check_grants` answers of the structs
   pub same-verdict : (r r′ : Verdict) → checkOf r ≡ checkBytes (tableBytes t) → checkOf r′ ≡ check (grants t) → r ≡ r′

@@ -6,10 +6,10 @@ ghost use lib.ListN.{length, take};
 ghost use Rattle.ari.specs.Limits.{firstLimits, capped};
 ghost use Rattle.ari.specs.Listing.{number};
 ghost use Rattle.ari.specs.Signed.{signed};
-ghost use Rattle.grants.specs.Grants.{some, clash, holds, granted, check};
+ghost use Rattle.grants.specs.Grants.{clash, holds, granted, check};
 ghost use Rattle.grants.specs.Verdict.{checkOf};
-ghost use Rattle.release.specs.Release.{releaseRows, answerOf};
-ghost use Rattle.grant_structs.specs.Structs.{rowBy, grantOf, grants, meetsBy, foundAt, wantedAt, rowsFor, grantedAt, judgedFrom, heldAt, entriesOf, answerBy, Decides};
+ghost use Rattle.release.specs.Compared.{counted, countedRows};
+ghost use Rattle.grant_structs.specs.Structs.{rowBy, grantOf, grants, meetsBy, firstRow, comparedBy, foundAt, wantedAt, rowsFor, judgedCounted, heldAt, entriesOf, answerBy, Decides};
 use ari::Limits;
 use grants::Verdict;
 use listing::Listed;
@@ -56,10 +56,10 @@ fn meets(clash: bool, row: Grant, g: Grant) -> bool
     }
 }
 
-// Some row below m meets g.
-fn some_row(t: &[Grant], m: usize, clash: bool, g: Grant) -> bool
+// The first row below m that meets g, or m if none does.
+fn first_row(t: &[Grant], m: usize, clash: bool, g: Grant) -> usize
     requires { ⌜ m ≤ length (now t) ⌝ }
-    ensures { λ r. ⌜ r ≡ some (meetsBy clash (grantOf g)) (grants (take m (now (t .entry)))) ⌝ }
+    ensures { λ r. ⌜ r ≡ firstRow (meetsBy clash (grantOf g)) (grants (take m (now (t .entry)))) ⌝ }
 {
     let mut i = 0;
     'rows: while i < m {
@@ -68,22 +68,19 @@ fn some_row(t: &[Grant], m: usize, clash: bool, g: Grant) -> bool
         }
         i += 1;
     }
-    i < m
+    i
 }
 
 // Some row holds both.
 pub fn granted(t: &[Grant], subscriber: u64, namespace: i64) -> bool
     ensures { λ r. ⌜ r ≡ granted (grants (now (t .entry))) subscriber (number namespace) ⌝ }
 {
-    some_row(
-        t,
-        t.len(),
-        false,
-        Grant {
-            subscriber,
-            namespace,
-        },
-    )
+    let n = t.len();
+    let g = Grant {
+        subscriber,
+        namespace,
+    };
+    first_row(t, n, false, g) < n
 }
 
 // What a search over so many rows tells that ended at a row.
@@ -104,7 +101,7 @@ pub fn check_grants(t: &[Grant]) -> Verdict
     let n = t.len();
     let mut i = 0;
     'rows: while i < n {
-        if some_row(t, i, true, t[i]) {
+        if first_row(t, i, true, t[i]) < i {
             break 'rows;
         }
         i += 1;
@@ -153,36 +150,44 @@ fn rows_for(list: &[u8], i: usize, n: usize) -> usize
     0
 }
 
-// What a search over so many entries tells that ended at an entry.
-fn judged(entry: usize, entries: usize) -> Released
-    ensures { λ r. ⌜ answerOf r ≡ heldAt entry entries ⌝ }
+// How many rows a search over n rows compared that ended at a row: that one too, or all if it ended past them.
+fn compared_rows(row: usize, n: usize) -> u64
+    ensures { λ r. ⌜ r ≡ comparedBy row n ⌝ }
+{
+    if row < n {
+        return (row + 1) as u64;
+    }
+    n as u64
+}
+
+// What a search over so many entries tells that ended at an entry, with the rows compared for them.
+fn judged(entry: usize, entries: usize, compared: u64) -> Released
+    ensures { λ r. ⌜ r ≡ counted (heldAt entry entries) compared ⌝ }
 {
     if entry < entries {
-        Released::No { entry }
+        Released::No { entry, compared }
     } else {
-        Released::Yes
+        Released::Yes { compared }
     }
 }
 
-// The first n entries by rows: the search is left at the first that is not granted.
+// The first n entries by rows: the search is left at the first that is not granted, whose rows are counted too.
 fn release_entries(list: &[u8], n: usize, t: &[Grant], subscriber: u64) -> Released
     requires { ⌜ n ≤ length (now list) / 24 ⌝ }
-    ensures { λ r. ⌜ answerOf r ≡ judgedFrom (grantedAt (grants (now (t .entry))) subscriber (now (list .entry))) 0 n ⌝ }
+    ensures { λ r. ⌜ r ≡ judgedCounted (grants (now (t .entry))) subscriber (now (list .entry)) n ⌝ }
 {
+    let mut compared = 0;
     let mut i = 0;
     'entries: while i < n {
-        let found = some_row(
-            t,
-            rows_for(list, i, t.len()),
-            false,
-            wanted(list, i, subscriber),
-        );
-        if !found {
+        let rows = rows_for(list, i, t.len());
+        let row = first_row(t, rows, false, wanted(list, i, subscriber));
+        compared = buffer::saturating_add(compared, compared_rows(row, rows));
+        if row >= rows {
             break 'entries;
         }
         i += 1;
     }
-    judged(i, n)
+    judged(i, n, compared)
 }
 
 // A message's listing in lent room, a name that has a line by its number, so that it decides as the message does under the two lists. The message's refusal
@@ -225,9 +230,9 @@ fn entries_of(listed: Listed) -> usize
     }
 }
 
-// The refusal of the message or of a list, or what the entries gave.
+// The refusal of the message or of a list, which has no count, or what the entries gave.
 fn answered(listed: Listed, given: Released) -> Released
-    ensures { λ r. ⌜ answerOf r ≡ answerBy listed (answerOf given) ⌝ }
+    ensures { λ r. ⌜ r ≡ answerBy listed given ⌝ }
 {
     match listed {
         Listed::Entries {
@@ -238,8 +243,8 @@ fn answered(listed: Listed, given: Released) -> Released
     }
 }
 
-// Whether a message within these limits, none above the gate's own, is released to a subscriber under two lists of names. Message and lists share a lifetime:
-// the walk then has two, theirs and the table's.
+// Whether a message within these limits, none above the gate's own, is released to a subscriber under two lists of names, and how many rows were compared.
+// Message and lists share a lifetime: the walk then has two, theirs and the table's.
 pub fn release_grants_within<'a>(
     limits: Limits,
     message: &'a [u8],
@@ -248,7 +253,7 @@ pub fn release_grants_within<'a>(
     own: &'a [u8],
     subscriber: u64,
 ) -> Released
-    ensures { λ r. ⌜ answerOf r ≡ releaseRows (capped limits) (now (message .entry)) (grants (now (t .entry))) (now (published .entry)) (now (own .entry)) subscriber ⌝ }
+    ensures { λ r. ⌜ r ≡ countedRows (capped limits) (now (message .entry)) (grants (now (t .entry))) (now (published .entry)) (now (own .entry)) subscriber ⌝ }
 {
     let mut room = [0u8; ROOM];
     let listed = listed_in(limits, message, published, own, &mut room);
@@ -256,7 +261,7 @@ pub fn release_grants_within<'a>(
     answered(listed, given)
 }
 
-// Whether a message is released to a subscriber.
+// Whether a message is released to a subscriber, and how many rows were compared.
 pub fn release_grants<'a>(
     message: &'a [u8],
     t: &[Grant],
@@ -264,7 +269,7 @@ pub fn release_grants<'a>(
     own: &'a [u8],
     subscriber: u64,
 ) -> Released
-    ensures { λ r. ⌜ answerOf r ≡ releaseRows firstLimits (now (message .entry)) (grants (now (t .entry))) (now (published .entry)) (now (own .entry)) subscriber ⌝ }
+    ensures { λ r. ⌜ r ≡ countedRows firstLimits (now (message .entry)) (grants (now (t .entry))) (now (published .entry)) (now (own .entry)) subscriber ⌝ }
 {
     release_grants_within(ari::LIMITS, message, t, published, own, subscriber)
 }
@@ -285,7 +290,7 @@ pub fn ask_four<'a>(
     subscriber: u64,
     namespace: i64,
 ) -> Answers
-    ensures { λ r. ⌜ (checkOf (r .check) ≡ check (grants t)) × (r .granted ≡ granted (grants t) subscriber (number namespace)) × (answerOf (r .release) ≡ releaseRows firstLimits (now (message .entry)) (grants t) (now (published .entry)) (now (own .entry)) subscriber) ⌝ }
+    ensures { λ r. ⌜ (checkOf (r .check) ≡ check (grants t)) × (r .granted ≡ granted (grants t) subscriber (number namespace)) × (r .release ≡ countedRows firstLimits (now (message .entry)) (grants t) (now (published .entry)) (now (own .entry)) subscriber) ⌝ }
 {
     let rows: &[Grant] = &t;
     Answers {

@@ -1,4 +1,5 @@
-// Both forms of a grant table are asked, bytes and structs. Each line has the bytes' answer, then the structs'.
+// Both forms of a grant table are asked, bytes and structs. Each line has the bytes' answer, then the structs'. A release's yes, and its no with an entry, is
+// followed by the number of rows compared, in brackets.
 // C is message C of the rules' examples (docs/RULES.md), whose entries are 65536 and -20; `02` is refused. N is C with a name in the place of each number.
 use grant_structs::Answers;
 use grant_structs::Grant;
@@ -29,14 +30,22 @@ fn yes_or_no(y: bool) {
     }
 }
 
+fn rows(compared: u64) {
+    text(b" (");
+    io::print_decimal(1, compared);
+    text(b")");
+}
+
 fn released(r: Released) {
     match r {
-        Released::Yes => {
+        Released::Yes { compared } => {
             text(b" yes");
+            rows(compared);
         }
-        Released::No { entry } => {
+        Released::No { entry, compared } => {
             text(b" no ");
             io::print_decimal(1, entry as u64);
+            rows(compared);
         }
         Released::Refused { number, place } => {
             text(b" refused ");

@@ -36,13 +36,13 @@ module _ (b : List ℕ) (at : ℕ) where
     row-holds h e = rw (le-leb (at + 16) (length b) (omega arith)) at e
 
 -- the rows of bytes
-rows-more : (b : List ℕ) → 16 ≤ length b → rows b ≡ rowOf b ∷ rows (drop 16 b)
+pub rows-more : (b : List ℕ) → 16 ≤ length b → rows b ≡ rowOf b ∷ rows (drop 16 b)
 unfolding rows
 rows-more b h =
     let e : length b / 16 ≡ suc (length (drop 16 b) / 16) = rw length-drop (omega arith) in
     rw e
 
-rows-end : (b : List ℕ) → length b < 16 → rows b ≡ []
+pub rows-end : (b : List ℕ) → length b < 16 → rows b ≡ []
 unfolding rows
 rows-end b h = let e : length b / 16 ≡ 0 = omega arith in rw e
 

@@ -147,27 +147,17 @@ fn first_wrong(list: &[u8]) -> Wrong
     Wrong::Nowhere
 }
 
-// A place counted on from another, as far as 64 bits go.
-fn counted_on(from: usize, place: usize) -> u64
-    ensures { λ r. ⌜ r ≡ min (from + place) 18446744073709551615 ⌝ }
-{
-    if 18446744073709551615 - from < place {
-        return 18446744073709551615;
-    }
-    (from + place) as u64
-}
-
 // Test 19: each line of the two lists is well-formed.
 pub fn check_names(published: &[u8], own: &[u8]) -> Names
     ensures { λ r. ⌜ r ≡ checkNames (now (published .entry)) (now (own .entry)) ⌝ }
 {
     match first_wrong(published) {
         Wrong::At(p) => Names::Refused {
-            place: counted_on(0, p),
+            place: buffer::saturating_add(0, p as u64),
         },
         Wrong::Nowhere => match first_wrong(own) {
             Wrong::At(p) => Names::Refused {
-                place: counted_on(published.len(), p),
+                place: buffer::saturating_add(published.len() as u64, p as u64),
             },
             Wrong::Nowhere => Names::Passes,
         },

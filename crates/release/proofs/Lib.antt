@@ -2,3 +2,4 @@ pub mod Judged
 pub mod Clause
 pub mod ReleaseDemand
 pub mod Search
+pub mod Compared

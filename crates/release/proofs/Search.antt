@@ -1,13 +1,15 @@
 -- Release: entries by rows. The idea: the answer for the whole listing is that for the entries from item k on, counted from the i that passed; and
 -- while one entry's rows are searched, that for the rows from `at` on.
-use Prim.Native.Nat.{ℕ, _+_, _-_, _%_, _/_, _<_, _≤_}
+use Prim.Native.Nat.{ℕ, _+_, _-_, _*_, _%_, _/_, _<_, _≤_, min}
 use mathlib.Core.Path.{_≡_, refl, sym, _∙_, ap}
 use mathlib.Core.Bool.{Bool, true, false, not, cond, true≢false}
 use mathlib.Core.List.{List, map}
 use native.Mathlib.Omega.{arith}
 use native.Mathlib.Numerals.{add-one}
-use lib.ListN.{length, getD, drop}
-use borrow.Author.Tests.{eq-eqb, ne-eqb, not-true, not-false}
+use lib.ListN.{length, getD, drop, length-drop}
+use lib.Dec.{eqb}
+use lib.Seq.{drop-drop}
+use borrow.Author.Tests.{eq-eqb, ne-eqb, eqb-true, not-true, not-false}
 use Rattle.ari.specs.declared.Limits.{Limits}
 use Rattle.ari.specs.declared.Input.the-variants.{Message}
 use Rattle.ari.specs.Reader.{read}
@@ -33,10 +35,13 @@ use Rattle.names.proofs.Translation.{stands-in-range, stands-code}
 use Rattle.grants.specs.Grants.{Grant, some, holds, granted}
 use Rattle.grants.specs.Bytes.{rowOf, holdsAt, rows}
 use Rattle.ari.proofs.SignedLaws.{signed-word}
-use Rattle.grants.proofs.RowWays.{row-holds, some-end, some-here, some-behind}
+use Rattle.grants.proofs.RowWays.{rows-more, rows-end, row-holds, some-end, some-here, some-behind}
 use Rattle.release.specs.declared.RowSought.{RowSought}
 use Rattle.release.specs.Rows.{soughtBy}
+use Rattle.release.specs.declared.Released.{Released}
+use Rattle.release.specs.declared.Released.the-variants as released
 use Rattle.release.specs.Release.{Release, yes, no, judgeFrom, release, releaseBytes}
+use Rattle.release.specs.Compared.{rowsUpTo, comparedFor, comparedOver, within64, compared, counted, countedBytes, judgedOver}
 
 -- what a namespace stands for, as the code has it
 module _ (t : List Grant) (s : ℕ) where
@@ -50,27 +55,85 @@ module _ (t : List Grant) (s : ℕ) where
   never-granted (name p n) e = refl
   never-granted relative e = refl
 
--- The entries before item k are granted, i of them.
-pub record Passed (b t published own : List ℕ) (s i k : ℕ) : Type 0 where
+  -- and what it costs
+  number-compared : (x : Space) → InRange x → soughtBy (spaceCode x) .number ≡ true → comparedFor t s x ≡ rowsUpTo (holds s (signed (soughtBy (spaceCode x) .word))) t
+  number-compared (number z) h e = rw (signed-word z h)
+  number-compared (name p n) h e = absurd (true≢false (sym e))
+  number-compared relative h e = absurd (true≢false (sym e))
+
+  never-compared : (x : Space) → soughtBy (spaceCode x) .number ≡ false → comparedFor t s x ≡ 0
+  never-compared (number z) e = absurd (true≢false e)
+  never-compared (name p n) e = refl
+  never-compared relative e = refl
+
+-- the rows compared, at the place from which rows decide
+module _ (q : Grant → Bool) (b : List ℕ) (at : ℕ) (e : 16 * rowsUpTo q (rows b) ≡ at + 16 * rowsUpTo q (rows (drop at b))) where
+  up-to-end : length b - at < 16 → 16 * rowsUpTo q (rows b) ≡ at
+  up-to-end h = e ∙ rw (rows-end (drop at b) (rw length-drop h)) (omega arith)
+
+  module _ (h : 16 ≤ length b - at) {x : Bool} (f : x ≡ q (rowOf (drop at b))) where
+    up-to-here : x ≡ true → 16 * rowsUpTo q (rows b) ≡ at + 16
+    up-to-here g = e ∙ rw (rows-more (drop at b) (rw length-drop h), ← f, g) (omega arith)
+
+    up-to-behind : x ≡ false → 16 * rowsUpTo q (rows b) ≡ at + 16 + 16 * rowsUpTo q (rows (drop (at + 16) b))
+    up-to-behind g = e ∙ rw (rows-more (drop at b) (rw length-drop h), ← f, g, drop-drop 16 at b) (omega arith)
+
+-- 64 bits of a sum, one part after the other
+sum-within : (a b x : ℕ) {c : ℕ} → c ≡ min (a + b) 18446744073709551615 → within64 (a + (b + x)) ≡ within64 (c + x)
+sum-within a b x e = rw e (omega arith)
+
+fits-within : (a b : ℕ) {c : ℕ} → c ≡ min (a + b) 18446744073709551615 → c ≤ 18446744073709551615
+fits-within a b e = rw e (omega arith)
+
+-- No row before `at` grants the number with this word: the rows from there on decide, and those before were compared.
+pub record Before (t : List ℕ) (s w at : ℕ) : Type 0 where
+  pub inside : at ≤ length t
+  pub from-here : some (holds s (signed w)) (rows t) ≡ some (holds s (signed w)) (rows (drop at t))
+  pub behind : 16 * rowsUpTo (holds s (signed w)) (rows t) ≡ at + 16 * rowsUpTo (holds s (signed w)) (rows (drop at t))
+
+module _ (t : List ℕ) (s : ℕ) where
+  pub before-none : (w : ℕ) → Before t s w 0
+  before-none w = record { inside = omega arith; from-here = refl; behind = omega arith }
+
+  -- where the search for a word starts that may be the one found last
+  pub started : {v at : ℕ} → Before t s v at → {w : ℕ} {x : ℕ} → x ≡ cond (eqb w v) at 0 → Before t s w x
+  started {v} {at} p {w} {x} e = go (eqb w v) refl e
+    where
+      go : (y : Bool) → eqb w v ≡ y → x ≡ cond y at 0 → Before t s w x
+      go true f g = rw (g, eqb-true w v f) p
+      go false f g = rw g (before-none w)
+
+-- The entries before item k are granted, i of them, and c rows were compared for them.
+pub record Passed (b t published own : List ℕ) (s i k c : ℕ) : Type 0 where
   pub so-far : judgeFrom (granted (rows t) s) 0 (translated published own b) ≡ judgeFrom (granted (rows t) s) i (map (translate published own) (listingFrom b k))
+  pub tally : within64 (comparedOver (rows t) s (translated published own b)) ≡ within64 (c + comparedOver (rows t) s (map (translate published own) (listingFrom b k)))
+  pub fits : c ≤ 18446744073709551615
 
 -- Item k is entry i, which stands for a number with this word, and no row before `at` grants it.
-pub record Searched (b t published own : List ℕ) (s i k w at : ℕ) : Type 0 where
+pub record Searched (b t published own : List ℕ) (s i k c w at : ℕ) : Type 0 where
   pub turns : judgeFrom (granted (rows t) s) 0 (translated published own b)
       ≡ cond (some (holds s (signed w)) (rows t)) (judgeFrom (granted (rows t) s) (i + 1) (map (translate published own) (listingFrom b (k + 1)))) (no i)
-  pub from-here : some (holds s (signed w)) (rows t) ≡ some (holds s (signed w)) (rows (drop at t))
+  pub tally : within64 (comparedOver (rows t) s (translated published own b))
+      ≡ within64 (c + (rowsUpTo (holds s (signed w)) (rows t) + cond (some (holds s (signed w)) (rows t)) (comparedOver (rows t) s (map (translate published own) (listingFrom b (k + 1)))) 0))
+  pub before : Before t s w at
+
+-- an answer with its count
+judged-over : (t : List Grant) (s : ℕ) (es : List Entry) (r : Release) (c : ℕ) → judgeFrom (granted t s) 0 es ≡ r → within64 (comparedOver t s es) ≡ c → counted r c ≡ judgedOver t s es
+judged-over t s es r c e f = sym (rw (e, f))
 
 module _ {m : Limits} {b ws : List ℕ} {n : ℕ} (c : Tabled m Message b n ws) (t published own : List ℕ) (s : ℕ) where
-  pub passed-none : Passed b t published own s 0 0
-  passed-none = record { so-far = rw (from-start c) }
+  pub passed-none : Passed b t published own s 0 0 0
+  passed-none = record { so-far = rw (from-start c); tally = rw (from-start c) (omega arith); fits = omega arith }
 
-  module _ {i k : ℕ} (p : Passed b t published own s i k) where
-    pub all-passed : n ≤ k → k ≤ n → yes ≡ judgeFrom (granted (rows t) s) 0 (translated published own b)
-    all-passed h l = sym (p .so-far ∙ rw (from-end c k h l))
+  module _ {i k d : ℕ} (p : Passed b t published own s i k d) where
+    pub all-passed : n ≤ k → k ≤ n → {e : ℕ} → e ≡ d → released.Yes e ≡ judgedOver (rows t) s (translated published own b)
+    all-passed h l {e} q =
+        let fits = p .fits in
+        judged-over (rows t) s (translated published own b) yes e (p .so-far ∙ rw (from-end c k h l)) (p .tally ∙ rw (from-end c k h l, q) (omega arith))
 
     module _ (h : k < n) {r : Reference} (f : r ≡ referenceFrom b (getD ws k 0)) where
-      pub passed-over : r ≡ Nothing → Passed b t published own s i (k + 1)
-      passed-over g = record { so-far = p .so-far ∙ rw (no-reference c k h f g) }
+      pub passed-over : r ≡ Nothing → Passed b t published own s i (k + 1) d
+      passed-over g = record { so-far = p .so-far ∙ rw (no-reference c k h f g); tally = p .tally ∙ rw (no-reference c k h f g); fits = p .fits }
 
       module _ {fst aft : ℕ} {v : Namespace} (g : r ≡ To fst aft v) where
         abbrev x : Here b k fst aft v
@@ -85,52 +148,86 @@ module _ {m : Limits} {b ws : List ℕ} {n : ℕ} (c : Tabled m Message b n ws) 
             ≡ cond y (judgeFrom (granted (rows t) s) (i + 1) (map (translate published own) (listingFrom b (k + 1)))) (no i)
         this-entry z = p .so-far ∙ rw (x .listed, add-one i, z)
 
+        its-tally : {y : Bool} → granted (rows t) s for ≡ y → {e : ℕ} → comparedFor (rows t) s for ≡ e
+            → within64 (comparedOver (rows t) s (translated published own b))
+            ≡ within64 (d + (e + cond y (comparedOver (rows t) s (map (translate published own) (listingFrom b (k + 1)))) 0))
+        its-tally z q = p .tally ∙ rw (x .listed, z, q)
+
         module _ {y : RowSought} (z : y ≡ soughtBy (standsBy published own b v)) where
           is-sought : y ≡ soughtBy (spaceCode for)
           is-sought = z ∙ ap soughtBy (ap (standsBy published own b) (x .space-is) ∙ stands-code published own b (x .entry .space) (x .name-is))
 
-          pub no-number : not (y .number) ≡ true → no i ≡ judgeFrom (granted (rows t) s) 0 (translated published own b)
-          no-number e = sym (this-entry (never-granted (rows t) s for (rw (← is-sought) (not-true (y .number) e))))
+          pub no-number : not (y .number) ≡ true → {a : ℕ} → a ≡ d → released.No i a ≡ judgedOver (rows t) s (translated published own b)
+          no-number e {a} q =
+              let fits = p .fits in
+              let never = never-granted (rows t) s for (rw (← is-sought) (not-true (y .number) e)) in
+              let none = never-compared (rows t) s for (rw (← is-sought) (not-true (y .number) e)) in
+              judged-over (rows t) s (translated published own b) (no i) a (this-entry never) (its-tally never none ∙ rw q (omega arith))
 
-          pub search-rows : not (y .number) ≡ false → Searched b t published own s i k (y .word) 0
-          search-rows e =
-              let q = number-granted (rows t) s for (stands-in-range published own (x .entry .space) (x .range)) (rw (← is-sought) (not-false (y .number) e)) in
-              record { turns = this-entry (rw (← is-sought) at q); from-here = refl }
+          pub search-rows : not (y .number) ≡ false → {at : ℕ} → Before t s (y .word) at → Searched b t published own s i k d (y .word) at
+          search-rows e a =
+              let is-number : soughtBy (spaceCode for) .number ≡ true = rw (← is-sought) (not-false (y .number) e) in
+              let range = stands-in-range published own (x .entry .space) (x .range) in
+              let q = number-granted (rows t) s for range is-number in
+              let r = number-compared (rows t) s for range is-number in
+              record { turns = this-entry (rw (← is-sought) at q); tally = its-tally (rw (← is-sought) at q) (rw (← is-sought) at r); before = a }
 
-module _ {b t published own : List ℕ} {s i k w at : ℕ} (p : Searched b t published own s i k w at) where
-  pub no-row : length t - at < 16 → no i ≡ judgeFrom (granted (rows t) s) 0 (translated published own b)
-  no-row h = sym (p .turns ∙ rw (← some-end (holds s (signed w)) t at (p .from-here) h))
+module _ {b t published own : List ℕ} {s i k d w at : ℕ} (p : Searched b t published own s i k d w at) where
+  pub no-row : length t - at < 16 → {e : ℕ} → e ≡ min (d + length t / 16) 18446744073709551615 → {a : ℕ} → a ≡ e → released.No i a ≡ judgedOver (rows t) s (translated published own b)
+  no-row h {e} q {a} r =
+      let all = holds s (signed w) in
+      let none : false ≡ some all (rows t) = some-end all t at (p .before .from-here) h in
+      let behind : rowsUpTo all (rows t) ≡ length t / 16 = omega (arith, up-to-end all t at (p .before .behind) h, p .before .inside) in
+      judged-over (rows t) s (translated published own b) (no i) a (p .turns ∙ rw (← none)) (p .tally ∙ rw (← none, behind) (sum-within d (length t / 16) 0 q ∙ rw (r, q) (omega arith)))
 
   module _ (h : 16 ≤ length t - at) {y : Bool} (f : y ≡ holdsAt t at s w) where
     abbrev row : y ≡ holds s (signed w) (rowOf (drop at t))
     row = row-holds t at s w h f
 
-    pub a-row : y ≡ true → Passed b t published own s (i + 1) (k + 1)
-    a-row g = record { so-far = p .turns ∙ rw (← some-here (holds s (signed w)) t at (p .from-here) h row g) }
+    pub a-row : y ≡ true → {e : ℕ} → e ≡ min (d + (at / 16 + 1)) 18446744073709551615 → Passed b t published own s (i + 1) (k + 1) e
+    a-row g {e} q =
+        let this = holds s (signed w) in
+        let here : true ≡ some this (rows t) = some-here this t at (p .before .from-here) h row g in
+        let up-to : rowsUpTo this (rows t) ≡ at / 16 + 1 = omega (arith, up-to-here this t at (p .before .behind) h row g) in
+        let rest = comparedOver (rows t) s (map (translate published own) (listingFrom b (k + 1))) in
+        record { so-far = p .turns ∙ rw (← here); tally = p .tally ∙ rw (← here, up-to) (sum-within d (at / 16 + 1) rest q); fits = fits-within d (at / 16 + 1) q }
 
-    pub next-row : y ≡ false → Searched b t published own s i k w (at + 16)
-    next-row g = record { turns = p .turns; from-here = some-behind (holds s (signed w)) t at (p .from-here) h row g }
+    pub found-there : y ≡ true → Before t s w at
+    found-there g = p .before
 
-pub ruleset searches = (passed-none, all-passed, passed-over, no-number, search-rows, no-row, a-row, next-row)
+    pub next-row : y ≡ false → Searched b t published own s i k d w (at + 16)
+    next-row g =
+        let this = holds s (signed w) in
+        record {
+          turns = p .turns;
+          tally = p .tally;
+          before = record {
+            inside = omega arith;
+            from-here = some-behind this t at (p .before .from-here) h row g;
+            behind = up-to-behind this t at (p .before .behind) h row g;
+          };
+        }
+
+pub ruleset searches = (before-none, started, passed-none, all-passed, passed-over, no-number, search-rows, no-row, a-row, found-there, next-row)
 
 -- from the message's answer
 module _ (m : Limits) (b t published own : List ℕ) (s : ℕ) {a : Answer} (e : a ≡ answerOf (read m Message b)) where
-  pub release-refused : {r p : ℕ} → a ≡ answers.Refused r p → Release.refused r p ≡ releaseBytes m b t published own s
-  unfolding releaseBytes
+  pub release-refused : {r p : ℕ} → a ≡ answers.Refused r p → released.Refused r p ≡ countedBytes m b t published own s
+  unfolding countedBytes releaseBytes
   release-refused f = rw (refused m Message b e f)
 
   module _ {n : ℕ} (f : a ≡ Accepted n) {l : Names} (g : l ≡ checkNames published own) where
-    pub release-ill-formed : {p : ℕ} → l ≡ lists.Refused p → Release.refused 19 p ≡ releaseBytes m b t published own s
-    unfolding releaseBytes
+    pub release-ill-formed : {p : ℕ} → l ≡ lists.Refused p → released.Refused 19 p ≡ countedBytes m b t published own s
+    unfolding countedBytes releaseBytes
     release-ill-formed i = rw (accepted m Message b e f, ← g, i)
 
-    pub release-ragged : l ≡ lists.Passes → (length t % 16 ≡ 0 → ⊥) → Release.refused 18 (length t / 16) ≡ releaseBytes m b t published own s
-    unfolding releaseBytes
+    pub release-ragged : l ≡ lists.Passes → (length t % 16 ≡ 0 → ⊥) → released.Refused 18 (length t / 16) ≡ countedBytes m b t published own s
+    unfolding countedBytes releaseBytes
     release-ragged i h = rw (accepted m Message b e f, ← g, i, ne-eqb (length t % 16) 0 h)
 
-    pub release-judged : l ≡ lists.Passes → length t % 16 ≡ 0 → {x : Release} → x ≡ judgeFrom (granted (rows t) s) 0 (translated published own b)
-        → x ≡ releaseBytes m b t published own s
-    unfolding releaseBytes release
+    pub release-judged : l ≡ lists.Passes → length t % 16 ≡ 0 → {x : Released} → x ≡ judgedOver (rows t) s (translated published own b)
+        → x ≡ countedBytes m b t published own s
+    unfolding countedBytes releaseBytes release compared
     release-judged i h q = rw (accepted m Message b e f, ← g, i, eq-eqb (length t % 16) 0 h) q
 
 pub ruleset outcomes = (release-refused, release-ill-formed, release-ragged, release-judged)

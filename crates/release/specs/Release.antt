@@ -51,8 +51,8 @@ unfoldable pub releaseBytes : Limits → List ℕ → List ℕ → List ℕ → 
 releaseBytes m b t published own s =
     afterLists (read m Message b) (checkNames published own) (cond (ragged t) (refused 18 (length t / 16)) (release m b (rows t) published own s))
 
--- the code's answer in these terms
+-- the code's answer in these terms, without its count
 abbrev pub answerOf : Released → Release
-answerOf released.Yes = yes
-answerOf (released.No k) = no k
+answerOf (released.Yes c) = yes
+answerOf (released.No k c) = no k
 answerOf (released.Refused r p) = refused r p

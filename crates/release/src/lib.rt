@@ -2,13 +2,14 @@
 ghost use mathlib.Core.Path.{_≡_};
 ghost use Prim.Native.Nat.{_<_, _≤_, min};
 ghost use lib.ListN.{length};
+ghost use lib.Dec.{eqb};
+ghost use mathlib.Core.Bool.{cond};
 ghost use Rattle.ari.specs.declared.Input.the-variants as input;
 ghost use Rattle.ari.specs.Limits.{firstLimits, capped};
 ghost use Rattle.item_table.specs.Entries.{Tabled};
 ghost use Rattle.names.specs.Translated.{standsBy, translated};
-ghost use Rattle.grants.specs.Grants.{granted};
 ghost use Rattle.grants.specs.Bytes.{rows};
-ghost use Rattle.release.specs.Release.{judgeFrom, releaseBytes, answerOf};
+ghost use Rattle.release.specs.Compared.{judgedOver, countedBytes};
 ghost use Rattle.release.specs.Rows.{soughtBy};
 use ari::Input;
 use ari::Limits;
@@ -17,11 +18,11 @@ use listing::Reference;
 use names::Names;
 use reader::Answer;
 
-// Yes; no with the number of the first listed entry that is not granted; the message's own refusal, 19 with the place of a line, or 18 with the number of whole
-// rows.
+// Yes; no with the number of the first listed entry that is not granted; each with the number of rows compared. Or the message's own refusal, 19 with the place
+// of a line, or 18 with the number of whole rows.
 pub enum Released {
-    Yes,
-    No { entry: usize },
+    Yes { compared: u64 },
+    No { entry: usize, compared: u64 },
     Refused { number: u8, place: usize },
 }
 
@@ -56,6 +57,16 @@ fn sought<'a>(published: &'a [u8], own: &'a [u8], s: &[u8], n: Namespace) -> Row
     row_for(names::stands_for(published, own, s, n))
 }
 
+// Where the search for a number's row starts: no row before the place of the number that was found last grants it, so for that one it is there already.
+fn start(word: u64, found: u64, place: usize) -> usize
+    ensures { λ r. ⌜ r ≡ cond (eqb word found) place 0 ⌝ }
+{
+    if word == found {
+        return place;
+    }
+    0
+}
+
 // Entries by rows. The search is left at the first entry that no row grants: a number to the subscriber, an unknown name or a relative one to nobody.
 fn release_table<'a>(
     s: &[u8],
@@ -68,9 +79,12 @@ fn release_table<'a>(
     subscriber: u64,
 ) -> Released
     requires { ⌜ Tabled limits input.Message (now s) count (now entries) ⌝ }
-    ensures { λ r. ⌜ answerOf r ≡ judgeFrom (granted (rows (now (grants .entry))) subscriber) 0 (translated (now (published .entry)) (now (own .entry)) (now (s .entry))) ⌝ }
+    ensures { λ r. ⌜ r ≡ judgedOver (rows (now (grants .entry))) subscriber (translated (now (published .entry)) (now (own .entry)) (now (s .entry))) ⌝ }
 {
     let mut entry = 0;
+    let mut compared = 0;
+    let mut found = 0;
+    let mut place = 0;
     let mut k = 0;
     'entries: while k < count {
         let r = listing::reference_at(s, entries[k]);
@@ -86,9 +100,10 @@ fn release_table<'a>(
                     break 'entries;
                 }
                 let word = n.word;
-                let mut at = 0;
+                let mut at = start(word, found, place);
                 'rows: loop {
                     if grants.len() - at < 16 {
+                        compared = buffer::saturating_add(compared, (grants.len() / 16) as u64);
                         break 'entries;
                     }
                     if grants::holds_at(grants, at, subscriber, word) {
@@ -96,15 +111,18 @@ fn release_table<'a>(
                     }
                     at += 16;
                 }
+                compared = buffer::saturating_add(compared, (at / 16 + 1) as u64);
+                found = word;
+                place = at;
                 entry += 1;
                 k += 1;
             }
         }
     }
     if k < count {
-        return Released::No { entry };
+        return Released::No { entry, compared };
     }
-    Released::Yes
+    Released::Yes { compared }
 }
 
 fn release_in<'a>(
@@ -117,7 +135,7 @@ fn release_in<'a>(
     entries: &mut [u64],
 ) -> Released
     requires { ⌜ (min (limits .items) (length (now s)) ≤ length (now entries)) × (limits .bytes < 65536) × (limits .containers < 256) ⌝ }
-    ensures { λ r. ⌜ answerOf r ≡ releaseBytes limits (now (s .entry)) (now (grants .entry)) (now (published .entry)) (now (own .entry)) subscriber ⌝ }
+    ensures { λ r. ⌜ r ≡ countedBytes limits (now (s .entry)) (now (grants .entry)) (now (published .entry)) (now (own .entry)) subscriber ⌝ }
 {
     match reader::keep(Input::Message, limits, s, entries) {
         Answer::Refused { number, place } => Released::Refused { number, place },
@@ -158,7 +176,7 @@ fn release_small<'a>(
     subscriber: u64,
 ) -> Released
     requires { ⌜ (length (now s) ≤ 128) × (limits .bytes < 65536) × (limits .containers < 256) ⌝ }
-    ensures { λ r. ⌜ answerOf r ≡ releaseBytes limits (now (s .entry)) (now (grants .entry)) (now (published .entry)) (now (own .entry)) subscriber ⌝ }
+    ensures { λ r. ⌜ r ≡ countedBytes limits (now (s .entry)) (now (grants .entry)) (now (published .entry)) (now (own .entry)) subscriber ⌝ }
 {
     let mut entries = [0u64; 128];
     release_in(s, limits, grants, published, own, subscriber, &mut entries)
@@ -173,7 +191,7 @@ pub fn release_within<'a>(
     own: &'a [u8],
     subscriber: u64,
 ) -> Released
-    ensures { λ r. ⌜ answerOf r ≡ releaseBytes (capped limits) (now (s .entry)) (now (grants .entry)) (now (published .entry)) (now (own .entry)) subscriber ⌝ }
+    ensures { λ r. ⌜ r ≡ countedBytes (capped limits) (now (s .entry)) (now (grants .entry)) (now (published .entry)) (now (own .entry)) subscriber ⌝ }
 {
     let most = ari::cap(limits);
     if s.len() <= 128 {
@@ -191,7 +209,7 @@ pub fn release_message<'a>(
     own: &'a [u8],
     subscriber: u64,
 ) -> Released
-    ensures { λ r. ⌜ answerOf r ≡ releaseBytes firstLimits (now (s .entry)) (now (grants .entry)) (now (published .entry)) (now (own .entry)) subscriber ⌝ }
+    ensures { λ r. ⌜ r ≡ countedBytes firstLimits (now (s .entry)) (now (grants .entry)) (now (published .entry)) (now (own .entry)) subscriber ⌝ }
 {
     release_within(ari::LIMITS, s, grants, published, own, subscriber)
 }

@@ -11,6 +11,7 @@ ghost use Rattle.grants.specs.Bytes.{checkBytes};
 ghost use Rattle.grants.specs.Verdict.{checkOf};
 ghost use Rattle.listing.specs.Answers.{listOf, writtenOf as listedIn};
 ghost use Rattle.release.specs.Release.{releaseBytes, answerOf as releasedOf};
+ghost use Rattle.release.specs.Compared.{countAfter, countedBytes};
 ghost use Rattle.text.specs.Answer.{writeText, readText, lent};
 ghost use Rattle.text_write.specs.Written.{writtenOf, roomAfter};
 ghost use Rattle.surfbodkin.specs.Code.{refusalCode, countCode, checkCode, listCode, tableCode, releaseCode, textCode, fedCode, OpensAs, FeedsAs, ClosesAs, namesCode};
@@ -146,9 +147,26 @@ fn release_code(a: Released) -> u64
     ensures { λ r. ⌜ r ≡ releaseCode (releasedOf a) ⌝ }
 {
     match a {
-        Released::Yes => 0,
-        Released::No { entry } => refusal_code(255, entry as u64),
+        Released::Yes { compared: _ } => 0,
+        Released::No { entry, compared: _ } => refusal_code(255, entry as u64),
         Released::Refused { number, place } => refusal_code(number, place as u64),
+    }
+}
+
+// The rows compared, if the answer has them.
+fn put_compared(a: Released, compared: &mut u64)
+    ensures { λ _. ⌜ now (compared .exit) ≡ countAfter a (now (compared .entry)) ⌝ }
+{
+    match a {
+        Released::Yes { compared: c } => *compared = c,
+        Released::No {
+            entry: _,
+            compared: c,
+        } => *compared = c,
+        Released::Refused {
+            number: _,
+            place: _,
+        } => {}
     }
 }
 
@@ -159,10 +177,14 @@ pub extern "C" fn surfbodkin_release<'a>(
     published: &'a [u8],
     own: &'a [u8],
     subscriber: u64,
+    compared: &mut u64,
 ) -> u64
     ensures { λ r. ⌜ r ≡ releaseCode (releaseBytes firstLimits (now (message .entry)) (now (table .entry)) (now (published .entry)) (now (own .entry)) subscriber) ⌝ }
+    ensures { λ _. ⌜ now (compared .exit) ≡ countAfter (countedBytes firstLimits (now (message .entry)) (now (table .entry)) (now (published .entry)) (now (own .entry)) subscriber) (now (compared .entry)) ⌝ }
 {
-    release_code(release::release_message(message, table, published, own, subscriber))
+    let a = release::release_message(message, table, published, own, subscriber);
+    put_compared(a, compared);
+    release_code(a)
 }
 
 fn text_code(a: Written) -> u64

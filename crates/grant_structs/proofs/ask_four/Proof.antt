@@ -15,7 +15,7 @@ use Rattle.grants.specs.Verdict.{checkOf}
 use Rattle.grants.proofs.Verdict as C
 use Rattle.grants.proofs.Verdict.Laws as C′
 use Rattle.release.specs.declared.Released.{Released}
-use Rattle.release.specs.Release.{releaseRows, answerOf}
+use Rattle.release.specs.Compared.{countedRows}
 use Rattle.release.proofs.Released as S
 use Rattle.release.proofs.Released.Laws as S′
 use Rattle.grant_structs.specs.declared.Grant.{Grant}
@@ -93,7 +93,7 @@ module _ {M : Type 1} (𝓤 : URA M) (H : Heap 𝓤) (A : Atoms 𝓤) (W : Given
   Found f = f ≡ grantedBy (grants xs) s (number z)
 
   abbrev Judged : Released → Type 0
-  Judged r = answerOf r ≡ releaseRows firstLimits (w .now) (grants xs) (p .now) (o .now) s
+  Judged r = r ≡ countedRows firstLimits (w .now) (grants xs) (p .now) (o .now) s
 
   exits : (r : Answers) → Sound r → Checked (r .check) × Found (r .granted) × Judged (r .release) → ent 𝓤 (⋆ 𝓤 H A (‵ (flft κ q) ∷ [])) (Post (val r))
   exits r ir e =

@@ -1,43 +1,50 @@
--- A walk of the MIR, by hand. Each turn passes the list on to `rows_for` and `wanted`, and the table to `some_row`, of which the proof knows only their contracts.
--- The invariant at i: the entries from i on decide. A turn whose entry is not granted leaves by the label.
-use Rattle.grant_structs.proofs.Walk.{_≡_, refl, sym, _∙_, ap, subst, ℕ, suc, _<_, _≤_, _+_, _/_, _^_, add-one, arith, Bool, false, List, [], _∷_, ltb→lt, nltb→le, length, take, URA, fullShare, Ty, named, imm, w64, tyInt, tyBool}
+-- A walk of the MIR, by hand. Each turn passes the list on to `rows_for` and `wanted`, the table to `first_row`, and the row at which that ended to
+-- `compared_rows`, whose count `saturating_add` adds; of all the proof knows only their contracts. The invariant at i and c: the entries from i on decide, and
+-- what they cost is added to c. A turn whose entry is not granted leaves by the label.
+use Rattle.grant_structs.proofs.Walk.{_≡_, refl, _∙_, ap, subst, ℕ, suc, _<_, _≤_, _+_, _/_, _^_, add-one, arith, Bool, false, List, [], _∷_, ltb→lt, nltb→le, length, URA, fullShare, Ty, named, imm, w64, tyInt, tyBool}
 use Rattle.grant_structs.proofs.Walk.{tyRef, Val, vint, SProp, ent, emp, id⊢, Lft, Share, ftrue, fat, froom, fdies, flft, Memory, Routine, Heap, Out, Env, afterSeq, afterBlock, afterTurn, atReturn, Wp, WpFn, Tables, Atoms, Fun}
 use Rattle.grant_structs.proofs.Walk.{factI, givenOf, tables, tablesOf, Given, Item, Sq, ‵, raw, _⊛_, ⋆, anyQ, atRet, runs, _$_, _∵_, !, qed, by, move, keep, drop, use0, use2, split, join, rewrite, fsplit, fjoin, frame, done}
 use Rattle.grant_structs.proofs.Walk.{whole, sub, look-in, look, store, init, forget, stop, fld, from, load, lit, false-lit, of-opd, bin, and-then, no-more, assigns, assigns-last, land, first, blocks, returns, enter, alloc1}
-use Rattle.grant_structs.proofs.Walk.{alloc0, params1, pass1, pass0, free1, free0, exec, Below, again, loops, fmOf, owns, Is, uint-vals, uint-tells, uint-lawful, bool-lawful, u8, u64, usize, bool, RefT, Room, sliceTy, sliceVal}
+use Rattle.grant_structs.proofs.Walk.{alloc0, params1, pass1, pass0, free1, free0, exec, Below, again, loops, fmOf, owns, Is, uint-vals, uint-tells, uint-lawful, u8, u64, usize, RefT, Room, sliceTy, sliceVal}
 use Rattle.grant_structs.proofs.Walk.{ShrSlice, slice-vals, shr-slice-tells, only, nothing, Contract, Triple, calls-at, Vals, onEntry, Meets, tripleOf, entered, cited, says, needs, walkOf}
-use mathlib.Core.Bool.{not}
-use types.Run.{un}
-use borrow.Author.Tests.{not-false}
+use Prim.Native.Nat.{min}
+use lib.Dec.{leb}
 use denote.Memory.{pointee}
 use denote.Struct.Laws as LL
 use denote.Enum.Laws as EL
-use Rattle.grants.specs.Grants.{some}
 use Rattle.release.specs.declared.Released.{Released}
-use Rattle.release.specs.Release.{answerOf}
+use Rattle.release.specs.Compared.{counted}
 use Rattle.release.proofs.Released as S
 use Rattle.release.proofs.Released.Laws as S′
 use Rattle.grant_structs.specs.declared.Grant.{Grant}
-use Rattle.grant_structs.specs.Structs.{grantOf, grants, meetsBy, wantedAt, rowsFor, grantedAt, judgedFrom, heldAt}
+use Rattle.grant_structs.specs.Structs.{grants, comparedBy, wantedAt, rowsFor, grantedAt, costAt, judgedCounted, heldAt}
 use Rattle.grant_structs.proofs.Grant as T
 use Rattle.grant_structs.proofs.Grant.Laws as T′
 use Rattle.grant_structs.proofs.Over.{R, low, slice, Own, Bytes, own-word, copies-rows, copies-bytes, answered, answered-κ}
 use Rattle.grant_structs.proofs.Leaving.{Gone, leaves, meets-by, of-κκ}
-use Rattle.grant_structs.proofs.Turn.{tests, breaks, Upto, nearer, nearer-wf, is-false}
-use Rattle.grant_structs.proofs.Entries.{few-rows, looked-through, Unjudged, at-first, passed, held, all-passed}
-use Rattle.grant_structs.proofs.Asking.{SomeRow, to, asked, gives}
+use Rattle.grant_structs.proofs.Turn.{tests, breaks, Upto, nearer, nearer-wf, is-true, is-false}
+use Rattle.grant_structs.proofs.Entries.{few-rows, not-granted, is-granted, costs, Unjudged, at-first, passed, held, all-passed}
+use Rattle.grant_structs.proofs.Asking.{FirstRow, to, asked, gives}
 use Rattle.grant_structs.proofs.wanted as wanted
 use Rattle.grant_structs.proofs.wanted.Symbol as wanted-def
 use Rattle.grant_structs.proofs.wanted.Symbol.{name as #grant-structs·wanted}
 use Rattle.grant_structs.proofs.wanted.Met as wanted-thm
-use Rattle.grant_structs.proofs.some_row as some-row
-use Rattle.grant_structs.proofs.some_row.Symbol as some-row-def
-use Rattle.grant_structs.proofs.some_row.Symbol.{name as #grant-structs·some-row}
-use Rattle.grant_structs.proofs.some_row.Met as some-row-thm
+use Rattle.grant_structs.proofs.first_row as first-row
+use Rattle.grant_structs.proofs.first_row.Symbol as first-row-def
+use Rattle.grant_structs.proofs.first_row.Symbol.{name as #grant-structs·first-row}
+use Rattle.grant_structs.proofs.first_row.Met as first-row-thm
 use Rattle.grant_structs.proofs.rows_for as rows-for
 use Rattle.grant_structs.proofs.rows_for.Symbol as rows-for-def
 use Rattle.grant_structs.proofs.rows_for.Symbol.{name as #grant-structs·rows-for}
 use Rattle.grant_structs.proofs.rows_for.Met as rows-for-thm
+use Rattle.grant_structs.proofs.compared_rows as compared-rows
+use Rattle.grant_structs.proofs.compared_rows.Symbol as compared-rows-def
+use Rattle.grant_structs.proofs.compared_rows.Symbol.{name as #grant-structs·compared-rows}
+use Rattle.grant_structs.proofs.compared_rows.Met as compared-rows-thm
+use Rattle.buffer.proofs.saturating_add as sum
+use Rattle.buffer.proofs.saturating_add.Symbol as sum-def
+use Rattle.buffer.proofs.saturating_add.Symbol.{name as #buffer·saturating-add}
+use Rattle.buffer.proofs.saturating_add.Met as sum-thm
 use Rattle.grant_structs.proofs.judged as judged
 use Rattle.grant_structs.proofs.judged.Symbol as judged-def
 use Rattle.grant_structs.proofs.judged.Symbol.{name as #grant-structs·judged}
@@ -69,6 +76,12 @@ module _ {M : Type 1} (𝓤 : URA M) (H : Heap 𝓤) (A : Atoms 𝓤) (mem : Mem
   abbrev RowsFor : Contract 𝓤
   RowsFor = tripleOf 𝓤 H A rows-for.signature (rows-for.spec 𝓤 H A mem run)
 
+  abbrev ComparedRows : Contract 𝓤
+  ComparedRows = tripleOf 𝓤 H A compared-rows.signature (compared-rows.spec 𝓤 H A mem run)
+
+  abbrev Sum : Contract 𝓤
+  Sum = tripleOf 𝓤 H A sum.signature (sum.spec 𝓤 H A mem run)
+
   abbrev Judged : Contract 𝓤
   Judged = tripleOf 𝓤 H A judged.signature (judged.spec 𝓤 H A mem run)
 
@@ -89,18 +102,35 @@ module _ {M : Type 1} (𝓤 : URA M) (H : Heap 𝓤) (A : Atoms 𝓤) (mem : Mem
       asked-rows : ent 𝓤 (⋆ 𝓤 H A (‵ (flft κ q) ∷ ‵ (Bytes κ w) ∷ [])) (RowsFor .pre to-rows)
       asked-rows = asked-wanted
 
-  module _ (i n : ℕ) where
-    abbrev to-judged : Judged .Ghost
-    to-judged = ((tt, tt, tt, (i, (n, tt)), (vint w64 i ∷ [], (vint w64 n ∷ [], tt))), tt)
+  -- two numbers: a row and how many there are, or what was compared and how many more
+  module _ (x y : ℕ) where
+    abbrev to-compared : ComparedRows .Ghost
+    to-compared = ((tt, tt, tt, (x, (y, tt)), (vint w64 x ∷ [], (vint w64 y ∷ [], tt))), tt)
 
-    asked-judged : Given 𝓤 H A → i < 2 ^ 64 → n < 2 ^ 64 → ent 𝓤 (emp 𝓤) (Judged .pre to-judged)
-    asked-judged W gi gn = qed W [] ∵ nothing ! $ own-word ! n gn $ fjoin ! $ own-word ! i gi $ fjoin ! $ nothing ! $ join ! $ frame ! $ done !
+    abbrev to-sum : Sum .Ghost
+    to-sum = ((tt, tt, tt, (x, (y, tt)), (vint w64 x ∷ [], (vint w64 y ∷ [], tt))), tt)
+
+    module _ (W : Given 𝓤 H A) (gx : x < 2 ^ 64) (gy : y < 2 ^ 64) where
+      asked-compared : ent 𝓤 (emp 𝓤) (ComparedRows .pre to-compared)
+      asked-compared = qed W [] ∵ nothing ! $ own-word ! y gy $ fjoin ! $ own-word ! x gx $ fjoin ! $ nothing ! $ join ! $ frame ! $ done !
+
+      asked-sum : ent 𝓤 (emp 𝓤) (Sum .pre to-sum)
+      asked-sum = asked-compared
+
+  module _ (i n c : ℕ) where
+    abbrev to-judged : Judged .Ghost
+    to-judged = ((tt, tt, tt, (i, (n, (c, tt))), (vint w64 i ∷ [], (vint w64 n ∷ [], (vint w64 c ∷ [], tt)))), tt)
+
+    asked-judged : Given 𝓤 H A → i < 2 ^ 64 → n < 2 ^ 64 → c < 2 ^ 64 → ent 𝓤 (emp 𝓤) (Judged .pre to-judged)
+    asked-judged W gi gn gc = qed W [] ∵ nothing ! $ own-word ! c gc $ fjoin ! $ own-word ! n gn $ fjoin ! $ own-word ! i gi $ fjoin ! $ nothing ! $ join ! $ frame ! $ done !
 
   -- what the proof knows of them
   pub record Known (𝓣 : Tables 𝓤 H) : Type 1 where
     pub of-wanted : Triple 𝓤 (𝓣 .C #grant-structs·wanted) Wanted
-    pub of-row : Triple 𝓤 (𝓣 .C #grant-structs·some-row) (SomeRow 𝓤 H A mem run)
+    pub of-row : Triple 𝓤 (𝓣 .C #grant-structs·first-row) (FirstRow 𝓤 H A mem run)
     pub of-rows : Triple 𝓤 (𝓣 .C #grant-structs·rows-for) RowsFor
+    pub of-compared : Triple 𝓤 (𝓣 .C #grant-structs·compared-rows) ComparedRows
+    pub of-sum : Triple 𝓤 (𝓣 .C #buffer·saturating-add) Sum
     pub of-judged : Triple 𝓤 (𝓣 .C #grant-structs·judged) Judged
 
 module _ {M : Type 1} (𝓤 : URA M) (H : Heap 𝓤) (A : Atoms 𝓤) (W : Given 𝓤 H A) (mem : Memory → SProp 𝓤) (run : Routine → Fun 𝓤) (κ κ′ : Lft) (q q′ : Share) (w : RefT (List ℕ)) (n : ℕ) (a : RefT (List Grant)) (s : ℕ)
@@ -129,89 +159,110 @@ module _ {M : Type 1} (𝓤 : URA M) (H : Heap 𝓤) (A : Atoms 𝓤) (W : Given
   abbrev ok : ℕ → Bool
   ok = grantedAt (grants ys) s ws
 
-  abbrev P : ℕ → Type 0
-  P = Unjudged ok n
+  abbrev cost : ℕ → ℕ
+  cost = costAt (grants ys) s ws
 
-  exits : (c : Released) → Sound c → answerOf c ≡ judgedFrom ok 0 n → ent 𝓤 (⋆ 𝓤 H A (‵ (flft κ q) ∷ ‵ (flft κ′ q′) ∷ [])) (Post (val c))
+  abbrev answer : Released
+  answer = judgedCounted (grants ys) s ws n
+
+  -- some count goes with entry i
+  abbrev P : ℕ → Type 0
+  P i = (c : ℕ) × Unjudged ok cost n i c
+
+  exits : (c : Released) → Sound c → c ≡ answer → ent 𝓤 (⋆ 𝓤 H A (‵ (flft κ q) ∷ ‵ (flft κ′ q′) ∷ [])) (Post (val c))
   exits c ic e =
       leaves 𝓤 H A W release-entries.ended (release-entries.clauses 𝓤 H A mem run) (((κ, (κ′, tt)), (q, (q′, tt)), tt, (w, (n, (a, (s, tt)))), at), tt) (val c) c (tt, (tt, (tt, (tt, tt)))) _ (of-κκ 𝓤 H A W κ κ′ q q′) (EL.makes S.the-type S′.the-plain 𝓤 H A c _ ic) (factI 𝓤 _ (emp 𝓤) e)
 
-  module _ (𝓣 : Tables 𝓤 H) (known : Known 𝓤 H A mem run 𝓣) (l₀ l₁ l₂ l₃ l₄ l₅ l₆ l₇ l₈ l₉ l₁₀ : ℕ) where
+  module _ (𝓣 : Tables 𝓤 H) (known : Known 𝓤 H A mem run 𝓣) (l₀ l₁ l₂ l₃ l₄ l₅ l₆ l₇ l₈ l₉ l₁₀ l₁₁ l₁₂ : ℕ) where
     abbrev En : Env 𝓤 H
-    En = (S′.mir, l₀) ∷ (bytes, l₁) ∷ (word, l₂) ∷ (slice (named 1), l₃) ∷ (word, l₄) ∷ (word, l₅) ∷ (tyBool, l₆) ∷ (tyBool, l₇) ∷ (word, l₈) ∷ (word, l₉) ∷ (T′.mir, l₁₀) ∷ []
+    En = (S′.mir, l₀) ∷ (bytes, l₁) ∷ (word, l₂) ∷ (slice (named 1), l₃) ∷ (word, l₄) ∷ (word, l₅) ∷ (word, l₆) ∷ (word, l₇) ∷ (word, l₈) ∷ (tyBool, l₉) ∷ (word, l₁₀) ∷ (T′.mir, l₁₁) ∷ (word, l₁₂) ∷ []
 
-    abbrev At : ℕ → List (Item 𝓤)
-    At i = ‵ (flft κ q) ∷ ‵ (Bytes κ w) ∷ ‵ (flft κ′ q′) ∷ ‵ (Own κ′ a)
-        ∷ ‵ (froom T′.mir l₁₀ 0) ∷ ‵ (fdies T′.mir l₁₀) ∷ ‵ (froom word l₉ 0) ∷ ‵ (fdies word l₉) ∷ ‵ (froom word l₈ 0) ∷ ‵ (fdies word l₈) ∷ ‵ (froom tyBool l₇ 0) ∷ ‵ (fdies tyBool l₇) ∷ ‵ (froom tyBool l₆ 0) ∷ ‵ (fdies tyBool l₆)
-        ∷ ‵ (fat fullShare word l₅ 0 (vint w64 i)) ∷ ‵ (fdies word l₅) ∷ ‵ (fat fullShare word l₄ 0 (vint w64 s)) ∷ ‵ (fdies word l₄)
-        ∷ ‵ (fat fullShare (slice (named 1)) l₃ 0 v′) ∷ ‵ (fdies (slice (named 1)) l₃) ∷ ‵ (fat fullShare word l₂ 0 (vint w64 n)) ∷ ‵ (fdies word l₂) ∷ ‵ (fat fullShare bytes l₁ 0 v) ∷ ‵ (fdies bytes l₁) ∷ ‵ (froom S′.mir l₀ 0) ∷ ‵ (fdies S′.mir l₀) ∷ []
+    abbrev At : ℕ → ℕ → List (Item 𝓤)
+    At i c = ‵ (flft κ q) ∷ ‵ (Bytes κ w) ∷ ‵ (flft κ′ q′) ∷ ‵ (Own κ′ a)
+        ∷ ‵ (froom word l₁₂ 0) ∷ ‵ (fdies word l₁₂) ∷ ‵ (froom T′.mir l₁₁ 0) ∷ ‵ (fdies T′.mir l₁₁) ∷ ‵ (froom word l₁₀ 0) ∷ ‵ (fdies word l₁₀) ∷ ‵ (froom tyBool l₉ 0) ∷ ‵ (fdies tyBool l₉)
+        ∷ ‵ (froom word l₈ 0) ∷ ‵ (fdies word l₈) ∷ ‵ (froom word l₇ 0) ∷ ‵ (fdies word l₇) ∷ ‵ (fat fullShare word l₆ 0 (vint w64 i)) ∷ ‵ (fdies word l₆) ∷ ‵ (fat fullShare word l₅ 0 (vint w64 c)) ∷ ‵ (fdies word l₅)
+        ∷ ‵ (fat fullShare word l₄ 0 (vint w64 s)) ∷ ‵ (fdies word l₄) ∷ ‵ (fat fullShare (slice (named 1)) l₃ 0 v′) ∷ ‵ (fdies (slice (named 1)) l₃)
+        ∷ ‵ (fat fullShare word l₂ 0 (vint w64 n)) ∷ ‵ (fdies word l₂) ∷ ‵ (fat fullShare bytes l₁ 0 v) ∷ ‵ (fdies bytes l₁) ∷ ‵ (froom S′.mir l₀ 0) ∷ ‵ (fdies S′.mir l₀) ∷ []
 
-    -- when the loop is left, at i, the rest of the body runs
-    rest : (i : ℕ) → i ≤ n → heldAt i n ≡ judgedFrom ok 0 n → Sq W (At i) (runs (𝓣 .C) (𝓣 .Λ) En piece.t-3 (atRet En Post))
-    rest i le e =
+    -- when the loop is left, at i and c, the rest of the body runs
+    rest : (i c : ℕ) → i ≤ n → c < 2 ^ 64 → counted (heldAt i n) c ≡ answer → Sq W (At i c) (runs (𝓣 .C) (𝓣 .Λ) En piece.t-4 (atRet En Post))
+    rest i c le gc e =
         let gi : i < 2 ^ 64 = omega (arith, few) in
-        use0 W (raw (Judged 𝓤 H A mem run .pre (to-judged 𝓤 H A mem run i n))) (asked-judged 𝓤 H A mem run i n W gi few) $
-        calls-at ! (fmOf 𝓤 H (W .laws) 𝓣) (Judged 𝓤 H A mem run) (known .of-judged) (to-judged 𝓤 H A mem run i n)
-        (and-then ! (load ! (from ! (stop !)) (look ! 15 refl)) (and-then ! (load ! (from ! (stop !)) (look ! 21 refl)) (no-more !))) (λ u.
-        answered ! tt S.the-row u judged.ended (to-judged 𝓤 H A mem run i n .0) (λ c. answerOf c ≡ heldAt i n) (id⊢ 𝓤 _) (λ c e′ is.
-        let tells : u ∷ [] ≡ val c ∷ [] = EL.tells S.the-type S′.the-laws c (u ∷ []) is in
-        land ! (from ! (stop !)) (init ! 24 refl (EL.lawful S.the-type S′.the-laws 𝓤 H A W tt .typed c _ is .0)) $ rewrite ! 24 (λ (x : Val). ‵ (fat fullShare S′.mir l₀ 0 x)) (ap only tells) refl $
-        returns ! (look ! 24 refl) $ forget ! 14 refl $ forget ! 16 refl $ forget ! 18 refl $ forget ! 20 refl $ forget ! 22 refl $ forget ! 24 refl $
-        move ! (24 ∷ 25 ∷ []) $ free1 ! $ move ! (22 ∷ 23 ∷ []) $ free1 ! $ move ! (20 ∷ 21 ∷ []) $ free1 ! $ move ! (18 ∷ 19 ∷ []) $ free1 ! $ move ! (16 ∷ 17 ∷ []) $ free1 ! $ move ! (14 ∷ 15 ∷ []) $ free1 ! $
-        move ! (12 ∷ 13 ∷ []) $ free1 ! $ move ! (10 ∷ 11 ∷ []) $ free1 ! $ move ! (8 ∷ 9 ∷ []) $ free1 ! $ move ! (6 ∷ 7 ∷ []) $ free1 ! $ move ! (4 ∷ 5 ∷ []) $ free1 ! $ free0 ! $
-        keep ! (0 ∷ 2 ∷ []) $ by ! (exits c (subst (Is S.the-row c) tells is) (e′ ∙ e))))
+        use0 W (raw (Judged 𝓤 H A mem run .pre (to-judged 𝓤 H A mem run i n c))) (asked-judged 𝓤 H A mem run i n c W gi few gc) $
+        calls-at ! (fmOf 𝓤 H (W .laws) 𝓣) (Judged 𝓤 H A mem run) (known .of-judged) (to-judged 𝓤 H A mem run i n c)
+        (and-then ! (load ! (from ! (stop !)) (look ! 17 refl)) (and-then ! (load ! (from ! (stop !)) (look ! 25 refl)) (and-then ! (load ! (from ! (stop !)) (look ! 19 refl)) (no-more !)))) (λ u.
+        answered ! tt S.the-row u judged.ended (to-judged 𝓤 H A mem run i n c .0) (λ r. r ≡ counted (heldAt i n) c) (id⊢ 𝓤 _) (λ r e′ is.
+        let tells : u ∷ [] ≡ val r ∷ [] = EL.tells S.the-type S′.the-laws r (u ∷ []) is in
+        land ! (from ! (stop !)) (init ! 28 refl (EL.lawful S.the-type S′.the-laws 𝓤 H A W tt .typed r _ is .0)) $ rewrite ! 28 (λ (x : Val). ‵ (fat fullShare S′.mir l₀ 0 x)) (ap only tells) refl $
+        returns ! (look ! 28 refl) $ forget ! 16 refl $ forget ! 18 refl $ forget ! 20 refl $ forget ! 22 refl $ forget ! 24 refl $ forget ! 26 refl $ forget ! 28 refl $
+        move ! (28 ∷ 29 ∷ []) $ free1 ! $ move ! (26 ∷ 27 ∷ []) $ free1 ! $ move ! (24 ∷ 25 ∷ []) $ free1 ! $ move ! (22 ∷ 23 ∷ []) $ free1 ! $ move ! (20 ∷ 21 ∷ []) $ free1 ! $ move ! (18 ∷ 19 ∷ []) $ free1 ! $ move ! (16 ∷ 17 ∷ []) $ free1 ! $
+        move ! (14 ∷ 15 ∷ []) $ free1 ! $ move ! (12 ∷ 13 ∷ []) $ free1 ! $ move ! (10 ∷ 11 ∷ []) $ free1 ! $ move ! (8 ∷ 9 ∷ []) $ free1 ! $ move ! (6 ∷ 7 ∷ []) $ free1 ! $ move ! (4 ∷ 5 ∷ []) $ free1 ! $ free0 ! $
+        keep ! (0 ∷ 2 ∷ []) $ by ! (exits r (subst (Is S.the-row r) tells is) (e′ ∙ e))))
 
     abbrev Inv : Upto n P → List (Item 𝓤)
-    Inv x = At (x .0)
+    Inv x = At (x .0) (x .1 .1 .0)
 
     abbrev Left : Out → SProp 𝓤
-    Left = afterBlock 𝓤 H (afterSeq 𝓤 H (Wp 𝓤 H (𝓣 .C) (𝓣 .Λ) En piece.t-3 (atReturn 𝓤 H En Post)) (atReturn 𝓤 H En Post))
+    Left = afterBlock 𝓤 H (afterSeq 𝓤 H (Wp 𝓤 H (𝓣 .C) (𝓣 .Λ) En piece.t-4 (atReturn 𝓤 H En Post)) (atReturn 𝓤 H En Post))
 
     turn : (x : Upto n P) → Sq W (Inv x) (runs (𝓣 .C) (𝓣 .Λ) En piece.turn-1 (anyQ (afterTurn 𝓤 H (Below 𝓤 H A (nearer n P) Inv x) Left)))
     unfolding afterTurn
-    turn (i, (le, p)) =
-        assigns ! (bin ! (load ! (from ! (stop !)) (look ! 14 refl)) (load ! (from ! (stop !)) (look ! 20 refl)) tt) (from ! (stop !)) (init ! 10 refl (tt, tt)) $
+    turn (i, (le, (c, p))) =
+        let gc : c < 2 ^ 64 = omega (arith, p .fits) in
+        assigns ! (bin ! (load ! (from ! (stop !)) (look ! 16 refl)) (load ! (from ! (stop !)) (look ! 24 refl)) tt) (from ! (stop !)) (init ! 10 refl (tt, tt)) $
         tests ! (load ! (from ! (stop !)) (look ! 10 refl)) (λ h.
         let l : i < n = ltb→lt i n h in
         let in-list : i < length ws / 24 = omega arith in
         let gi : i < 2 ^ 64 = omega (arith, few) in
         let next : i + 1 < 2 ^ 64 = omega (arith, few) in
-        assigns ! (of-opd ! (load ! (from ! (fld ! refl (stop !))) (look-in ! 18 (sub ! 1 refl (whole !))))) (from ! (stop !)) (init ! 6 refl (tt, record { fits = gn .0 })) $
+        assigns ! (of-opd ! (load ! (from ! (fld ! refl (stop !))) (look-in ! 22 (sub ! 1 refl (whole !))))) (from ! (stop !)) (init ! 8 refl (tt, record { fits = gn .0 })) $
         -- the list is passed on, a copy of what it owns beside its token, which comes back
         move ! (1 ∷ []) $ copies-bytes ! w $ move ! (2 ∷ 0 ∷ []) $
         use2 W (raw (RowsFor 𝓤 H A mem run .pre (to-rows 𝓤 H A mem run κ q w i m))) (asked-rows 𝓤 H A mem run κ q w i m W gi (gn .0) in-list) $
         calls-at ! (fmOf 𝓤 H (W .laws) 𝓣) (RowsFor 𝓤 H A mem run) (known .of-rows) (to-rows 𝓤 H A mem run κ q w i m)
-        (and-then ! (load ! (from ! (stop !)) (look ! 22 refl)) (and-then ! (load ! (from ! (stop !)) (look ! 14 refl)) (and-then ! (load ! (from ! (stop !)) (look ! 6 refl)) (no-more !)))) (λ u₀.
+        (and-then ! (load ! (from ! (stop !)) (look ! 26 refl)) (and-then ! (load ! (from ! (stop !)) (look ! 16 refl)) (and-then ! (load ! (from ! (stop !)) (look ! 8 refl)) (no-more !)))) (λ u₀.
         answered-κ ! tt usize u₀ rows-for.ended (to-rows 𝓤 H A mem run κ q w i m .0) (λ r. r ≡ rowsFor ws i m) (id⊢ 𝓤 _) (λ k ek is₀.
-        land ! (from ! (stop !)) (init ! 8 refl (uint-lawful 𝓤 H A W w64 .typed k _ is₀ .0)) $ rewrite ! 8 (λ (x : Val). ‵ (fat fullShare word l₈ 0 x)) (ap only (is₀ .0)) refl $
+        land ! (from ! (stop !)) (init ! 14 refl (uint-lawful 𝓤 H A W w64 .typed k _ is₀ .0)) $ rewrite ! 14 (λ (x : Val). ‵ (fat fullShare word l₇ 0 x)) (ap only (is₀ .0)) refl $
         move ! (1 ∷ []) $ copies-bytes ! w $ move ! (2 ∷ 0 ∷ []) $
         use2 W (raw (Wanted 𝓤 H A mem run .pre (to-wanted 𝓤 H A mem run κ q w i s))) (asked-wanted 𝓤 H A mem run κ q w i s W gi gs in-list) $
         calls-at ! (fmOf 𝓤 H (W .laws) 𝓣) (Wanted 𝓤 H A mem run) (known .of-wanted) (to-wanted 𝓤 H A mem run κ q w i s)
-        (and-then ! (load ! (from ! (stop !)) (look ! 22 refl)) (and-then ! (load ! (from ! (stop !)) (look ! 14 refl)) (and-then ! (load ! (from ! (stop !)) (look ! 16 refl)) (no-more !)))) (λ u.
-        answered-κ ! tt R u wanted.ended (to-wanted 𝓤 H A mem run κ q w i s .0) (λ r. r ≡ wantedAt ws i s) (id⊢ 𝓤 _) (λ g e is.
+        (and-then ! (load ! (from ! (stop !)) (look ! 26 refl)) (and-then ! (load ! (from ! (stop !)) (look ! 16 refl)) (and-then ! (load ! (from ! (stop !)) (look ! 20 refl)) (no-more !)))) (λ u.
+        answered-κ ! tt R u wanted.ended (to-wanted 𝓤 H A mem run κ q w i s .0) (λ r. r ≡ wantedAt ws i s) (id⊢ 𝓤 _) (λ g eg is.
         let tells : u ∷ [] ≡ low g ∷ [] = LL.tells T.the-type T′.the-laws g (u ∷ []) is in
-        land ! (from ! (stop !)) (init ! 4 refl (LL.lawful T.the-type T′.the-laws 𝓤 H A W .typed g _ is .0)) $ rewrite ! 4 (λ (x : Val). ‵ (fat fullShare T′.mir l₁₀ 0 x)) (ap only tells) refl $
+        land ! (from ! (stop !)) (init ! 6 refl (LL.lawful T.the-type T′.the-laws 𝓤 H A W .typed g _ is .0)) $ rewrite ! 6 (λ (x : Val). ‵ (fat fullShare T′.mir l₁₁ 0 x)) (ap only tells) refl $
         -- so is the table
         move ! (3 ∷ []) $ copies-rows ! a $ move ! (4 ∷ 0 ∷ []) $
-        use2 W (raw (SomeRow 𝓤 H A mem run .pre (to 𝓤 H A mem run κ′ q′ a k false g))) (asked 𝓤 H A mem run κ′ q′ a k false g W (subst (Is R g) tells is) (is₀ .1) (omega (arith, ek, few-rows ws i m))) $
-        calls-at ! (fmOf 𝓤 H (W .laws) 𝓣) (SomeRow 𝓤 H A mem run) (known .of-row) (to 𝓤 H A mem run κ′ q′ a k false g)
-        (and-then ! (load ! (from ! (stop !)) (look ! 18 refl)) (and-then ! (load ! (from ! (stop !)) (look ! 8 refl)) (and-then ! (false-lit !) (and-then ! (load ! (from ! (stop !)) (look ! 4 refl)) (no-more !))))) (λ u₂.
-        answered-κ ! tt bool u₂ some-row.ended (to 𝓤 H A mem run κ′ q′ a k false g .0) (λ r. r ≡ gives 𝓤 H A mem run κ′ q′ a k false g) (id⊢ 𝓤 _) (λ f e₂ is₂. move ! (2 ∷ 3 ∷ []) $
-        let found : f ≡ ok i =
-        e₂ ∙ ap (λ (x : Grant). some (meetsBy false (grantOf x)) (grants (take k ys))) e ∙ ap (λ (j : ℕ). some (meetsBy false (grantOf (wantedAt ws i s))) (grants (take j ys))) ek ∙ looked-through ys s ws i in
-        land ! (from ! (stop !)) (init ! 12 refl (bool-lawful 𝓤 H A W .typed f _ is₂ .0)) $ rewrite ! 12 (λ (x : Val). ‵ (fat fullShare tyBool l₆ 0 x)) (ap only is₂) refl $
-        assigns ! (un ! (load ! (from ! (stop !)) (look ! 12 refl)) tt) (from ! (stop !)) (store ! 10 refl (tt, tt)) $
+        use2 W (raw (FirstRow 𝓤 H A mem run .pre (to 𝓤 H A mem run κ′ q′ a k false g))) (asked 𝓤 H A mem run κ′ q′ a k false g W (subst (Is R g) tells is) (is₀ .1) (omega (arith, ek, few-rows ws i m))) $
+        calls-at ! (fmOf 𝓤 H (W .laws) 𝓣) (FirstRow 𝓤 H A mem run) (known .of-row) (to 𝓤 H A mem run κ′ q′ a k false g)
+        (and-then ! (load ! (from ! (stop !)) (look ! 22 refl)) (and-then ! (load ! (from ! (stop !)) (look ! 14 refl)) (and-then ! (false-lit !) (and-then ! (load ! (from ! (stop !)) (look ! 6 refl)) (no-more !))))) (λ u₂.
+        answered-κ ! tt usize u₂ first-row.ended (to 𝓤 H A mem run κ′ q′ a k false g .0) (λ r. r ≡ gives 𝓤 H A mem run κ′ q′ a k false g) (id⊢ 𝓤 _) (λ r er is₂. move ! (2 ∷ 3 ∷ []) $
+        land ! (from ! (stop !)) (init ! 12 refl (uint-lawful 𝓤 H A W w64 .typed r _ is₂ .0)) $ rewrite ! 12 (λ (x : Val). ‵ (fat fullShare word l₈ 0 x)) (ap only (is₂ .0)) refl $
+        -- what it compared is added
+        use0 W (raw (ComparedRows 𝓤 H A mem run .pre (to-compared 𝓤 H A mem run r k))) (asked-compared 𝓤 H A mem run r k W (is₂ .1) (is₀ .1)) $
+        calls-at ! (fmOf 𝓤 H (W .laws) 𝓣) (ComparedRows 𝓤 H A mem run) (known .of-compared) (to-compared 𝓤 H A mem run r k)
+        (and-then ! (load ! (from ! (stop !)) (look ! 13 refl)) (and-then ! (load ! (from ! (stop !)) (look ! 15 refl)) (no-more !))) (λ u₃.
+        answered ! tt u64 u₃ compared-rows.ended (to-compared 𝓤 H A mem run r k .0) (λ d. d ≡ comparedBy r k) (id⊢ 𝓤 _) (λ d ed is₃.
+        land ! (from ! (stop !)) (init ! 4 refl (uint-lawful 𝓤 H A W w64 .typed d _ is₃ .0)) $ rewrite ! 4 (λ (x : Val). ‵ (fat fullShare word l₁₂ 0 x)) (ap only (is₃ .0)) refl $
+        use0 W (raw (Sum 𝓤 H A mem run .pre (to-sum 𝓤 H A mem run c d))) (asked-sum 𝓤 H A mem run c d W gc (is₃ .1)) $
+        calls-at ! (fmOf 𝓤 H (W .laws) 𝓣) (Sum 𝓤 H A mem run) (known .of-sum) (to-sum 𝓤 H A mem run c d)
+        (and-then ! (load ! (from ! (stop !)) (look ! 19 refl)) (and-then ! (load ! (from ! (stop !)) (look ! 5 refl)) (no-more !))) (λ u₄.
+        answered ! tt u64 u₄ sum.ended (to-sum 𝓤 H A mem run c d .0) (λ y. y ≡ min (c + d) 18446744073709551615) (id⊢ 𝓤 _) (λ y ey is₄.
+        land ! (from ! (stop !)) (store ! 18 refl (uint-lawful 𝓤 H A W w64 .typed y _ is₄ .0)) $ rewrite ! 18 (λ (x : Val). ‵ (fat fullShare word l₅ 0 x)) (ap only (is₄ .0)) refl $
+        assigns ! (bin ! (load ! (from ! (stop !)) (look ! 14 refl)) (load ! (from ! (stop !)) (look ! 12 refl)) tt) (from ! (stop !)) (store ! 10 refl (tt, tt)) $
         breaks ! (load ! (from ! (stop !)) (look ! 10 refl)) (λ hr.
-        forget ! 4 refl $ forget ! 6 refl $ forget ! 8 refl $ forget ! 10 refl $ forget ! 12 refl $
-        exec ! (𝓣 .C) (𝓣 .Λ) En piece.t-3 (atRet En Post) $ rest i le (held ok n i p l (sym found ∙ is-false f hr))) (λ hr.
-        assigns-last ! (bin ! (load ! (from ! (stop !)) (look ! 14 refl)) (lit ! tt) (record { fits = next })) (from ! (stop !)) (store ! 14 refl (tt, record { fits = next })) $
-        rewrite ! 14 (λ (j : ℕ). ‵ (fat fullShare word l₅ 0 (vint w64 j))) (add-one i) refl $ forget ! 4 refl $ forget ! 6 refl $ forget ! 8 refl $ forget ! 10 refl $ forget ! 12 refl $
-        again ! (nearer n P) Inv (i, (le, p)) (suc i, (l, passed ok n i p l (sym found ∙ not-false f (is-false (not f) hr)))) (omega arith))))))))) (λ h.
+        forget ! 4 refl $ forget ! 6 refl $ forget ! 8 refl $ forget ! 10 refl $ forget ! 12 refl $ forget ! 14 refl $
+        exec ! (𝓣 .C) (𝓣 .Λ) En piece.t-4 (atRet En Post) $ rest i y le (is₄ .1) (held ok cost n p l (costs ys s ws i ek eg er ed) ey (not-granted ys s ws i ek eg er (is-true (leb k r) hr)))) (λ hr.
+        assigns-last ! (bin ! (load ! (from ! (stop !)) (look ! 16 refl)) (lit ! tt) (record { fits = next })) (from ! (stop !)) (store ! 16 refl (tt, record { fits = next })) $
+        rewrite ! 16 (λ (j : ℕ). ‵ (fat fullShare word l₆ 0 (vint w64 j))) (add-one i) refl $ forget ! 4 refl $ forget ! 6 refl $ forget ! 8 refl $ forget ! 10 refl $ forget ! 12 refl $ forget ! 14 refl $
+        again ! (nearer n P) Inv (i, (le, (c, p))) (suc i, (l, (y, passed ok cost n p l (costs ys s ws i ek eg er ed) ey (is-granted ys s ws i ek eg er (is-false (leb k r) hr))))) (omega arith))))))))))))) (λ h.
         let e : i ≡ n = omega (arith, nltb→le i n h) in
-        forget ! 10 refl $ exec ! (𝓣 .C) (𝓣 .Λ) En piece.t-3 (atRet En Post) $ rest i le (all-passed ok n i p e))
+        forget ! 10 refl $ exec ! (𝓣 .C) (𝓣 .Λ) En piece.t-4 (atRet En Post) $ rest i c le gc (all-passed ok cost n p e))
 
-    begins : Sq W (Inv (0, (omega arith, at-first ok n))) (runs (𝓣 .C) (𝓣 .Λ) En piece.t-2 (atRet En Post))
-    begins = first ! $ blocks ! $ loops ! 𝓣 (nearer n P) (nearer-wf n P) Inv turn (0, (omega arith, at-first ok n))
+    abbrev start : Upto n P
+    start = (0, (omega arith, (0, at-first ok cost n)))
+
+    begins : Sq W (Inv start) (runs (𝓣 .C) (𝓣 .Λ) En piece.t-3 (atRet En Post))
+    begins = first ! $ blocks ! $ loops ! 𝓣 (nearer n P) (nearer-wf n P) Inv turn start
 
   walk : (𝓣 : Tables 𝓤 H) → Known 𝓤 H A mem run 𝓣
       → ent 𝓤 (onEntry 𝓤 H A release-entries.signature (κ, (κ′, tt)) (q, (q′, tt)) (w, (n, (a, (s, tt)))) at) (WpFn 𝓤 H (𝓣 .C) (𝓣 .Λ) code.function (v ∷ vint w64 n ∷ v′ ∷ vint w64 s ∷ []) Post)
@@ -219,10 +270,11 @@ module _ {M : Type 1} (𝓤 : URA M) (H : Heap 𝓤) (A : Atoms 𝓤) (W : Given
       qed W ((‵ (flft κ q) ⊛ ‵ (flft κ′ q′) ⊛ ‵ ftrue) ∷ ‵ (owns (ShrSlice (named 0) κ u8 ∷ usize ∷ ShrSlice (named 1) κ′ R ∷ u64 ∷ []) (w, (n, (a, (s, tt)))) at) ∷ []) ∵
       move ! (1 ∷ []) $ fsplit ! $ move ! (1 ∷ []) $ fsplit ! $ drop ! $ fsplit ! $ move ! (1 ∷ []) $ drop ! $ move ! (2 ∷ []) $ split ! $ move ! (1 ∷ []) $ split ! $ move ! (1 ∷ []) $ drop ! $ move ! (1 ∷ 3 ∷ 0 ∷ 2 ∷ []) $
       enter ! (𝓣 .C) (𝓣 .Λ) code.function (v ∷ vint w64 n ∷ v′ ∷ vint w64 s ∷ []) _ $
-      alloc1 ! (λ l₀. alloc1 ! (λ l₁. alloc1 ! (λ l₂. alloc1 ! (λ l₃. alloc1 ! (λ l₄. alloc1 ! (λ l₅. alloc1 ! (λ l₆. alloc1 ! (λ l₇. alloc1 ! (λ l₈. alloc1 ! (λ l₉. alloc1 ! (λ l₁₀. alloc0 ! $ params1 ! $
-      pass1 ! (init ! 18 refl (tt, (tt, (record { fits = gw .0 }, tt)))) $ pass1 ! (init ! 16 refl (tt, record { fits = few })) $ pass1 ! (init ! 14 refl (tt, (tt, (record { fits = gn .0 }, tt)))) $ pass1 ! (init ! 12 refl (tt, record { fits = gs })) $ pass0 ! $
-      move ! (22 ∷ 23 ∷ 24 ∷ 25 ∷ []) $ assigns ! (of-opd ! (lit ! tt)) (from ! (stop !)) (init ! 14 refl (tt, record { fits = omega arith })) $
-      begins 𝓣 known l₀ l₁ l₂ l₃ l₄ l₅ l₆ l₇ l₈ l₉ l₁₀)))))))))))
+      alloc1 ! (λ l₀. alloc1 ! (λ l₁. alloc1 ! (λ l₂. alloc1 ! (λ l₃. alloc1 ! (λ l₄. alloc1 ! (λ l₅. alloc1 ! (λ l₆. alloc1 ! (λ l₇. alloc1 ! (λ l₈. alloc1 ! (λ l₉. alloc1 ! (λ l₁₀. alloc1 ! (λ l₁₁. alloc1 ! (λ l₁₂. alloc0 ! $ params1 ! $
+      pass1 ! (init ! 22 refl (tt, (tt, (record { fits = gw .0 }, tt)))) $ pass1 ! (init ! 20 refl (tt, record { fits = few })) $ pass1 ! (init ! 18 refl (tt, (tt, (record { fits = gn .0 }, tt)))) $ pass1 ! (init ! 16 refl (tt, record { fits = gs })) $ pass0 ! $
+      move ! (26 ∷ 27 ∷ 28 ∷ 29 ∷ []) $ assigns ! (of-opd ! (lit ! tt)) (from ! (stop !)) (init ! 18 refl (tt, record { fits = omega arith })) $
+      assigns ! (of-opd ! (lit ! tt)) (from ! (stop !)) (init ! 16 refl (tt, record { fits = omega arith })) $
+      begins 𝓣 known l₀ l₁ l₂ l₃ l₄ l₅ l₆ l₇ l₈ l₉ l₁₀ l₁₁ l₁₂)))))))))))))
 
 module _ {M : Type 1} (𝓤 : URA M) (H : Heap 𝓤) (A : Atoms 𝓤) (W : Given 𝓤 H A) (mem : Memory → SProp 𝓤) (run : Routine → Fun 𝓤) (𝓣 : Tables 𝓤 H) (known : Known 𝓤 H A mem run 𝓣) where
   meets-it : Meets 𝓤 H A release-entries.signature (WpFn 𝓤 H (𝓣 .C) (𝓣 .Λ) code.function) (release-entries.spec 𝓤 H A mem run)
@@ -238,7 +290,9 @@ release-entries-spec 𝓤 H 𝓜 𝓖 𝓡 =
     (tables 𝓤 H 𝓜 𝓡 code.env .C) (tables 𝓤 H 𝓜 𝓡 code.env .Λ) #grant-structs·release-entries code.function (code.unfolded 𝓤 H 𝓜 𝓡)
     (meets-it 𝓤 H (𝓖 .A) (givenOf 𝓤 H 𝓜 𝓖) (𝓜 .mem) (𝓡 .run) (tablesOf 𝓤 H 𝓜 (tables 𝓤 H 𝓜 𝓡 code.env)) (record {
       of-wanted = cited 𝓤 H (Wanted 𝓤 H (𝓖 .A) (𝓜 .mem) (𝓡 .run)) 𝓜 𝓡 code.env #grant-structs·wanted wanted-def.routine code.calls-grant-structs·wanted (wanted-thm.met 𝓤 H 𝓜 𝓖 𝓡);
-      of-row = cited 𝓤 H (SomeRow 𝓤 H (𝓖 .A) (𝓜 .mem) (𝓡 .run)) 𝓜 𝓡 code.env #grant-structs·some-row some-row-def.routine code.calls-grant-structs·some-row (some-row-thm.met 𝓤 H 𝓜 𝓖 𝓡);
+      of-row = cited 𝓤 H (FirstRow 𝓤 H (𝓖 .A) (𝓜 .mem) (𝓡 .run)) 𝓜 𝓡 code.env #grant-structs·first-row first-row-def.routine code.calls-grant-structs·first-row (first-row-thm.met 𝓤 H 𝓜 𝓖 𝓡);
       of-rows = cited 𝓤 H (RowsFor 𝓤 H (𝓖 .A) (𝓜 .mem) (𝓡 .run)) 𝓜 𝓡 code.env #grant-structs·rows-for rows-for-def.routine code.calls-grant-structs·rows-for (rows-for-thm.met 𝓤 H 𝓜 𝓖 𝓡);
+      of-compared = cited 𝓤 H (ComparedRows 𝓤 H (𝓖 .A) (𝓜 .mem) (𝓡 .run)) 𝓜 𝓡 code.env #grant-structs·compared-rows compared-rows-def.routine code.calls-grant-structs·compared-rows (compared-rows-thm.met 𝓤 H 𝓜 𝓖 𝓡);
+      of-sum = cited 𝓤 H (Sum 𝓤 H (𝓖 .A) (𝓜 .mem) (𝓡 .run)) 𝓜 𝓡 code.env #buffer·saturating-add sum-def.routine code.calls-buffer·saturating-add (sum-thm.met 𝓤 H 𝓜 𝓖 𝓡);
       of-judged = cited 𝓤 H (Judged 𝓤 H (𝓖 .A) (𝓜 .mem) (𝓡 .run)) 𝓜 𝓡 code.env #grant-structs·judged judged-def.routine code.calls-grant-structs·judged (judged-thm.met 𝓤 H 𝓜 𝓖 𝓡);
     }))

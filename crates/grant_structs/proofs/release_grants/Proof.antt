@@ -6,7 +6,7 @@ use Rattle.grant_structs.proofs.Walk.{ShrSlice, slice-vals, shr-slice-t
 use denote.Enum.Laws as EL
 use Rattle.ari.specs.Limits.{firstLimits}
 use Rattle.release.specs.declared.Released.{Released}
-use Rattle.release.specs.Release.{Release, releaseRows, answerOf}
+use Rattle.release.specs.Compared.{countedRows}
 use Rattle.release.proofs.Released as S
 use Rattle.release.proofs.Released.Laws as S′
 use Rattle.grant_structs.specs.declared.Grant.{Grant}
@@ -42,8 +42,8 @@ module _ {M : Type 1} (𝓤 : URA M) (H : Heap 𝓤) (A : Atoms 𝓤) (W : Given
   abbrev v′ : Val
   v′ = slice-of a
 
-  abbrev answer : Release
-  answer = releaseRows firstLimits (b .now) (grants (a .now)) (p .now) (o .now) s
+  abbrev answer : Released
+  answer = countedRows firstLimits (b .now) (grants (a .now)) (p .now) (o .now) s
 
   abbrev at : Vals release-grants.signature (κ, (κ′, tt))
   at = (v ∷ [], (v′ ∷ [], (slice-of p ∷ [], (slice-of o ∷ [], (vint w64 s ∷ [], tt)))))
@@ -51,7 +51,7 @@ module _ {M : Type 1} (𝓤 : URA M) (H : Heap 𝓤) (A : Atoms 𝓤) (W : Given
   abbrev Post : Val → SProp 𝓤
   Post = walkOf 𝓤 H A release-grants.ended (Gone release-grants.ended) (release-grants.clauses 𝓤 H A mem run) .post (((κ, (κ′, tt)), (q, (q′, tt)), tt, (b, (a, (p, (o, (s, tt))))), at), tt)
 
-  exits : (c : Released) → Is S.the-row c (val c ∷ []) → answerOf c ≡ answer → ent 𝓤 (⋆ 𝓤 H A (‵ (flft κ q) ∷ ‵ (flft κ′ q′) ∷ [])) (Post (val c))
+  exits : (c : Released) → Is S.the-row c (val c ∷ []) → c ≡ answer → ent 𝓤 (⋆ 𝓤 H A (‵ (flft κ q) ∷ ‵ (flft κ′ q′) ∷ [])) (Post (val c))
   exits c ic e =
       leaves 𝓤 H A W release-grants.ended (release-grants.clauses 𝓤 H A mem run) (((κ, (κ′, tt)), (q, (q′, tt)), tt, (b, (a, (p, (o, (s, tt))))), at), tt) (val c) c (tt, (tt, (tt, (tt, (tt, tt))))) _ (of-κκ 𝓤 H A W κ κ′ q q′)
       (EL.makes S.the-type S′.the-plain 𝓤 H A c _ ic) (factI 𝓤 _ (emp 𝓤) e)
@@ -78,7 +78,7 @@ module _ {M : Type 1} (𝓤 : URA M) (H : Heap 𝓤) (A : Atoms 𝓤) (W : Given
       move ! (14 ∷ []) $ calls-at ! (fmOf 𝓤 H (W .laws) 𝓣) (Within 𝓤 H A mem run) known to
       (and-then ! (load ! (from ! (stop !)) (look ! 1 refl)) (and-then ! (load ! (from ! (stop !)) (look ! 11 refl)) (and-then ! (load ! (from ! (stop !)) (look ! 9 refl))
       (and-then ! (load ! (from ! (stop !)) (look ! 7 refl)) (and-then ! (load ! (from ! (stop !)) (look ! 5 refl)) (and-then ! (load ! (from ! (stop !)) (look ! 3 refl)) (no-more !))))))) (λ u.
-      answered-κκ ! tt S.the-row u within.ended (to .0) (λ r. answerOf r ≡ answer) (id⊢ 𝓤 _) (λ c e is.
+      answered-κκ ! tt S.the-row u within.ended (to .0) (λ r. r ≡ answer) (id⊢ 𝓤 _) (λ c e is.
       let tells : u ∷ [] ≡ val c ∷ [] = EL.tells S.the-type S′.the-laws c (u ∷ []) is in
       land ! (from ! (stop !)) (init ! 14 refl (EL.lawful S.the-type S′.the-laws 𝓤 H A W tt .typed c _ is .0)) $ rewrite ! 14 (λ (x : Val). ‵ (fat fullShare S′.mir l₀ 0 x)) (ap only tells) refl $
       returns ! (look ! 14 refl) $ forget ! 2 refl $ forget ! 4 refl $ forget ! 6 refl $ forget ! 8 refl $ forget ! 10 refl $ forget ! 12 refl $ forget ! 14 refl $

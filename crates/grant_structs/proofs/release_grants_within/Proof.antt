@@ -23,10 +23,10 @@ use Rattle.listing.proofs.Listed as L
 use Rattle.listing.proofs.Listed.Laws as L′
 use Rattle.grant_structs.specs.declared.Grant.{Grant}
 use Rattle.release.specs.declared.Released.{Released}
-use Rattle.release.specs.Release.{Release, releaseRows, answerOf}
+use Rattle.release.specs.Compared.{countedRows}
 use Rattle.release.proofs.Released as S
 use Rattle.release.proofs.Released.Laws as S′
-use Rattle.grant_structs.specs.Structs.{grants, grantedAt, judgedFrom, entriesOf, answerBy, Decides}
+use Rattle.grant_structs.specs.Structs.{grants, judgedCounted, entriesOf, answerBy, Decides}
 use Rattle.grant_structs.proofs.Over.{R, slice-of, Own, Bytes, LR, low-limits, FineLimits, limits-vals, limits-tells, own-word, own-limits, limits-typed, use5, answered, answered-κκ}
 use Rattle.grant_structs.proofs.Leaving.{Gone, leaves, meets-by, of-κκ}
 use Rattle.grant_structs.proofs.Lending.{array, ref, back, lends-shared, ends-shared, lends-mut, ends-mut, zeros, length-zeros, fills, big-lit}
@@ -123,8 +123,8 @@ module _ {M : Type 1} (𝓤 : URA M) (H : Heap 𝓤) (A : Atoms 𝓤) (mem : Mem
         qed W ((‵ (flft κ q) ⊛ ‵ (flft κ′ q′) ⊛ ‵ ftrue) ∷ ‵ (Bytes κ w) ∷ ‵ (Own κ′ a) ∷ []) ∵ says ! most $ nothing ! $
         own-word ! s gs $ fjoin ! $ move ! (3 ∷ 0 ∷ []) $ fjoin ! $ own-word ! n gn $ fjoin ! $ move ! (2 ∷ 0 ∷ []) $ fjoin ! $ move ! (1 ∷ 0 ∷ []) $ frame ! $ done !
 
-    abbrev judged : Release
-    judged = judgedFrom (grantedAt (grants (a .now)) s (w .now)) 0 n
+    abbrev judged : Released
+    judged = judgedCounted (grants (a .now)) s (w .now) n
 
   -- what the proof knows of them
   pub record Known (𝓣 : Tables 𝓤 H) : Type 1 where
@@ -158,13 +158,13 @@ module _ {M : Type 1} (𝓤 : URA M) (H : Heap 𝓤) (A : Atoms 𝓤) (W : Given
   abbrev at : Vals release-within.signature (κ, (κ′, tt))
   at = (low-limits m ∷ [], (v ∷ [], (v′ ∷ [], (slice-of p ∷ [], (slice-of o ∷ [], (vint w64 s ∷ [], tt))))))
 
-  abbrev answer : Release
-  answer = releaseRows (capped m) (b .now) (grants (a .now)) (p .now) (o .now) s
+  abbrev answer : Released
+  answer = countedRows (capped m) (b .now) (grants (a .now)) (p .now) (o .now) s
 
   abbrev Post : Val → SProp 𝓤
   Post = walkOf 𝓤 H A release-within.ended (Gone release-within.ended) (release-within.clauses 𝓤 H A mem run) .post (((κ, (κ′, tt)), (q, (q′, tt)), tt, (m, (b, (a, (p, (o, (s, tt)))))), at), tt)
 
-  exits : (c : Released) → Sound c → answerOf c ≡ answer → ent 𝓤 (⋆ 𝓤 H A (‵ (flft κ q) ∷ ‵ (flft κ′ q′) ∷ [])) (Post (val c))
+  exits : (c : Released) → Sound c → c ≡ answer → ent 𝓤 (⋆ 𝓤 H A (‵ (flft κ q) ∷ ‵ (flft κ′ q′) ∷ [])) (Post (val c))
   exits c ic e =
       leaves 𝓤 H A W release-within.ended (release-within.clauses 𝓤 H A mem run) (((κ, (κ′, tt)), (q, (q′, tt)), tt, (m, (b, (a, (p, (o, (s, tt)))))), at), tt) (val c) c (tt, (tt, (tt, (tt, (tt, (tt, tt)))))) _ (of-κκ 𝓤 H A W κ κ′ q q′) (EL.makes S.the-type S′.the-plain 𝓤 H A c _ ic) (factI 𝓤 _ (emp 𝓤) e)
 
@@ -172,8 +172,8 @@ module _ {M : Type 1} (𝓤 : URA M) (H : Heap 𝓤) (A : Atoms 𝓤) (W : Given
   many = length-zeros room
 
   -- what the callees answer, together
-  together : (c : Listed) (zs : List ℕ) → Decides (capped m) (b .now) (p .now) (o .now) c zs → (n : ℕ) → n ≡ entriesOf c → (g r : Released) → answerOf g ≡ judgedFrom (grantedAt (grants (a .now)) s zs) 0 n → answerOf r ≡ answerBy c (answerOf g) → answerOf r ≡ answer
-  together c zs d n e g r eg er = er ∙ ap (answerBy c) (eg ∙ ap (λ (k : ℕ). judgedFrom (grantedAt (grants (a .now)) s zs) 0 k) e) ∙ d .decides (grants (a .now)) s
+  together : (c : Listed) (zs : List ℕ) → Decides (capped m) (b .now) (p .now) (o .now) c zs → (n : ℕ) → n ≡ entriesOf c → (g r : Released) → g ≡ judgedCounted (grants (a .now)) s zs n → r ≡ answerBy c g → r ≡ answer
+  together c zs d n e g r eg er = er ∙ ap (answerBy c) (eg ∙ ap (judgedCounted (grants (a .now)) s zs) e) ∙ d .decides (grants (a .now)) s
 
   walk : (𝓣 : Tables 𝓤 H) → Known 𝓤 H A mem run 𝓣
       → ent 𝓤 (onEntry 𝓤 H A release-within.signature (κ, (κ′, tt)) (q, (q′, tt)) (m, (b, (a, (p, (o, (s, tt)))))) at) (WpFn 𝓤 H (𝓣 .C) (𝓣 .Λ) code.function (low-limits m ∷ v ∷ v′ ∷ slice-of p ∷ slice-of o ∷ vint w64 s ∷ []) Post)
@@ -214,14 +214,14 @@ module _ {M : Type 1} (𝓤 : URA M) (H : Heap 𝓤) (A : Atoms 𝓤) (W : Given
       use3 W (raw (ReleaseEntries 𝓤 H A mem run .pre (to-release 𝓤 H A mem run (β ∷ []) κ′ fullShare q′ (ref l₇ δ zs) n a s))) (asked-release 𝓤 H A mem run (β ∷ []) κ′ fullShare q′ (ref l₇ δ zs) n a s W (is₂ .1) gs (omega (arith, en, d .most))) $
       calls-at ! (fmOf 𝓤 H (W .laws) 𝓣) (ReleaseEntries 𝓤 H A mem run) (known .of-entries′) (to-release 𝓤 H A mem run (β ∷ []) κ′ fullShare q′ (ref l₇ δ zs) n a s)
       (and-then ! (load ! (from ! (stop !)) (look ! 5 refl)) (and-then ! (load ! (from ! (stop !)) (look ! 3 refl)) (and-then ! (load ! (from ! (stop !)) (look ! 24 refl)) (and-then ! (load ! (from ! (stop !)) (look ! 18 refl)) (no-more !))))) (λ u₃.
-      answered-κκ ! tt S.the-row u₃ release-entries.ended (to-release 𝓤 H A mem run (β ∷ []) κ′ fullShare q′ (ref l₇ δ zs) n a s .0) (λ r. answerOf r ≡ judged 𝓤 H A mem run (β ∷ []) κ′ fullShare q′ (ref l₇ δ zs) n a s) (id⊢ 𝓤 _) (λ g eg is₃.
+      answered-κκ ! tt S.the-row u₃ release-entries.ended (to-release 𝓤 H A mem run (β ∷ []) κ′ fullShare q′ (ref l₇ δ zs) n a s .0) (λ r. r ≡ judged 𝓤 H A mem run (β ∷ []) κ′ fullShare q′ (ref l₇ δ zs) n a s) (id⊢ 𝓤 _) (λ g eg is₃.
       let tells-g : u₃ ∷ [] ≡ val g ∷ [] = EL.tells S.the-type S′.the-laws g (u₃ ∷ []) is₃ in
       let ig : Sound g = subst (Is S.the-row g) tells-g is₃ in
       land ! (from ! (stop !)) (init ! 14 refl (EL.lawful S.the-type S′.the-laws 𝓤 H A W tt .typed g _ is₃ .0)) $ rewrite ! 14 (λ (x : Val). ‵ (fat fullShare S′.mir l₉ 0 x)) (ap only tells-g) refl $
       move ! (0 ∷ 2 ∷ []) $ ends-shared ! tt u8 room zs full l₇ β $ use1 W (‵ (froom (array u8 room) l₇ 0)) (back W u8 room zs (uint-vals w8) (uint-tells w8) l₇) $
       use0 W (raw (Answered 𝓤 H A mem run .pre (to-answered 𝓤 H A mem run c g))) (asked-answered 𝓤 H A mem run c g W ic ig) $
       calls-at ! (fmOf 𝓤 H (W .laws) 𝓣) (Answered 𝓤 H A mem run) (known .of-answered) (to-answered 𝓤 H A mem run c g) (and-then ! (load ! (from ! (stop !)) (look ! 16 refl)) (and-then ! (load ! (from ! (stop !)) (look ! 14 refl)) (no-more !))) (λ u₄.
-      answered ! tt S.the-row u₄ answers.ended (to-answered 𝓤 H A mem run c g .0) (λ r. answerOf r ≡ answerBy c (answerOf g)) (id⊢ 𝓤 _) (λ r er is₄.
+      answered ! tt S.the-row u₄ answers.ended (to-answered 𝓤 H A mem run c g .0) (λ r. r ≡ answerBy c g) (id⊢ 𝓤 _) (λ r er is₄.
       let tells-r : u₄ ∷ [] ≡ val r ∷ [] = EL.tells S.the-type S′.the-laws r (u₄ ∷ []) is₄ in
       -- [the room's room; the table's token and that of the bytes; _14; …; _8; …; what frees _7; _6; …]
       land ! (from ! (stop !)) (init ! 30 refl (EL.lawful S.the-type S′.the-laws 𝓤 H A W tt .typed r _ is₄ .0)) $ rewrite ! 30 (λ (x : Val). ‵ (fat fullShare S′.mir l₀ 0 x)) (ap only tells-r) refl $

@@ -1,5 +1,5 @@
 -- `release::release_table` meets its contract: of the rows' loop, no row before `at` grants this entry; of the entries' loop, those before item k are granted.
-use Rattle.release.proofs.Search.{Passed, Searched, all-passed, no-number, no-row, a-row, searches}
+use Rattle.release.proofs.Search.{Before, Passed, Searched, all-passed, no-number, search-rows, started, next-row, no-row, a-row, searches}
 use mathlib.Core.Logic.{⊎-elim}
 use native.Mathlib.Omega.{arith}
 use borrow.Author.Needs.{needs}
@@ -9,32 +9,66 @@ use Rattle.release.proofs.release_table.Statement.{statement}
 use Rattle.release.proofs.release_table.Tie as tie
 
 abbrev Inv-rows : tie.InvT-rows
-Inv-rows s count entries grants published own subscriber entry k word at₀ at =
-    (k < count) × (entry ≤ k) × (at ≤ length grants) × Searched s grants published own subscriber entry k word at
+Inv-rows s count entries grants published own subscriber entry compared₀ found place k word at₀ compared at =
+    (k < count) × (entry ≤ k) × (at ≤ length grants) × Searched s grants published own subscriber entry k compared word at
 
 abbrev μ-rows : tie.MeasureT-rows
-μ-rows s count entries grants published own subscriber entry k word at₀ at = length grants - at
+μ-rows s count entries grants published own subscriber entry compared₀ found place k word at₀ compared at =
+    length grants - at
 
 abbrev Inv-entries : tie.InvT-entries
-Inv-entries s count entries grants published own subscriber entry₀ k₀ entry k = (k ≤ count) × (entry ≤ k) × Passed s grants published own subscriber entry k
+Inv-entries s count entries grants published own subscriber entry₀ compared₀ found₀ place₀ k₀ entry compared found place k =
+    (k ≤ count) × (entry ≤ k) × Passed s grants published own subscriber entry k compared × Before grants subscriber found place
 
 abbrev μ-entries : tie.MeasureT-entries
-μ-entries s count entries grants published own subscriber entry₀ k₀ entry k = count - k
+μ-entries s count entries grants published own subscriber entry₀ compared₀ found₀ place₀ k₀ entry compared found place k =
+    count - k
+
+shared-slice-read-reference-at :
+    tie.Need-shared-slice-read-reference-at Inv-rows μ-rows Inv-entries μ-entries
+shared-slice-read-reference-at c = search (searches, needs)
+
+rows-holds : tie.Need-rows-holds Inv-rows μ-rows Inv-entries μ-entries
+rows-holds c =
+    let e = c .before .before .before .before .before .before .before .before .before .before .entries in
+    let at = started (c .before .before .before .before .before .before .before .before .before .before .before .before .before .before .before .before .args .grants .now) (c .before .before .before .before .before .before .before .before .before .before .before .before .before .before .before .before .args .subscriber) (e .inv .3) (c .start .ensures) in
+    (search needs, search needs, at .inside, search (search-rows, at, needs))
+
+add-at : tie.Need-add-at Inv-rows μ-rows Inv-entries μ-entries
+add-at c =
+    search (c .before .before .before .before .before .before .before .before .before .before .before .before .before .before .before .before .before .before .before .before .good, needs)
+
+rows-again : tie.Need-rows-again Inv-rows μ-rows Inv-entries μ-entries
+rows-again c =
+    let e = c .before .before .before .rows .inv in
+    (search (e .0, needs), search (e .1, needs), search (e .2, needs), search (e .3, next-row, needs))
+
+add-saturating-add : tie.Need-add-saturating-add Inv-rows μ-rows Inv-entries μ-entries
+add-saturating-add c =
+    search (c .before .before .before .before .before .before .before .before .before .before .before .before .before .before .before .before .before .before .before .before .good, c .before .before .before .rows .inv .2, needs)
+
+saturating-add-requires-2 :
+    tie.Need-saturating-add-requires-2 Inv-rows μ-rows Inv-entries μ-entries
+saturating-add-requires-2 c κs = search (searches, needs)
 
 entries-again-2 : tie.Need-entries-again-2 Inv-rows μ-rows Inv-entries μ-entries
-entries-again-2 c = (
-  search needs,
-  search needs,
-  a-row (c .before .before .before .rows .inv .3) (c .before .before .rows-test .left) (c .before .holds-at .ensures) (c .if2 .taken),
-)
+entries-again-2 c =
+    let e = c .before .before .before .before .rows .inv in
+    (search (e .0, needs), search (e .1, needs), a-row (e .3) (c .before .before .before .if2 .left) (c .before .before .holds-at .ensures) (c .before .if3 .taken) (c .saturating-add2 .ensures), e .3 .before)
 
 returns : tie.Need-returns Inv-rows μ-rows Inv-entries μ-entries
 returns c =
-    ⊎-elim (λ w. absurd (omega arith)) (⊎-elim (λ w. search (no-number, needs)) (λ w. no-row (w .9 .inv .3) (w .10 .taken))) (c .before .entries-test .came)
+    let a = c .before .before .before .before .before .before .before .before .args in
+    let none = no-number (c .before .before .before .before .before .before .before .before .pre) (a .grants .now) (a .published .now) (a .own .now) (a .subscriber) (c .before .before .entries .inv .2) in
+    ⊎-elim (λ w. absurd (omega arith)) (⊎-elim (λ w. search (none, w .9, needs)) (λ w. no-row (w .10 .inv .3) (w .11 .taken) (w .12 .ensures) (w .13)))
+    (c .before .entries-test .came)
 
 returns-2 : tie.Need-returns-2 Inv-rows μ-rows Inv-entries μ-entries
 returns-2 c =
-    ⊎-elim (λ w. search (all-passed, needs)) (⊎-elim (λ w. absurd (omega arith)) (λ w. absurd (omega arith))) (c .before .entries-test .came)
+    let a = c .before .before .before .before .before .before .before .before .args in
+    let e = c .before .before .entries .inv in
+    ⊎-elim (λ w. all-passed (c .before .before .before .before .before .before .before .before .pre) (a .grants .now) (a .published .now) (a .own .now) (a .subscriber) (e .2) (w .0 .left) (e .0) (w .1))
+    (⊎-elim (λ w. absurd (omega arith)) (λ w. absurd (omega arith))) (c .before .entries-test .came)
 
 pub release-table-spec : {M : Type 1} → statement M
 release-table-spec =
@@ -46,7 +80,7 @@ release-table-spec =
     μ-entries
     (λ c. search (searches, needs))
     (λ c. search (searches, needs))
-    (λ c. search (searches, needs))
+    shared-slice-read-reference-at
     (λ c κs. search (searches, needs))
     (λ c. search (searches, needs))
     (λ c. search (searches, needs))
@@ -54,12 +88,16 @@ release-table-spec =
     (λ c. search (searches, needs))
     (λ c. search (searches, needs))
     (λ c κs. search (searches, needs))
-    (λ c. search (searches, needs))
+    (λ c κs. search (searches, needs))
+    rows-holds
     (λ c. search (searches, needs))
     (λ c κs. search (searches, needs))
-    (λ c. search (c .before .before .before .before .before .before .before .before .before .before .before .before .before .before .before .before .before .before .before .good, needs))
+    (λ c κs. search (searches, needs))
+    add-at
     (λ c. search (searches, needs))
-    (λ c. search (searches, needs))
+    rows-again
+    add-saturating-add
+    saturating-add-requires-2
     (λ c. search (searches, needs))
     (λ c. search (searches, needs))
     (λ c. search (searches, needs))
