@@ -197,19 +197,22 @@ int main(int count, char **words) {
   printf("listing: entries %" PRIu32 "\n", surfbodkin_low(answer));
   for (uint32_t k = 0; k < surfbodkin_low(answer); k++) print_entry(k);
 
+  uint64_t compared = 0;
   answer = surfbodkin_release(message, message_length, table.at, table.length,
                               published.at, published.length, own.at, own.length,
-                              subscriber);
+                              subscriber, &compared);
   free(table.at);
   free(published.at);
   free(own.at);
   switch (surfbodkin_number(answer)) {
     case SURFBODKIN_ACCEPTED:
-      printf("release to %" PRIu64 ": yes\n", subscriber);
+      printf("release to %" PRIu64 ": yes, rows compared %" PRIu64 "\n", subscriber,
+             compared);
       return RELEASED;
     case SURFBODKIN_HELD:
-      printf("release to %" PRIu64 ": no, entry %" PRIu64 " is not granted\n", subscriber,
-             surfbodkin_place(answer));
+      printf("release to %" PRIu64 ": no, entry %" PRIu64
+             " is not granted, rows compared %" PRIu64 "\n",
+             subscriber, surfbodkin_place(answer), compared);
       return HELD_BACK;
     default:
       return refuse_message(answer);

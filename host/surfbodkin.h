@@ -16,9 +16,10 @@
      stream keeps from call to call is in the memory that the caller lends to each of
      its calls, and nowhere else: threads may call at the same time, each with
      streams of its own. A call takes less than 256 KB of stack.
-   - Nothing is written but the answer buffer `out`, and a stream's `state` and
-     `message`. On a refusal `out` is as it was; on an acceptance only its front is
-     written, as far as the answer reaches.
+   - Nothing is written but the answer buffer `out`, release's `compared`, and a
+     stream's `state` and `message`. On a refusal `out` and `compared` are as they
+     were; on an acceptance only the front of `out` is written, as far as the answer
+     reaches.
    - What may be written must not overlap anything else that is lent to the same
      call. A pointer whose length is 0 is not followed, and may be NULL.
    - Every input has an answer; none has to be tested before.
@@ -176,6 +177,12 @@ uint64_t surfbodkin_check_table(const uint8_t *table, size_t table_length);
    any other in the published one. Names without a line and relative references are
    never granted. The rows of others don't matter, nor whether the table passes its
    check. With both lists empty only numbers are granted.
+   With a yes or a no `compared`, which must not be NULL, is set to the rows that were
+   compared: for each entry up to and including the one that is answered (for a yes,
+   every entry) all rows up to and including the first that grants it, or all rows if
+   none does; none for a relative reference and for a name without a line. It is at
+   most entries times rows, UINT64_MAX at the most, and may depend on the rows of
+   others, on their order and on repeats.
      0          yes: release it
      255        no, place: the first entry of the listing, counted from 0, that is
                 not granted
@@ -187,7 +194,7 @@ uint64_t surfbodkin_release(const uint8_t *message, size_t length,
                             const uint8_t *table, size_t table_length,
                             const uint8_t *published, size_t published_length,
                             const uint8_t *own, size_t own_length,
-                            uint64_t subscriber);
+                            uint64_t subscriber, uint64_t *compared);
 
 /* Writes the text of a single ARI in binary form, as "ari:/UINT/10", with no zero
    byte at its end.

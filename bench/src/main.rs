@@ -151,6 +151,17 @@ fn note(length: u16) -> Vec<u8> {
     note
 }
 
+/// A target with so many namespace references as parameters, in turns of so many numbers.
+fn references_of(count: u16, numbers: u16) -> Vec<u8> {
+    let mut message = hex("01 82 14 82 f6 84 00 20 00 99");
+    message.extend(count.to_be_bytes());
+    for k in 0..count {
+        message.push(0x81);
+        generate::put_head(&mut message, 0, u64::from(k % numbers));
+    }
+    message
+}
+
 /// A target with so many namespace references as parameters, in turns by a published name
 /// and by an own one; the lines that they have are spread over 1,000.
 fn named_references(count: u16) -> Vec<u8> {
@@ -451,12 +462,24 @@ fn main() {
     let table = reading::table_bytes(&rows.chain(own).collect::<Vec<_>>());
     let release = Call {
         function: "surfbodkin_release",
-        archive: &|message, _| archive::release(message, &table, b"", b"", 7),
+        archive: &|message, _| archive::release(message, &table, b"", b"", 7, &mut 0),
         reading: &|message, _| packed_release(reading::release(message, &table, 7)),
     };
     time_call("e  release, 500 rows, message C", &release, &c);
     time_call("e  release, 500 rows, 4,096 bytes", &release, &few[..1]);
     time_call("e  release, 500 rows, 500 like it", &release, &few);
+
+    // References of one namespace, which the table's last row grants, and of 100 in turns.
+    let rows = (0..400).map(|k| Row { subscriber: 8, namespace: k });
+    let own = (0..100).rev().map(|namespace| Row { subscriber: 7, namespace });
+    let last = reading::table_bytes(&rows.chain(own).collect::<Vec<_>>());
+    let numbered = Call {
+        function: "surfbodkin_release",
+        archive: &|message, _| archive::release(message, &last, b"", b"", 7, &mut 0),
+        reading: &|message, _| packed_release(reading::release(message, &last, 7)),
+    };
+    time_call("e  500 rows, 500 references of one", &numbered, &[references_of(500, 1)]);
+    time_call("e  500 rows, 500 references of 100", &numbered, &[references_of(500, 100)]);
 
     // References in namespaces by name, against lists of 1,000 lines; all are granted.
     let list = |k: usize, mark: &str| format!("{mark}n{k}={}\n", k % 500);
@@ -466,7 +489,7 @@ fn main() {
     let granting = reading::table_bytes(&all);
     let named = Call {
         function: "surfbodkin_release",
-        archive: &|message, _| archive::release(message, &granting, &published, &own, 7),
+        archive: &|message, _| archive::release(message, &granting, &published, &own, 7, &mut 0),
         reading: &|message, _| {
             packed_release(reading::names::release(
                 message, &granting, &published, &own, 7, &LIMITS,

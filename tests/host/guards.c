@@ -73,7 +73,8 @@ static uint64_t make(const struct arguments *a, enum way way, const uint8_t *out
   struct lent answer_room = lend(content, way, 1);
   struct bytes in = input.lent, rows = table.lent, to = answer_room.lent;
   struct bytes first = published.lent, second = own.lent;
-  uint64_t answer = 0;
+  const uint64_t unset = 0xa5a5a5a5a5a5a5a5;
+  uint64_t answer = 0, compared = unset;
   switch (a->call) {
     case SINGLE: answer = surfbodkin_check_single(in.at, in.length); break;
     case MESSAGE: answer = surfbodkin_check_message(in.at, in.length); break;
@@ -81,7 +82,10 @@ static uint64_t make(const struct arguments *a, enum way way, const uint8_t *out
     case TABLE: answer = surfbodkin_check_table(rows.at, rows.length); break;
     case RELEASE:
       answer = surfbodkin_release(in.at, in.length, rows.at, rows.length, first.at, first.length,
-                                  second.at, second.length, a->subscriber);
+                                  second.at, second.length, a->subscriber, &compared);
+      if ((answer == 0 || surfbodkin_number(answer) == SURFBODKIN_HELD) == (compared == unset)) {
+        fail("a count with a refusal, or none without");
+      }
       break;
     case WRITE: answer = surfbodkin_write_text(in.at, in.length, to.at, to.length); break;
     case READ: answer = surfbodkin_read_text(in.at, in.length, to.at, to.length); break;

@@ -33,7 +33,7 @@ functions! {
     "check_table" surfbodkin_check_table(table: *const u8, table_length: usize);
     "release" surfbodkin_release(
         message: *const u8, length: usize, table: *const u8, table_length: usize, published: *const u8, published_length: usize,
-        own: *const u8, own_length: usize, subscriber: u64
+        own: *const u8, own_length: usize, subscriber: u64, compared: *mut u64
     );
     "write_text" surfbodkin_write_text(
         ari: *const u8, length: usize, out: *mut u8, out_length: usize
@@ -94,8 +94,16 @@ pub fn check_table(table: &[u8]) -> u64 {
     unsafe { functions::surfbodkin_check_table(table.as_ptr(), table.len()) }
 }
 
+/// The rows compared go to `compared`, if the answer is no refusal.
 #[inline]
-pub fn release(message: &[u8], table: &[u8], published: &[u8], own: &[u8], subscriber: u64) -> u64 {
+pub fn release(
+    message: &[u8],
+    table: &[u8],
+    published: &[u8],
+    own: &[u8],
+    subscriber: u64,
+    compared: &mut u64,
+) -> u64 {
     unsafe {
         functions::surfbodkin_release(
             message.as_ptr(),
@@ -107,6 +115,7 @@ pub fn release(message: &[u8], table: &[u8], published: &[u8], own: &[u8], subsc
             own.as_ptr(),
             own.len(),
             subscriber,
+            compared,
         )
     }
 }

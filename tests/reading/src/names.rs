@@ -111,15 +111,33 @@ pub fn release(
     subscriber: u64,
     limits: &Limits,
 ) -> Result<Release, Refusal> {
+    counted_release(message, table, published, own, subscriber, limits).map(|(answer, _)| answer)
+}
+
+/// The same with the number of rows compared (R150 to R153): for each entry up to and
+/// including the one that fails, the rows up to and including the first that grants it, or
+/// all; none where there is no number.
+pub fn counted_release(
+    message: &[u8],
+    table: &[u8],
+    published: &[u8],
+    own: &[u8],
+    subscriber: u64,
+    limits: &Limits,
+) -> Result<(Release, u64), Refusal> {
     let entries = listing_within(message, limits)?.entries;
     check_names(published, own)?;
     let rows = rows(table)?;
-    let granted = |namespace| {
-        number_of(message, namespace, published, own)
-            .is_some_and(|namespace| rows.contains(&Row { subscriber, namespace }))
-    };
-    Ok(match entries.iter().position(|entry| !granted(entry.namespace)) {
-        Some(entry) => Release::No(entry),
-        None => Release::Yes,
-    })
+    let mut compared: u64 = 0;
+    for (k, entry) in entries.iter().enumerate() {
+        let Some(namespace) = number_of(message, entry.namespace, published, own) else {
+            return Ok((Release::No(k), compared));
+        };
+        let found = rows.iter().position(|row| *row == Row { subscriber, namespace });
+        compared = compared.saturating_add(found.map_or(rows.len(), |row| row + 1) as u64);
+        if found.is_none() {
+            return Ok((Release::No(k), compared));
+        }
+    }
+    Ok((Release::Yes, compared))
 }

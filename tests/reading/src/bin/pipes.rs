@@ -182,8 +182,8 @@ fn from_file(
         (Err(Refusal { test, place }), _) => {
             (format!("message: refused {} at byte {place}: ", test as u8), 2)
         }
-        (_, Ok(Release::No(entry))) => (format!("no, entry {entry} is not granted\n"), 1),
-        _ => ("yes\n".to_string(), 0),
+        (_, Ok(Release::No(entry))) => (format!("no, entry {entry} is not granted, rows"), 1),
+        _ => ("yes, rows".to_string(), 0),
     };
     match words.contains(&answer) && output.status.code() == Some(status) {
         true => Ok((words, status)),

@@ -388,15 +388,18 @@ fn compare_names(program: &Program, random: &mut Random) -> Result<String, Strin
     ))
 }
 
-/// "yes", "no" with the entry's number and line, or the refusal.
+/// "yes", "no" with the entry's number and line, each with the rows compared, or the
+/// refusal.
 fn release_lines(message: &[u8], table: &[Row], lists: &Lists, subscriber: u64) -> Printed {
     let (published, own) = lists;
-    match names::release(message, &table_bytes(table), published, own, subscriber, &LIMITS) {
+    let table = table_bytes(table);
+    match names::counted_release(message, &table, published, own, subscriber, &LIMITS) {
         Err(refusal) => line(refusal),
-        Ok(Release::Yes) => Printed::out("yes\n"),
-        Ok(Release::No(k)) => {
+        Ok((Release::Yes, compared)) => Printed::out(format!("yes\ncompared {compared}\n")),
+        Ok((Release::No(k), compared)) => {
             let entries = listing(message).expect("released or held").entries;
-            Printed::out(format!("no {k} {}", entry_line(message, &entries[k])))
+            let entry = entry_line(message, &entries[k]);
+            Printed::out(format!("no {k} {entry}compared {compared}\n"))
         }
     }
 }

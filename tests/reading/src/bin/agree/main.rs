@@ -42,7 +42,8 @@ struct Case {
     /// The published list of names and the subscriber's own.
     lists: names::Lists,
     subscriber: u64,
-    /// What the room for the answer holds before.
+    /// What the room for the answer holds before; of a release what the number of rows
+    /// compared is before, as eight bytes.
     room: Vec<u8>,
 }
 
@@ -85,9 +86,15 @@ impl Call {
             Call::Table => {
                 packed_plain(reading::rows(table).and_then(|rows| reading::check_table(&rows)))
             }
-            Call::Release => packed_release(reading::names::release(
-                input, table, published, own, *subscriber, &LIMITS,
-            )),
+            Call::Release => {
+                let counted = reading::names::counted_release(
+                    input, table, published, own, *subscriber, &LIMITS,
+                );
+                if let Ok((_, compared)) = counted {
+                    room.copy_from_slice(&compared.to_ne_bytes());
+                }
+                packed_release(counted.map(|(answer, _)| answer))
+            }
             Call::Write => packed_written(reading::write_text(input, room)),
             Call::Read => packed_written(reading::read_text(input, room)),
             Call::Names => packed_plain(reading::names::check_names(published, own)),
@@ -102,7 +109,14 @@ impl Call {
             Call::Message => archive::check_message(input),
             Call::List => archive::list(input, room),
             Call::Table => archive::check_table(table),
-            Call::Release => archive::release(input, table, published, own, subscriber),
+            Call::Release => {
+                let before: [u8; 8] = (&*room).try_into().expect("eight bytes");
+                let mut compared = u64::from_ne_bytes(before);
+                let answer =
+                    archive::release(input, table, published, own, subscriber, &mut compared);
+                room.copy_from_slice(&compared.to_ne_bytes());
+                answer
+            }
             Call::Write => archive::write_text(input, room),
             Call::Read => archive::read_text(input, room),
             Call::Names => archive::check_names(published, own),
@@ -235,6 +249,7 @@ impl Call {
         }
         if self == Call::Release {
             self.give_names(random, &mut case);
+            case.room = random.word().to_ne_bytes().to_vec();
         }
         let need = match self {
             Call::List => reading::list(&case.input, &mut []).map_err(|r| (r, ENTRY)),
@@ -281,7 +296,8 @@ fn compare(call: Call, case: &Case, shift: usize) -> Result<u64, String> {
     let Case { input, table, lists: (published, own), subscriber, room } = case;
     let mut expected_room = room.clone();
     let expected = call.reading(case, &mut expected_room);
-    assert!(expected >> 56 == 0 || expected_room == *room, "the reading wrote on a refusal");
+    let answered = matches!(expected >> 56, 0 | archive::NO);
+    assert!(answered || expected_room == *room, "the reading wrote on a refusal");
 
     let contents = [input, table, published, own];
     let lent = [0, 1, 2, 3].map(|k| Lent::new(contents[k], shift / (k + 1)));
