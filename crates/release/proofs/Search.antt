@@ -37,7 +37,7 @@ use Rattle.grants.specs.Bytes.{rowOf, holdsAt, rows}
 use Rattle.ari.proofs.SignedLaws.{signed-word}
 use Rattle.grants.proofs.RowWays.{rows-more, rows-end, row-holds, some-end, some-here, some-behind}
 use Rattle.release.specs.declared.RowSought.{RowSought}
-use Rattle.release.specs.Rows.{soughtBy}
+use Rattle.release.specs.Rows.{soughtBy, lastRows}
 use Rattle.release.specs.declared.Released.{Released}
 use Rattle.release.specs.declared.Released.the-variants as released
 use Rattle.release.specs.Release.{Release, yes, no, judgeFrom, release, releaseBytes}
@@ -79,11 +79,11 @@ module _ (q : Grant → Bool) (b : List ℕ) (at : ℕ) (e : 16 * rowsUpTo q (ro
     up-to-behind g = e ∙ rw (rows-more (drop at b) (rw length-drop h), ← f, g, drop-drop 16 at b) (omega arith)
 
 -- 64 bits of a sum, one part after the other
-sum-within : (a b x : ℕ) {c : ℕ} → c ≡ min (a + b) 18446744073709551615 → within64 (a + (b + x)) ≡ within64 (c + x)
-sum-within a b x e = rw e (omega arith)
+sum-within : (a x : ℕ) {c : ℕ} → c ≡ min a 18446744073709551615 → within64 (a + x) ≡ within64 (c + x)
+sum-within a x e = rw e (omega arith)
 
-fits-within : (a b : ℕ) {c : ℕ} → c ≡ min (a + b) 18446744073709551615 → c ≤ 18446744073709551615
-fits-within a b e = rw e (omega arith)
+last-rows : (i at : ℕ) → lastRows (i + 1) at ≡ at / 16 + 1
+last-rows i at = rw (ne-eqb (i + 1) 0 (λ e. omega arith))
 
 -- No row before `at` grants the number with this word: the rows from there on decide, and those before were compared.
 pub record Before (t : List ℕ) (s w at : ℕ) : Type 0 where
@@ -103,11 +103,10 @@ module _ (t : List ℕ) (s : ℕ) where
       go true f g = rw (g, eqb-true w v f) p
       go false f g = rw g (before-none w)
 
--- The entries before item k are granted, i of them, and c rows were compared for them.
+-- The entries before item k are granted, i of them, and as far as 64 bits go, c rows were compared for them.
 pub record Passed (b t published own : List ℕ) (s i k c : ℕ) : Type 0 where
   pub so-far : judgeFrom (granted (rows t) s) 0 (translated published own b) ≡ judgeFrom (granted (rows t) s) i (map (translate published own) (listingFrom b k))
   pub tally : within64 (comparedOver (rows t) s (translated published own b)) ≡ within64 (c + comparedOver (rows t) s (map (translate published own) (listingFrom b k)))
-  pub fits : c ≤ 18446744073709551615
 
 -- Item k is entry i, which stands for a number with this word, and no row before `at` grants it.
 pub record Searched (b t published own : List ℕ) (s i k c w at : ℕ) : Type 0 where
@@ -123,17 +122,16 @@ judged-over t s es r c e f = sym (rw (e, f))
 
 module _ {m : Limits} {b ws : List ℕ} {n : ℕ} (c : Tabled m Message b n ws) (t published own : List ℕ) (s : ℕ) where
   pub passed-none : Passed b t published own s 0 0 0
-  passed-none = record { so-far = rw (from-start c); tally = rw (from-start c) (omega arith); fits = omega arith }
+  passed-none = record { so-far = rw (from-start c); tally = rw (from-start c) (omega arith) }
 
   module _ {i k d : ℕ} (p : Passed b t published own s i k d) where
-    pub all-passed : n ≤ k → k ≤ n → {e : ℕ} → e ≡ d → released.Yes e ≡ judgedOver (rows t) s (translated published own b)
+    pub all-passed : n ≤ k → k ≤ n → {e : ℕ} → e ≡ min d 18446744073709551615 → released.Yes e ≡ judgedOver (rows t) s (translated published own b)
     all-passed h l {e} q =
-        let fits = p .fits in
         judged-over (rows t) s (translated published own b) yes e (p .so-far ∙ rw (from-end c k h l)) (p .tally ∙ rw (from-end c k h l, q) (omega arith))
 
     module _ (h : k < n) {r : Reference} (f : r ≡ referenceFrom b (getD ws k 0)) where
       pub passed-over : r ≡ Nothing → Passed b t published own s i (k + 1) d
-      passed-over g = record { so-far = p .so-far ∙ rw (no-reference c k h f g); tally = p .tally ∙ rw (no-reference c k h f g); fits = p .fits }
+      passed-over g = record { so-far = p .so-far ∙ rw (no-reference c k h f g); tally = p .tally ∙ rw (no-reference c k h f g) }
 
       module _ {fst aft : ℕ} {v : Namespace} (g : r ≡ To fst aft v) where
         abbrev x : Here b k fst aft v
@@ -157,20 +155,20 @@ module _ {m : Limits} {b ws : List ℕ} {n : ℕ} (c : Tabled m Message b n ws) 
           is-sought : y ≡ soughtBy (spaceCode for)
           is-sought = z ∙ ap soughtBy (ap (standsBy published own b) (x .space-is) ∙ stands-code published own b (x .entry .space) (x .name-is))
 
-          pub no-number : not (y .number) ≡ true → {a : ℕ} → a ≡ d → released.No i a ≡ judgedOver (rows t) s (translated published own b)
+          pub no-number : not (y .number) ≡ true → {a : ℕ} → a ≡ min d 18446744073709551615 → released.No i a ≡ judgedOver (rows t) s (translated published own b)
           no-number e {a} q =
-              let fits = p .fits in
               let never = never-granted (rows t) s for (rw (← is-sought) (not-true (y .number) e)) in
               let none = never-compared (rows t) s for (rw (← is-sought) (not-true (y .number) e)) in
               judged-over (rows t) s (translated published own b) (no i) a (this-entry never) (its-tally never none ∙ rw q (omega arith))
 
-          pub search-rows : not (y .number) ≡ false → {at : ℕ} → Before t s (y .word) at → Searched b t published own s i k d (y .word) at
-          search-rows e a =
+          pub search-rows : not (y .number) ≡ false → {a : ℕ} → a ≡ min d 18446744073709551615 → {at : ℕ} → Before t s (y .word) at
+              → Searched b t published own s i k a (y .word) at
+          search-rows e o a =
               let is-number : soughtBy (spaceCode for) .number ≡ true = rw (← is-sought) (not-false (y .number) e) in
               let range = stands-in-range published own (x .entry .space) (x .range) in
               let q = number-granted (rows t) s for range is-number in
               let r = number-compared (rows t) s for range is-number in
-              record { turns = this-entry (rw (← is-sought) at q); tally = its-tally (rw (← is-sought) at q) (rw (← is-sought) at r); before = a }
+              record { turns = this-entry (rw (← is-sought) at q); tally = its-tally (rw (← is-sought) at q) (rw (← is-sought) at r) ∙ sum-within d _ o; before = a }
 
 module _ {b t published own : List ℕ} {s i k d w at : ℕ} (p : Searched b t published own s i k d w at) where
   pub no-row : length t - at < 16 → {e : ℕ} → e ≡ min (d + length t / 16) 18446744073709551615 → {a : ℕ} → a ≡ e → released.No i a ≡ judgedOver (rows t) s (translated published own b)
@@ -178,19 +176,18 @@ module _ {b t published own : List ℕ} {s i k d w at : ℕ} (p : Searched b t p
       let all = holds s (signed w) in
       let none : false ≡ some all (rows t) = some-end all t at (p .before .from-here) h in
       let behind : rowsUpTo all (rows t) ≡ length t / 16 = omega (arith, up-to-end all t at (p .before .behind) h, p .before .inside) in
-      judged-over (rows t) s (translated published own b) (no i) a (p .turns ∙ rw (← none)) (p .tally ∙ rw (← none, behind) (sum-within d (length t / 16) 0 q ∙ rw (r, q) (omega arith)))
+      judged-over (rows t) s (translated published own b) (no i) a (p .turns ∙ rw (← none)) (p .tally ∙ rw (← none, behind, r, q) (omega arith))
 
   module _ (h : 16 ≤ length t - at) {y : Bool} (f : y ≡ holdsAt t at s w) where
     abbrev row : y ≡ holds s (signed w) (rowOf (drop at t))
     row = row-holds t at s w h f
 
-    pub a-row : y ≡ true → {e : ℕ} → e ≡ min (d + (at / 16 + 1)) 18446744073709551615 → Passed b t published own s (i + 1) (k + 1) e
-    a-row g {e} q =
+    pub a-row : y ≡ true → Passed b t published own s (i + 1) (k + 1) (d + lastRows (i + 1) at)
+    a-row g =
         let this = holds s (signed w) in
         let here : true ≡ some this (rows t) = some-here this t at (p .before .from-here) h row g in
         let up-to : rowsUpTo this (rows t) ≡ at / 16 + 1 = omega (arith, up-to-here this t at (p .before .behind) h row g) in
-        let rest = comparedOver (rows t) s (map (translate published own) (listingFrom b (k + 1))) in
-        record { so-far = p .turns ∙ rw (← here); tally = p .tally ∙ rw (← here, up-to) (sum-within d (at / 16 + 1) rest q); fits = fits-within d (at / 16 + 1) q }
+        record { so-far = p .turns ∙ rw (← here); tally = p .tally ∙ rw (← here, up-to, last-rows i at) (omega arith) }
 
     pub found-there : y ≡ true → Before t s w at
     found-there g = p .before

@@ -1,6 +1,6 @@
 // Release: whether a message may be handed on for a subscriber, by the grants that a table of bytes has for it and the numbers that two lists have for names.
 ghost use mathlib.Core.Path.{_≡_};
-ghost use Prim.Native.Nat.{_<_, _≤_, min};
+ghost use Prim.Native.Nat.{_+_, _<_, _≤_, min};
 ghost use lib.ListN.{length};
 ghost use lib.Dec.{eqb};
 ghost use mathlib.Core.Bool.{cond};
@@ -10,7 +10,7 @@ ghost use Rattle.item_table.specs.Entries.{Tabled};
 ghost use Rattle.names.specs.Translated.{standsBy, translated};
 ghost use Rattle.grants.specs.Bytes.{rows};
 ghost use Rattle.release.specs.Compared.{judgedOver, countedBytes};
-ghost use Rattle.release.specs.Rows.{soughtBy};
+ghost use Rattle.release.specs.Rows.{soughtBy, lastRows};
 use ari::Input;
 use ari::Limits;
 use listing::Namespace;
@@ -67,6 +67,16 @@ fn start(word: u64, found: u64, place: usize) -> usize
     0
 }
 
+// The rows compared, with those for the entry found last. They are settled an entry later, so that LLVM carries no row counter through the rows' loop.
+fn settled(compared: u64, entry: usize, place: usize) -> u64
+    ensures { λ r. ⌜ r ≡ min (compared + lastRows entry place) 18446744073709551615 ⌝ }
+{
+    if entry == 0 {
+        return compared;
+    }
+    buffer::saturating_add(compared, (place / 16 + 1) as u64)
+}
+
 // Entries by rows. The search is left at the first entry that no row grants: a number to the subscriber, an unknown name or a relative one to nobody.
 fn release_table<'a>(
     s: &[u8],
@@ -95,6 +105,7 @@ fn release_table<'a>(
                 after: _,
                 namespace,
             } => {
+                compared = settled(compared, entry, place);
                 let n = sought(published, own, s, namespace);
                 if !n.number {
                     break 'entries;
@@ -111,7 +122,6 @@ fn release_table<'a>(
                     }
                     at += 16;
                 }
-                compared = buffer::saturating_add(compared, (at / 16 + 1) as u64);
                 found = word;
                 place = at;
                 entry += 1;
@@ -122,7 +132,9 @@ fn release_table<'a>(
     if k < count {
         return Released::No { entry, compared };
     }
-    Released::Yes { compared }
+    Released::Yes {
+        compared: settled(compared, entry, place),
+    }
 }
 
 fn release_in<'a>(

@@ -1,10 +1,13 @@
--- `release::release_table` meets its contract: of the rows' loop, no row before `at` grants this entry; of the entries' loop, those before item k are granted.
+-- `release::release_table` meets its contract: of the rows' loop, no row before `at` grants this entry; of the entries' loop, those before
+-- item k are granted, and the rows of the last of them are not in `compared` yet.
 use Rattle.release.proofs.Search.{Before, Passed, Searched, all-passed, no-number, search-rows, started, next-row, no-row, a-row, searches}
 use mathlib.Core.Logic.{⊎-elim}
+use mathlib.Core.Path.{_∙_}
 use native.Mathlib.Omega.{arith}
 use borrow.Author.Needs.{needs}
-use Prim.Native.Nat.{_-_, _<_, _≤_}
+use Prim.Native.Nat.{_+_, _-_, _<_, _≤_}
 use lib.ListN.{length}
+use Rattle.release.specs.Rows.{lastRows}
 use Rattle.release.proofs.release_table.Statement.{statement}
 use Rattle.release.proofs.release_table.Tie as tie
 
@@ -18,7 +21,7 @@ abbrev μ-rows : tie.MeasureT-rows
 
 abbrev Inv-entries : tie.InvT-entries
 Inv-entries s count entries grants published own subscriber entry₀ compared₀ found₀ place₀ k₀ entry compared found place k =
-    (k ≤ count) × (entry ≤ k) × Passed s grants published own subscriber entry k compared × Before grants subscriber found place
+    (k ≤ count) × (entry ≤ k) × Passed s grants published own subscriber entry k (compared + lastRows entry place) × Before grants subscriber found place
 
 abbrev μ-entries : tie.MeasureT-entries
 μ-entries s count entries grants published own subscriber entry₀ compared₀ found₀ place₀ k₀ entry compared found place k =
@@ -30,45 +33,39 @@ shared-slice-read-reference-at c = search (searches, needs)
 
 rows-holds : tie.Need-rows-holds Inv-rows μ-rows Inv-entries μ-entries
 rows-holds c =
-    let e = c .before .before .before .before .before .before .before .before .before .before .entries in
-    let at = started (c .before .before .before .before .before .before .before .before .before .before .before .before .before .before .before .before .args .grants .now) (c .before .before .before .before .before .before .before .before .before .before .before .before .before .before .before .before .args .subscriber) (e .inv .3) (c .start .ensures) in
-    (search needs, search needs, at .inside, search (search-rows, at, needs))
+    let e = c .before .before .before .before .before .before .before .before .before .before .before .entries in
+    let a = c .before .before .before .before .before .before .before .before .before .before .before .before .before .before .before .before .before .args in
+    let at = started (a .grants .now) (a .subscriber) (e .inv .3) (c .start .ensures) in
+    let searched = search-rows (c .before .before .before .before .before .before .before .before .before .before .before .before .before .before .before .before .before .pre) (a .grants .now) (a .published .now) (a .own .now) (a .subscriber) (e .inv .2) in
+    (search needs, search needs, at .inside, search (searched, at, c .before .before .before .before .settled .ensures, needs))
 
 add-at : tie.Need-add-at Inv-rows μ-rows Inv-entries μ-entries
 add-at c =
-    search (c .before .before .before .before .before .before .before .before .before .before .before .before .before .before .before .before .before .before .before .before .good, needs)
+    search (c .before .before .before .before .before .before .before .before .before .before .before .before .before .before .before .before .before .before .before .before .before .good, needs)
 
 rows-again : tie.Need-rows-again Inv-rows μ-rows Inv-entries μ-entries
 rows-again c =
     let e = c .before .before .before .rows .inv in
     (search (e .0, needs), search (e .1, needs), search (e .2, needs), search (e .3, next-row, needs))
 
-add-saturating-add : tie.Need-add-saturating-add Inv-rows μ-rows Inv-entries μ-entries
-add-saturating-add c =
-    search (c .before .before .before .before .before .before .before .before .before .before .before .before .before .before .before .before .before .before .before .before .good, c .before .before .before .rows .inv .2, needs)
-
-saturating-add-requires-2 :
-    tie.Need-saturating-add-requires-2 Inv-rows μ-rows Inv-entries μ-entries
-saturating-add-requires-2 c κs = search (searches, needs)
-
 entries-again-2 : tie.Need-entries-again-2 Inv-rows μ-rows Inv-entries μ-entries
 entries-again-2 c =
-    let e = c .before .before .before .before .rows .inv in
-    (search (e .0, needs), search (e .1, needs), a-row (e .3) (c .before .before .before .if2 .left) (c .before .before .holds-at .ensures) (c .before .if3 .taken) (c .saturating-add2 .ensures), e .3 .before)
+    let e = c .before .before .before .rows .inv in
+    (search (e .0, needs), search (e .1, needs), a-row (e .3) (c .before .before .if2 .left) (c .before .holds-at .ensures) (c .if3 .taken), e .3 .before)
 
 returns : tie.Need-returns Inv-rows μ-rows Inv-entries μ-entries
 returns c =
     let a = c .before .before .before .before .before .before .before .before .args in
     let none = no-number (c .before .before .before .before .before .before .before .before .pre) (a .grants .now) (a .published .now) (a .own .now) (a .subscriber) (c .before .before .entries .inv .2) in
-    ⊎-elim (λ w. absurd (omega arith)) (⊎-elim (λ w. search (none, w .9, needs)) (λ w. no-row (w .10 .inv .3) (w .11 .taken) (w .12 .ensures) (w .13)))
+    ⊎-elim (λ w. absurd (omega arith)) (⊎-elim (λ w. search (none, w .10 ∙ w .6 .ensures, needs)) (λ w. no-row (w .11 .inv .3) (w .12 .taken) (w .13 .ensures) (w .14)))
     (c .before .entries-test .came)
 
 returns-2 : tie.Need-returns-2 Inv-rows μ-rows Inv-entries μ-entries
 returns-2 c =
-    let a = c .before .before .before .before .before .before .before .before .args in
-    let e = c .before .before .entries .inv in
-    ⊎-elim (λ w. all-passed (c .before .before .before .before .before .before .before .before .pre) (a .grants .now) (a .published .now) (a .own .now) (a .subscriber) (e .2) (w .0 .left) (e .0) (w .1))
-    (⊎-elim (λ w. absurd (omega arith)) (λ w. absurd (omega arith))) (c .before .entries-test .came)
+    let a = c .before .before .before .before .before .before .before .before .before .args in
+    let e = c .before .before .before .entries .inv in
+    ⊎-elim (λ w. all-passed (c .before .before .before .before .before .before .before .before .before .pre) (a .grants .now) (a .published .now) (a .own .now) (a .subscriber) (e .2) (w .0 .left) (e .0) (rw (← w .1) (c .settled2 .ensures)))
+    (⊎-elim (λ w. absurd (omega arith)) (λ w. absurd (omega arith))) (c .before .before .entries-test .came)
 
 pub release-table-spec : {M : Type 1} → statement M
 release-table-spec =
@@ -89,6 +86,7 @@ release-table-spec =
     (λ c. search (searches, needs))
     (λ c κs. search (searches, needs))
     (λ c κs. search (searches, needs))
+    (λ c κs. search (searches, needs))
     rows-holds
     (λ c. search (searches, needs))
     (λ c κs. search (searches, needs))
@@ -96,11 +94,10 @@ release-table-spec =
     add-at
     (λ c. search (searches, needs))
     rows-again
-    add-saturating-add
-    saturating-add-requires-2
     (λ c. search (searches, needs))
     (λ c. search (searches, needs))
     (λ c. search (searches, needs))
     entries-again-2
     returns
+    (λ c κs. search (searches, needs))
     returns-2)
