@@ -106,6 +106,7 @@ fn start_in(file: &[u8]) -> usize
 fn offset_in(format: Format, file: &[u8], k: usize) -> usize
     requires { ⌜ (8 ≤ length (now file)) × (k ≤ 65536) ⌝ }
     ensures { λ r. ⌜ r ≡ offsetIn format (now (file .entry)) k ⌝ }
+    ensures { λ r. ⌜ r < 4294967296 ⌝ }
 {
     let start = start_in(file);
     if format.wide {
@@ -136,6 +137,7 @@ fn message_in<'a>(format: Format, file: &'a [u8], k: usize) -> &'a [u8]
 // The first byte of message k by the table, and the message: of any bytes, for those who have checked them.
 pub fn first_at(format: Format, file: &[u8], k: usize) -> usize
     ensures { λ r. ⌜ r ≡ firstAt format (now (file .entry)) k ⌝ }
+    ensures { λ r. ⌜ r < 4294967296 ⌝ }
 {
     if file.len() < 8 {
         return 0;

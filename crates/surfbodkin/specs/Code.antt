@@ -1,7 +1,10 @@
--- Answers as one number: R114 to R119. Interface: all of it.
+-- Answers as one number: R114 to R119; of the day file, R154 to R164; of a name, R142. Interface: all of it.
 use Prim.Native.Nat.{ℕ, _+_, _-_, _*_, _^_, min}
 use mathlib.Core.Path.{_≡_}
+use mathlib.Core.Bool.{false}
 use mathlib.Core.List.{List}
+use Rattle.buffer.specs.declared.Number.{Number}
+use Rattle.buffer.specs.declared.Number.the-variants.{Value, Bad}
 use Rattle.ari.specs.declared.Limits.{Limits}
 use Rattle.reader.specs.declared.Answer.{Answer}
 use Rattle.reader.specs.declared.Answer.the-variants.{Accepted, Refused}
@@ -12,6 +15,16 @@ use Rattle.listing.specs.declared.Listed.the-variants as listed
 use Rattle.names.specs.declared.Names.{Names}
 use Rattle.names.specs.declared.Names.the-variants.{Passes}
 use Rattle.names.specs.declared.Names.the-variants as names
+use Rattle.day_file.specs.declared.Format.{Format}
+use Rattle.day_file.specs.declared.Day.{Day}
+use Rattle.day_file.specs.declared.Day.the-variants.{Messages}
+use Rattle.day_file.specs.declared.Day.the-variants as day
+use Rattle.day_file.specs.declared.Found.{Found}
+use Rattle.day_file.specs.declared.Found.the-variants as found
+use Rattle.day_search.specs.declared.Searched.{Searched}
+use Rattle.day_search.specs.declared.Searched.the-variants as searched
+use Rattle.day_file.specs.declared.Added.{Added}
+use Rattle.day_file.specs.declared.Added.the-variants as added
 use Rattle.stream.specs.declared.Fed.{Fed}
 use Rattle.stream.specs.declared.Fed.the-variants.{GoOn}
 use Rattle.stream.specs.declared.Fed.the-variants as fed
@@ -62,6 +75,15 @@ abbrev pub namesCode : Names → ℕ
 namesCode Passes = 0
 namesCode (names.Refused p) = refusalCode 19 p
 
+-- R142: 1 if a name stands for a number; a lent number is then that number, and as it was if not
+abbrev pub numberCode : Number → ℕ
+numberCode (Value w) = countCode 0 1
+numberCode Bad = 0
+
+abbrev pub numberAfter : Number → ℕ → ℕ
+numberAfter (Value w) was = w
+numberAfter Bad was = was
+
 abbrev pub tableCode : Check → ℕ
 tableCode passes = 0
 tableCode (Check.refused r i) = refusalCode r i
@@ -76,3 +98,27 @@ releaseCode (Release.refused r p) = refusalCode r p
 abbrev pub textCode : Written → ℕ
 textCode (written.Refused r p) = refusalCode r p
 textCode (written.Bytes k n) = countCode n k
+
+-- R154: the archive's day files are of version 1
+abbrev pub version1 : Format
+version1 = record { version = 1; wide = false; bytes = 65535 }
+
+-- R156 to R158: the number of messages
+abbrev pub dayCode : Day → ℕ
+dayCode (day.Refused r p) = refusalCode r p
+dayCode (Messages n) = countCode 0 n
+
+-- R159: the message's bytes and its first byte
+abbrev pub findCode : Found → ℕ
+findCode (found.Refused r p) = refusalCode r p
+findCode (found.Part from to) = countCode (to - from) from
+
+-- R164: the entries found
+abbrev pub searchCode : Searched → ℕ
+searchCode (searched.Refused r p) = refusalCode r p
+searchCode (searched.Entries k) = countCode 0 k
+
+-- R160: the new file's messages and bytes
+abbrev pub addCode : Added → ℕ
+addCode (added.Refused r p) = refusalCode r p
+addCode (added.File n k) = countCode n k

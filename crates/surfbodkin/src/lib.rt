@@ -1,12 +1,14 @@
 // The C archive: each answer is one number, as host/surfbodkin.h says.
 ghost use mathlib.Core.Path.{_≡_};
-ghost use Prim.Native.Nat.{min};
+ghost use Prim.Native.Nat.{_-_, _/_, min};
 ghost use lib.ListN.{length};
 ghost use Rattle.ari.specs.declared.Input.the-variants.{Single, Message};
 ghost use Rattle.ari.specs.Reader.{read};
 ghost use Rattle.ari.specs.Limits.{firstLimits};
 ghost use Rattle.reader.specs.Answers.{answerOf};
-ghost use Rattle.names.specs.Names.{checkNames};
+ghost use Rattle.names.specs.Names.{checkNames, numberFor};
+ghost use Rattle.day_file.specs.Day.{checkDay, findDay, addDay, withMessage, roomAfter as fileIn};
+ghost use Rattle.day_search.specs.Search.{searchDay, hits, roomAfter as foundIn};
 ghost use Rattle.grants.specs.Bytes.{checkBytes};
 ghost use Rattle.grants.specs.Verdict.{checkOf};
 ghost use Rattle.listing.specs.Answers.{listOf, writtenOf as listedIn};
@@ -14,7 +16,12 @@ ghost use Rattle.release.specs.Release.{releaseBytes, answerOf as releasedOf};
 ghost use Rattle.release.specs.Compared.{countAfter, countedBytes};
 ghost use Rattle.text.specs.Answer.{writeText, readText, lent};
 ghost use Rattle.text_write.specs.Written.{writtenOf, roomAfter};
-ghost use Rattle.surfbodkin.specs.Code.{refusalCode, countCode, checkCode, listCode, tableCode, releaseCode, textCode, fedCode, OpensAs, FeedsAs, ClosesAs, namesCode};
+ghost use Rattle.surfbodkin.specs.Code.{refusalCode, countCode, checkCode, listCode, tableCode, releaseCode, textCode, fedCode, OpensAs, FeedsAs, ClosesAs, namesCode, numberCode, numberAfter, version1, dayCode, findCode, addCode, searchCode};
+use buffer::Number;
+use day_file::Added;
+use day_file::Day;
+use day_file::Found;
+use day_search::Searched;
 use grants::Verdict;
 use listing::Listed;
 use names::Names;
@@ -127,6 +134,40 @@ pub extern "C" fn surfbodkin_check_names(published: &[u8], own: &[u8]) -> u64
     names_code(names::check_names(published, own))
 }
 
+fn number_code(a: Number) -> u64
+    ensures { λ r. ⌜ r ≡ numberCode a ⌝ }
+{
+    match a {
+        Number::Value(_) => 1,
+        Number::Bad => 0,
+    }
+}
+
+// The number, if the name has one.
+fn put_number(a: Number, number: &mut u64)
+    ensures { λ _. ⌜ now (number .exit) ≡ numberAfter a (now (number .entry)) ⌝ }
+{
+    match a {
+        Number::Value(word) => *number = word,
+        Number::Bad => {}
+    }
+}
+
+#[no_mangle]
+pub extern "C" fn surfbodkin_name_number<'a>(
+    published: &'a [u8],
+    own: &'a [u8],
+    name: &[u8],
+    number: &mut u64,
+) -> u64
+    ensures { λ r. ⌜ r ≡ numberCode (numberFor (now (published .entry)) (now (own .entry)) (now (name .entry))) ⌝ }
+    ensures { λ _. ⌜ now (number .exit) ≡ numberAfter (numberFor (now (published .entry)) (now (own .entry)) (now (name .entry))) (now (number .entry)) ⌝ }
+{
+    let a = names::number_for(published, own, name);
+    put_number(a, number);
+    number_code(a)
+}
+
 fn table_code(a: Verdict) -> u64
     ensures { λ r. ⌜ r ≡ tableCode (checkOf a) ⌝ }
 {
@@ -210,4 +251,94 @@ pub extern "C" fn surfbodkin_read_text(text: &[u8], out: &mut [u8]) -> u64
     ensures { λ r. ⌜ now (out .exit) ≡ roomAfter (now (out .entry)) (lent (length (now (out .entry))) (readText firstLimits (now (text .entry)))) ⌝ }
 {
     text_code(text_read::read_text(text, out))
+}
+
+fn day_code(a: Day) -> u64
+    ensures { λ r. ⌜ r ≡ dayCode a ⌝ }
+{
+    match a {
+        Day::Messages(messages) => count_code(0, messages),
+        Day::Refused { number, place } => refusal_code(number, place as u64),
+    }
+}
+
+#[no_mangle]
+pub extern "C" fn surfbodkin_day_check(file: &[u8]) -> u64
+    ensures { λ r. ⌜ r ≡ dayCode (checkDay version1 firstLimits (now (file .entry))) ⌝ }
+{
+    day_code(day_file::check(day_file::VERSION_1, ari::LIMITS, file))
+}
+
+// The bytes from one place to another.
+fn bytes_between(from: usize, to: usize) -> usize
+    ensures { λ r. ⌜ r ≡ to - from ⌝ }
+{
+    if to < from {
+        return 0;
+    }
+    to - from
+}
+
+fn find_code(a: Found) -> u64
+    ensures { λ r. ⌜ r ≡ findCode a ⌝ }
+{
+    match a {
+        Found::Part { from, to } => count_code(bytes_between(from, to), from),
+        Found::Refused { number, place } => refusal_code(number, place as u64),
+    }
+}
+
+#[no_mangle]
+pub extern "C" fn surfbodkin_day_find(file: &[u8], number: u64) -> u64
+    ensures { λ r. ⌜ r ≡ findCode (findDay version1 firstLimits (now (file .entry)) number) ⌝ }
+{
+    find_code(day_file::find(day_file::VERSION_1, ari::LIMITS, file, number))
+}
+
+fn add_code(a: Added) -> u64
+    ensures { λ r. ⌜ r ≡ addCode a ⌝ }
+{
+    match a {
+        Added::File { messages, bytes } => count_code(messages, bytes),
+        Added::Refused { number, place } => refusal_code(number, place as u64),
+    }
+}
+
+#[no_mangle]
+pub extern "C" fn surfbodkin_day_add(file: &[u8], message: &[u8], out: &mut [u8]) -> u64
+    ensures { λ r. ⌜ r ≡ addCode (addDay version1 firstLimits (now (file .entry)) (now (message .entry)) (length (now (out .entry)))) ⌝ }
+    ensures { λ r. ⌜ now (out .exit) ≡ fileIn (addDay version1 firstLimits (now (file .entry)) (now (message .entry)) (length (now (out .entry)))) (withMessage version1 (now (file .entry)) (now (message .entry))) (now (out .entry)) ⌝ }
+{
+    add_code(day_file::add(day_file::VERSION_1, ari::LIMITS, file, message, out))
+}
+
+fn search_code(a: Searched) -> u64
+    ensures { λ r. ⌜ r ≡ searchCode a ⌝ }
+{
+    match a {
+        Searched::Entries(found) => count_code(0, found),
+        Searched::Refused { number, place } => refusal_code(number, place as u64),
+    }
+}
+
+#[no_mangle]
+pub extern "C" fn surfbodkin_day_search<'a>(
+    file: &[u8],
+    published: &'a [u8],
+    own: &'a [u8],
+    namespace: u64,
+    out: &mut [u8],
+) -> u64
+    ensures { λ r. ⌜ r ≡ searchCode (searchDay version1 firstLimits (now (file .entry)) (now (published .entry)) (now (own .entry)) namespace (length (now (out .entry)) / 24)) ⌝ }
+    ensures { λ r. ⌜ now (out .exit) ≡ foundIn (searchDay version1 firstLimits (now (file .entry)) (now (published .entry)) (now (own .entry)) namespace (length (now (out .entry)) / 24)) (hits version1 (now (file .entry)) (now (published .entry)) (now (own .entry)) namespace) (now (out .entry)) ⌝ }
+{
+    search_code(day_search::search(
+        day_file::VERSION_1,
+        ari::LIMITS,
+        file,
+        published,
+        own,
+        namespace,
+        out,
+    ))
 }

@@ -1,0 +1,16 @@
+-- `surfbodkin::find_code` meets its contract: by the answer.
+use borrow.Author.Needs.{needs}
+use Rattle.surfbodkin.proofs.find_code.Statement.{statement}
+use Rattle.surfbodkin.proofs.find_code.Tie as tie
+
+pub find-code-spec : {M : Type 1} → statement M
+find-code-spec =
+    tie.close
+    (tie.spec
+    (λ c. search needs)
+    (λ c κs. search needs)
+    (λ c κs. search needs)
+    (λ c. search needs)
+    (λ c κs. search needs)
+    (λ c. cc)
+    (λ c. cc))
