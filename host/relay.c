@@ -1,6 +1,6 @@
 /* The relay's host program, as an example: may this message go to this subscriber?
 
-     relay TABLE SUBSCRIBER [MESSAGE [PUBLISHED [OWN]]]
+     relay TABLE SUBSCRIBER [MESSAGE [PUBLISHED [OWN [DAY]]]]
 
    TABLE is a file of grant rows, 16 bytes each: subscriber and namespace, both
    big-endian, 8 bytes. SUBSCRIBER is a number. MESSAGE is a file, a link's device or
@@ -9,7 +9,14 @@
    subscriber's own; a list that is missing is empty. The message is taken in the
    pieces that come, and refused as soon as nothing can mend it, without waiting for
    its end. The table, the lists and the message are checked, the message's references
-   listed, and it is said whether they are all granted.
+   listed, and it is said whether they are all granted. DAY is a day file, to which what
+   is released is added; a missing one is made. /dev/null serves as an empty list.
+
+   A message is said to be released only when it stands in the day file: whoever reads
+   `yes` sends it on, and what was sent has to be in the file, also if the power goes
+   between the two. If it can't be added it is not released: 3. The other way round a
+   message may stand in the file whose `yes` nobody has read; it was granted, and its
+   sender asks again.
 
    Exit status: 0 released, 1 held back, 2 the table, a list or the message was
    refused, 3 anything else went wrong. */
@@ -23,6 +30,7 @@
 #include <string.h>
 #include <unistd.h>
 
+#include "day_file.h"
 #include "surfbodkin.h"
 
 enum { RELEASED, HELD_BACK, REFUSED, FAILED };
@@ -165,9 +173,28 @@ static void print_entry(size_t k) {
   }
 }
 
-int main(int count, char **words) {
-  if (count < 3 || 6 < count) {
-    fputs("usage: relay TABLE SUBSCRIBER [MESSAGE [PUBLISHED [OWN]]]\n", stderr);
+/* Puts the released message into the day file. */
+static void add_to_day(const char *day) {
+  static char why[DAY_FILE_WHY];
+  uint64_t answer;
+  if (day_file_add(day, message, message_length, &answer, why) != 0) {
+    fail("cannot add to the day file: %s", why);
+  }
+  switch (surfbodkin_number(answer)) {
+    case SURFBODKIN_ACCEPTED: break;
+    case SURFBODKIN_DAY_FULL:
+      fail("cannot add to the day file: %s: it is full", day);
+      break;
+    default:
+      fail("cannot add to the day file: %s: it is refused, %u at %" PRIu64, day,
+           surfbodkin_number(answer), surfbodkin_place(answer));
+  }
+  printf("day: added %" PRIu32 "\n", surfbodkin_count(answer) - 1);
+}
+
+static int relay(int count, char **words) {
+  if (count < 3 || 7 < count) {
+    fputs("usage: relay TABLE SUBSCRIBER [MESSAGE [PUBLISHED [OWN [DAY]]]]\n", stderr);
     return FAILED;
   }
   struct bytes table = read_file(words[1]), published = {NULL, 0}, own = {NULL, 0};
@@ -206,6 +233,7 @@ int main(int count, char **words) {
   free(own.at);
   switch (surfbodkin_number(answer)) {
     case SURFBODKIN_ACCEPTED:
+      if (count > 6) add_to_day(words[6]);
       printf("release to %" PRIu64 ": yes, rows compared %" PRIu64 "\n", subscriber,
              compared);
       return RELEASED;
@@ -217,4 +245,11 @@ int main(int count, char **words) {
     default:
       return refuse_message(answer);
   }
+}
+
+int main(int count, char **words) {
+  int status = relay(count, words);
+  /* An answer that nobody can read is none. */
+  if (fflush(stdout) != 0 || ferror(stdout)) fail("cannot write: %s", strerror(errno));
+  return status;
 }

@@ -1,14 +1,15 @@
 /* Surfbodkin: a gate that reads AMP messages, whole or as a link delivers them, and
-   ARIs, lists the references in a message, and says whether a subscriber's grants
-   cover them.
+   ARIs, lists the references in a message, says whether a subscriber's grants cover
+   them, and keeps the messages of a day in one file.
 
    To use it, link with libsurfbodkin.a (x86-64), which rt staticlib surfbodkin builds
    as target/staticlib/libsurfbodkin.a:
 
-     cc -std=c11 -o relay relay.c libsurfbodkin.a
+     cc -std=c11 -o relay relay.c day_file.c libsurfbodkin.a
 
-   relay.c is an example, and the script run beside it builds and runs that. The rules
-   behind every answer are in docs/RULES.md: test n below is its rule R(50 + n).
+   relay.c is an example, and the script run beside it builds and runs that; day_file.c
+   puts a message into a day file on the disk. The rules behind every answer are in
+   docs/RULES.md: up to 18, test n below is its rule R(50 + n).
 
    WHAT HOLDS OF EVERY CALL
 
@@ -16,10 +17,10 @@
      stream keeps from call to call is in the memory that the caller lends to each of
      its calls, and nowhere else: threads may call at the same time, each with
      streams of its own. A call takes less than 256 KB of stack.
-   - Nothing is written but the answer buffer `out`, release's `compared`, and a
-     stream's `state` and `message`. On a refusal `out` and `compared` are as they
-     were; on an acceptance only the front of `out` is written, as far as the answer
-     reaches.
+   - Nothing is written but the answer buffer `out`, release's `compared`,
+     name_number's `number`, and a stream's `state` and `message`. On a refusal `out`
+     and `compared` are as they were; on an acceptance only the front of `out` is
+     written, as far as the answer reaches.
    - What may be written must not overlap anything else that is lent to the same
      call. A pointer whose length is 0 is not followed, and may be NULL.
    - Every input has an answer; none has to be tested before.
@@ -27,14 +28,16 @@
    ANSWERS are one uint64_t. Its top byte tells which:
 
      0          accepted; released; the table passes; the stream goes on
-     1 to 19    refused, by the test of that number (see enum surfbodkin_test);
+     1 to 23    refused, by the test of that number (see enum surfbodkin_test);
                 the other 56 bits are the place, or another number, that goes with it
      255        held back (release's no); the other 56 bits are the entry
 
    An acceptance has the number of items (CBOR heads) of the input in bits 32 to 55,
-   and in bits 0 to 31 the size of what was written to `out`, 0 for a check. The yes
-   of a release, a table that passes and a stream that goes on are plain 0. The
-   functions surfbodkin_number, _place, _count and _low below take an answer apart. */
+   and in bits 0 to 31 the size of what was written to `out`, 0 for a check; those of
+   a day file and of name_number have there what is said with them, and 0 where nothing
+   is said. The yes of a release, a table that passes and a stream that goes on are
+   plain 0. The functions surfbodkin_number, _place, _count and _low below take an
+   answer apart. */
 #ifndef SURFBODKIN_H
 #define SURFBODKIN_H
 
@@ -45,8 +48,8 @@
 extern "C" {
 #endif
 
-/* Limits, beyond which an input is refused (tests 1, 5 and 6), and sizes. A grant
-   table may have any length. */
+/* Limits, beyond which an input is refused (tests 1, 5, 6 and 20), and sizes. A grant
+   table and a list of names may have any length. */
 enum surfbodkin_size {
   SURFBODKIN_BYTES = 4096,       /* of a message or a single ARI */
   SURFBODKIN_ITEMS = 1024,       /* of a message or a single ARI */
@@ -55,13 +58,15 @@ enum surfbodkin_size {
   SURFBODKIN_ROW = 16,           /* bytes of a row in a grant table */
   SURFBODKIN_ENTRY = 24,         /* bytes of an entry in a listing */
   SURFBODKIN_ENTRIES = 512,      /* no listing has more: an entry takes two items */
-  SURFBODKIN_STREAM_WORDS = 67   /* of a stream's state, each a uint64_t */
+  SURFBODKIN_STREAM_WORDS = 67,  /* of a stream's state, each a uint64_t */
+  SURFBODKIN_DAY_BYTES = 65535,  /* of a day file */
+  SURFBODKIN_DAY_TRAILER_BYTES = 8 /* of its trailer, and of a file without messages */
 };
 
 /* The number in an answer's top byte. Tests are tried in this order: 1, then 2 to 12
-   at each head of the input from the front, then the others. The place is the byte,
-   counted from 0, of the head that failed, unless another is named. (17 is given by
-   none of these functions.) */
+   at each head of the input from the front, then the others; where a day file is lent,
+   20 to 22 come before all of these. The place is the byte, counted from 0, of the head
+   that failed, unless another is named. */
 enum surfbodkin_test {
   SURFBODKIN_ACCEPTED = 0,
   SURFBODKIN_TOO_LONG = 1,            /* more bytes than the limit; place 0 */
@@ -80,8 +85,13 @@ enum surfbodkin_test {
   SURFBODKIN_NO_TEXT = 14,            /* a set (place 0), or a float, has no text */
   SURFBODKIN_NOT_TEXT = 15,           /* not the text of an accepted ARI; place 0 */
   SURFBODKIN_ROOM = 16,               /* lent room is too short; place: the need */
+  SURFBODKIN_NO_SUCH = 17,            /* no message of that number; place: their count */
   SURFBODKIN_TABLE = 18,              /* grant table; place: a row */
   SURFBODKIN_NAMES = 19,              /* list of names; place: a line's first byte */
+  SURFBODKIN_DAY_TRAILER = 20,        /* day file: its trailer or length; place 0 */
+  SURFBODKIN_DAY_TABLE = 21,          /* day file; place: an entry of its table */
+  SURFBODKIN_DAY_MESSAGE = 22,        /* day file; place: a message's number */
+  SURFBODKIN_DAY_FULL = 23,           /* no room in a day file; place 0 */
   SURFBODKIN_HELD = 255               /* not released; place: an entry */
 };
 
@@ -196,6 +206,64 @@ uint64_t surfbodkin_release(const uint8_t *message, size_t length,
                             const uint8_t *own, size_t own_length,
                             uint64_t subscriber, uint64_t *compared);
 
+/* A DAY FILE holds the messages that were released on one day: the messages back to
+   back from byte 0, then a table with the first byte of each as 2 bytes, then a trailer
+   of 8 bytes: the version, 1, a zero byte, the number of messages (2 bytes) and the
+   table's first byte (4 bytes), all big-endian. Messages are numbered from 0. A file
+   without messages is its trailer alone, 01 00 00 00 00 00 00 00. Each day_ function
+   first checks the whole file, and refuses it by
+
+     20   place 0: shorter than 8 bytes or longer than SURFBODKIN_DAY_BYTES, another
+          version, a second byte of the trailer that is not 0, messages, table and
+          trailer that do not add up to the length, or no messages and a table that
+          does not start at 0
+     21   place: the first entry of the table, counted from 0, that is the first one
+          and not 0, or is not above the one before, or is not below the table's start
+     22   place: the first message, counted from 0, that check_message refuses */
+
+/* Checks a day file.
+     accepted   low: its messages
+     refused    20 to 22 */
+uint64_t surfbodkin_day_check(const uint8_t *file, size_t length);
+
+/* Finds a message by its number.
+     accepted   count: the message's bytes; low: its first byte in the file
+     refused    20 to 22
+                17, place: the number of messages, if there is no such one */
+uint64_t surfbodkin_day_find(const uint8_t *file, size_t length, uint64_t number);
+
+/* Writes the file with one message more, behind the others.
+     accepted   count: its messages; low: its bytes
+     refused    20 to 22
+                1 to 12 as check_message, for the new message
+                23, place 0: with the message and its entry in the table the file would
+                be longer than SURFBODKIN_DAY_BYTES
+                16, place: the bytes of the new file, if `out` has fewer */
+uint64_t surfbodkin_day_add(const uint8_t *file, size_t length,
+                            const uint8_t *message, size_t message_length,
+                            uint8_t *out, size_t out_length);
+
+/* Lists the references in all messages whose namespace is a number, given in two's
+   complement, or a name that stands for it by the two lists as in release; in order,
+   SURFBODKIN_ENTRY bytes each, to be read with surfbodkin_get_found.
+     accepted   low: the entries written
+     refused    20 to 22
+                19 as check_names
+                16, place: the number of entries, if `out` holds fewer whole ones */
+uint64_t surfbodkin_day_search(const uint8_t *file, size_t length,
+                               const uint8_t *published, size_t published_length,
+                               const uint8_t *own, size_t own_length,
+                               uint64_t space, uint8_t *out, size_t out_length);
+
+/* The number that a name stands for by two lists, as release takes it. Lines that are
+   not well-formed match no name; they are not refused here.
+     accepted   low: 1, and `number`, which must not be NULL, is set to the number in
+                two's complement; or 0 and `number` is as it was */
+uint64_t surfbodkin_name_number(const uint8_t *published, size_t published_length,
+                                const uint8_t *own, size_t own_length,
+                                const uint8_t *name, size_t name_length,
+                                uint64_t *number);
+
 /* Writes the text of a single ARI in binary form, as "ari:/UINT/10", with no zero
    byte at its end.
      accepted   count: the ARI's items; low: the text's bytes
@@ -224,12 +292,12 @@ static inline uint64_t surfbodkin_place(uint64_t answer) {
   return answer & 0x00ffffffffffffff;
 }
 
-/* Of an acceptance the number of items. */
+/* Of an acceptance the number of items, or what a function says of its count. */
 static inline uint32_t surfbodkin_count(uint64_t answer) {
   return (uint32_t)(answer >> 32 & 0x00ffffff);
 }
 
-/* Of an acceptance the entries or bytes written. */
+/* Of an acceptance the entries or bytes written, or what a function says of its low. */
 static inline uint32_t surfbodkin_low(uint64_t answer) {
   return (uint32_t)(answer & 0xffffffff);
 }
@@ -266,6 +334,24 @@ static inline struct surfbodkin_entry surfbodkin_get_entry(const uint8_t *out,
   entry.kind = surfbodkin_get_number(at + 8, 8);
   entry.space = space >> 63 ? -1 - (int64_t)~space : (int64_t)space;
   return entry;
+}
+
+/* An entry that surfbodkin_day_search writes. */
+struct surfbodkin_found {
+  uint64_t message; /* the message's number */
+  uint64_t first;   /* the reference's first byte in the file */
+  uint64_t after;   /* the byte after its last */
+};
+
+/* Entry k, counted from 0, of what surfbodkin_day_search has written to `out`. */
+static inline struct surfbodkin_found surfbodkin_get_found(const uint8_t *out,
+                                                           size_t k) {
+  const uint8_t *at = out + k * SURFBODKIN_ENTRY;
+  struct surfbodkin_found found;
+  found.message = surfbodkin_get_number(at, 8);
+  found.first = surfbodkin_get_number(at + 8, 8);
+  found.after = surfbodkin_get_number(at + 16, 8);
+  return found;
 }
 
 /* Writes a row of a grant table, SURFBODKIN_ROW bytes. */
