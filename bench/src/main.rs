@@ -6,7 +6,9 @@
 use std::hint::black_box;
 use std::time::Instant;
 
-use reading::archive::{self, packed, packed_release, packed_written};
+use reading::archive::{self, packed, packed_low, packed_release, packed_written};
+use reading::day::{self, file_of, VERSION_1};
+use reading::generate::days::message_of_length;
 use reading::generate::{self, Random, Settings};
 use reading::vectors::hex;
 use reading::{check_message, check_single, Answer, Row, LIMITS};
@@ -407,6 +409,135 @@ fn time_streams(large: &[Vec<u8>]) {
     }
 }
 
+/// A file as long as it may be, of the first messages that it has room for and a last one
+/// that fills it.
+fn full_file(messages: &[Vec<u8>]) -> Vec<u8> {
+    let mut left = VERSION_1.bytes - day::TRAILER;
+    let mut held = Vec::new();
+    for message in messages.iter().cycle() {
+        let taken = message.len() + VERSION_1.offset;
+        if left < taken {
+            break;
+        }
+        left -= taken;
+        held.push(message.clone());
+    }
+    // The last one may have to take the place of one more.
+    while left < 5 + VERSION_1.offset {
+        left += held.pop().map_or(0, |message| message.len() + VERSION_1.offset);
+    }
+    held.push(message_of_length(left - VERSION_1.offset));
+    let file = file_of(&held, &VERSION_1);
+    assert_eq!(file.len(), VERSION_1.bytes);
+    file
+}
+
+/// The least that a call can do that reads all bytes.
+fn sum(file: &[u8]) -> u64 {
+    file.iter().map(|byte| u64::from(*byte)).sum()
+}
+
+/// A call on a day file, beside the reading and the sum of the bytes. The column `answer`
+/// has the messages or the entries found.
+fn time_day(
+    name: &str,
+    functions: &[&str],
+    file: Vec<u8>,
+    archive: impl Fn(&[u8], &mut [u8]) -> u64,
+    reading: impl Fn(&[u8], &mut [u8]) -> u64,
+) {
+    let linked = functions.iter().all(|function| archive::has(function));
+    let [mut room, mut other_room] = [(); 2].map(|()| vec![0; VERSION_1.bytes]);
+    let answer = reading(&file, &mut other_room);
+    assert_eq!(answer >> 56, 0, "refused");
+    assert!(!linked || archive(&file, &mut room) == answer && room == other_room);
+    let files = [file];
+    let mut runs = vec![
+        Run::new("reading", &files, |file| reading(file, &mut other_room)),
+        Run::new("sum", &files, sum),
+    ];
+    if linked {
+        runs.push(Run::new("archive", &files, |file| archive(file, &mut room)));
+    }
+    let best = Best::of(runs);
+    let bytes = files[0].len();
+    let rate =
+        |run| best.get(run).map_or("-".to_string(), |ns| format!("{:.0}", bytes as f64 * 1e3 / ns));
+    println!(
+        "{name:<36}{bytes:>7}{answer:>8}{:>12}{:>12}{:>12}{:>9}{:>9}{:>9}   {:>8}",
+        best.ns("archive"),
+        best.ns("reading"),
+        best.ns("sum"),
+        rate("archive"),
+        rate("reading"),
+        rate("sum"),
+        best.ratio("archive", "reading"),
+    );
+}
+
+/// Files of 65,535 bytes: the check, and searches by a number and by a name that stands
+/// for one, which is looked for too.
+fn time_days(large: &[Vec<u8>], few: &[Vec<u8>], published: &[u8], own: &[u8]) {
+    println!(
+        "{:<36}{:>7}{:>8}{:>12}{:>12}{:>12}{:>9}{:>9}{:>9}   {:>8}",
+        "day file, ns and MB/s",
+        "bytes",
+        "answer",
+        "archive",
+        "reading",
+        "sum",
+        "archive",
+        "reading",
+        "sum",
+        "arc/read"
+    );
+    let short = [hex(C)];
+    let notes = [note(4_000)];
+    for (name, messages) in [
+        ("j  check, many items", large),
+        ("j  check, message C again and again", &short),
+        ("j  check, 4,000 bytes of ASCII each", &notes),
+    ] {
+        time_day(
+            name,
+            &["surfbodkin_day_check"],
+            full_file(messages),
+            |file, _| archive::day_check(file),
+            |file, _| packed_low(day::check(file, &VERSION_1)),
+        );
+    }
+    let namespace = generate::NAMESPACES[0];
+    time_day(
+        "j  search by number, no lists",
+        &["surfbodkin_day_search"],
+        full_file(few),
+        |file, room| archive::day_search(file, b"", b"", namespace as u64, room),
+        |file, room| packed_low(day::search(file, b"", b"", namespace, room, &VERSION_1)),
+    );
+    time_day(
+        "j  search by number, 2,000 lines",
+        &["surfbodkin_day_search"],
+        full_file(few),
+        |file, room| archive::day_search(file, published, own, namespace as u64, room),
+        |file, room| packed_low(day::search(file, published, own, namespace, room, &VERSION_1)),
+    );
+    let name = b"!n707";
+    time_day(
+        "j  search by name, 2,000 lines",
+        &["surfbodkin_day_search", "surfbodkin_name_number"],
+        full_file(&[named_references(500)]),
+        |file, room| {
+            let mut number = 0;
+            assert_eq!(archive::name_number(published, own, name, &mut number), 1);
+            archive::day_search(file, published, own, number, room)
+        },
+        |file, room| {
+            let number = reading::names::name_number(published, own, name).expect("a line");
+            packed_low(day::search(file, published, own, number, room, &VERSION_1))
+        },
+    );
+}
+
 fn main() {
     let missing: Vec<&str> =
         archive::FUNCTIONS.iter().filter(|(_, there)| !there).map(|(name, _)| *name).collect();
@@ -522,6 +653,8 @@ fn main() {
     time_call("g  C's target from its text", &read, &target.each_ref().map(text));
     time_call("g  4,096 bytes from text, repeated", &read, &texts[..1]);
     time_call("g  500 like it", &read, &texts);
+
+    time_days(&large, &few, &published, &own);
 
     if archive::has_stream() {
         time_streams(&large);

@@ -15,18 +15,35 @@
 #pragma weak surfbodkin_stream_open
 #pragma weak surfbodkin_stream_feed
 #pragma weak surfbodkin_stream_close
+#pragma weak surfbodkin_day_check
+#pragma weak surfbodkin_day_find
+#pragma weak surfbodkin_day_add
+#pragma weak surfbodkin_day_search
+#pragma weak surfbodkin_name_number
 
-enum call { SINGLE, MESSAGE, LIST, TABLE, RELEASE, WRITE, READ, LISTS, STREAM, CALLS };
+enum call {
+  SINGLE, MESSAGE, LIST, TABLE, RELEASE, WRITE, READ, LISTS, STREAM,
+  DAY_CHECK, DAY_FIND, DAY_ADD, DAY_SEARCH, NAME, CALLS
+};
 static int there[CALLS];
 static unsigned long calls_made;
 
 struct arguments {
   enum call call;
-  struct bytes input, table;
-  uint64_t subscriber;
+  struct bytes input, table; /* of day_add the file and the message */
+  uint64_t subscriber;       /* of a day's file the message's number or the namespace */
   size_t room;
   struct bytes published, own;
 };
+
+/* How much of the room an acceptance has written. */
+static size_t written_by(enum call call, uint64_t answer) {
+  switch (call) {
+    case LIST: case STREAM: case DAY_SEARCH: return surfbodkin_low(answer) * (size_t)SURFBODKIN_ENTRY;
+    case WRITE: case READ: case DAY_ADD: return surfbodkin_low(answer);
+    default: return 0;
+  }
+}
 
 /* Opens a stream, feeds the input in pieces, an empty one first, and closes it. A
    refusal that a feed answers has to be that of the close. */
@@ -74,7 +91,7 @@ static uint64_t make(const struct arguments *a, enum way way, const uint8_t *out
   struct bytes in = input.lent, rows = table.lent, to = answer_room.lent;
   struct bytes first = published.lent, second = own.lent;
   const uint64_t unset = 0xa5a5a5a5a5a5a5a5;
-  uint64_t answer = 0, compared = unset;
+  uint64_t answer = 0, compared = unset, number = unset;
   switch (a->call) {
     case SINGLE: answer = surfbodkin_check_single(in.at, in.length); break;
     case MESSAGE: answer = surfbodkin_check_message(in.at, in.length); break;
@@ -93,12 +110,25 @@ static uint64_t make(const struct arguments *a, enum way way, const uint8_t *out
       answer = surfbodkin_check_names(first.at, first.length, second.at, second.length);
       break;
     case STREAM: answer = stream(a->input, way, to); break;
+    case DAY_CHECK: answer = surfbodkin_day_check(in.at, in.length); break;
+    case DAY_FIND: answer = surfbodkin_day_find(in.at, in.length, a->subscriber); break;
+    case DAY_ADD:
+      answer = surfbodkin_day_add(in.at, in.length, rows.at, rows.length, to.at, to.length);
+      break;
+    case DAY_SEARCH:
+      answer = surfbodkin_day_search(in.at, in.length, first.at, first.length, second.at,
+                                     second.length, a->subscriber, to.at, to.length);
+      break;
+    case NAME:
+      answer = surfbodkin_name_number(first.at, first.length, second.at, second.length, in.at,
+                                      in.length, &number);
+      if (number != (answer == 1 ? a->subscriber : unset)) fail("another number than it stands for");
+      break;
     default: fail("no such call");
   }
   calls_made++;
   if (surfbodkin_number(answer) == SURFBODKIN_ACCEPTED) {
-    size_t written = surfbodkin_low(answer);
-    if (a->call == LIST || a->call == STREAM) written *= SURFBODKIN_ENTRY;
+    size_t written = written_by(a->call, answer);
     if (written > a->room) fail("says that it wrote more than there was room for");
     if (written > 0) memcpy(room, out != NULL ? out : to.at, written);
   }
@@ -139,7 +169,9 @@ static void attempt(struct arguments a, const char *call, const char *input) {
 
 static const char *const NAMES[CALLS] = {"check_single", "check_message", "list",
                                          "check_table",  "release",       "write_text",
-                                         "read_text",    "check_names",   "stream_close"};
+                                         "read_text",    "check_names",   "stream_close",
+                                         "day_check",    "day_find",      "day_add",
+                                         "day_search",   "name_number"};
 
 /* A check, and each beginning of its input with whatever answer. */
 static void check(enum call call, const char *input, uint64_t answer) {
@@ -218,6 +250,32 @@ static void with_lists(enum call call, const char *input, const char *table, con
   free(a.own.at);
 }
 
+/* With a day file, another message or a number, and lists: in every room up to some past
+   the need, and each input at each of its lengths. */
+static void with_day(enum call call, const char *file, const char *message, uint64_t number,
+                     const char *published, const char *own, uint64_t answer, const char *out) {
+  if (!there[call]) return;
+  struct bytes written = bytes(out);
+  struct arguments a = {.call = call, .input = bytes(file), .table = bytes(message),
+                        .subscriber = number, .published = bytes(published), .own = bytes(own)};
+  for (a.room = 0; a.room <= written.length + 30; a.room++) {
+    int short_of = a.room < written.length;
+    expect(a, NAMES[call], file, short_of ? refused(SURFBODKIN_ROOM, surfbodkin_low(answer)) : answer,
+           written.at);
+  }
+  struct bytes *const inputs[] = {&a.input, &a.table, &a.published, &a.own};
+  for (int k = 0; k < 4; k++) {
+    size_t whole = inputs[k]->length;
+    for (size_t length = 0; length < whole && whole < 100 && call != NAME; length++) {
+      inputs[k]->length = length;
+      attempt(a, NAMES[call], file);
+    }
+    inputs[k]->length = whole;
+  }
+  for (int k = 0; k < 4; k++) free(inputs[k]->at);
+  free(written.at);
+}
+
 /* A text or hex with one part repeated, kept until the end. */
 static const char *repeated(const char *before, const char *part, int times, const char *after) {
   char *words = malloc(strlen(before) + strlen(part) * (size_t)times + strlen(after) + 1);
@@ -235,6 +293,8 @@ static const char *repeated(const char *before, const char *part, int times, con
 #define ROW_65536 "0000000000000007 0000000000010000 "
 #define ROW_20 "0000000000000007 ffffffffffffffec "
 #define OTHER_20 "0000000000000008 ffffffffffffffec "
+#define EMPTY_DAY "01 00 0000 00000000"
+#define DAY C NAMED " 0000 0012 01 00 0002 00000022"
 
 static uint64_t items(uint64_t count) { return count << 32; }
 
@@ -249,6 +309,11 @@ int main(void) {
   there[LISTS] = surfbodkin_check_names != NULL;
   there[STREAM] = surfbodkin_stream_open != NULL && surfbodkin_stream_feed != NULL &&
                   surfbodkin_stream_close != NULL;
+  there[DAY_CHECK] = surfbodkin_day_check != NULL;
+  there[DAY_FIND] = surfbodkin_day_find != NULL;
+  there[DAY_ADD] = surfbodkin_day_add != NULL;
+  there[DAY_SEARCH] = surfbodkin_day_search != NULL;
+  there[NAME] = surfbodkin_name_number != NULL;
   const char *before = "guards: skipped, not in the archive:";
   for (int call = 0; call < CALLS; call++) {
     if (there[call]) continue;
@@ -349,6 +414,36 @@ int main(void) {
   refuse_out(READ, repeated(":ari:", "/AC/(", 6000, ""), 15, 0);
   refuse_out(READ, repeated(":", "0", 32768, ""), 15, 0);
   refuse_out(READ, repeated(":", "0", 32769, ""), 1, 0);
+
+  check(DAY_CHECK, EMPTY_DAY, 0);
+  check(DAY_CHECK, DAY, 2);
+  check(DAY_CHECK, "00 0000 00000000", refused(20, 0));
+  check(DAY_CHECK, "02 00 0000 00000000", refused(20, 0));
+  check(DAY_CHECK, "01 01 0000 0000 01 00 0002 00000002", refused(21, 1));
+  check(DAY_CHECK, "01 02 0000 0001 01 00 0002 00000002", refused(22, 1));
+  check(DAY_CHECK, repeated("", "00", 65527, EMPTY_DAY), refused(20, 0));
+  check(DAY_CHECK, repeated("", "00", 65528, EMPTY_DAY), refused(20, 0));
+  with_day(DAY_FIND, DAY, "", 0, ":", ":", items(18), "");
+  with_day(DAY_FIND, DAY, "", 1, ":", ":", items(16) | 18, "");
+  with_day(DAY_FIND, DAY, "", 2, ":", ":", refused(17, 2), "");
+  with_day(DAY_FIND, EMPTY_DAY, "", UINT64_MAX, ":", ":", refused(17, 0), "");
+  with_day(DAY_ADD, EMPTY_DAY, C, 0, ":", ":", items(1) | 28, C "0000 01 00 0001 00000012");
+  with_day(DAY_ADD, C "0000 01 00 0001 00000012", NAMED, 0, ":", ":", items(2) | 46, DAY);
+  with_day(DAY_ADD, DAY, "02", 0, ":", ":", refused(8, 0), "");
+  with_day(DAY_ADD, DAY "00", "02", 0, ":", ":", refused(20, 0), "");
+  with_day(DAY_SEARCH, DAY, "", 65536, ":a=65536\n", ":!a=-20\n", 2,
+           "0000000000000000 0000000000000005 0000000000000012"
+           "0000000000000001 0000000000000017 000000000000001c");
+  with_day(DAY_SEARCH, DAY, "", (uint64_t)-20, ":a=65536\n", ":!a=-20\n", 2,
+           "0000000000000000 000000000000000e 0000000000000012"
+           "0000000000000001 000000000000001c 0000000000000022");
+  with_day(DAY_SEARCH, DAY, "", 1, ":a=65536\n", ":", 0, "");
+  with_day(DAY_SEARCH, DAY, "", 65536, ":a=65536\n", ":!a", refused(19, 8), "");
+  with_day(DAY_SEARCH, "02", "", 65536, ":a", ":", refused(20, 0), "");
+  with_day(NAME, ":a", "", 65536, ":b=1\na=x\na=65536\na=1\n", ":a=2\n", 1, "");
+  with_day(NAME, ":!a", "", (uint64_t)-20, ":!a=1\n", ":!a=-20\n", 1, "");
+  with_day(NAME, ":!b", "", 0, ":!b=1\n", ":!a=-20\n", 0, "");
+  with_day(NAME, ":", "", 0, ":=1\n", ":", 0, "");
 
   printf("guards: %lu calls, all as the header says\n", calls_made);
   return 0;

@@ -2,6 +2,9 @@
 //! build.rs). Each answer is one `u64`; [`packed`] and its kin give the numbers
 //! that stand for the reading's answers.
 
+use std::ops::Range;
+
+use crate::day::Added;
 use crate::{Answer, Refusal, Release, Written};
 
 /// Declares the functions that the archive has, and puts one that panics in the
@@ -43,6 +46,20 @@ functions! {
     );
     "check_names" surfbodkin_check_names(
         published: *const u8, published_length: usize, own: *const u8, own_length: usize
+    );
+    "day_check" surfbodkin_day_check(file: *const u8, length: usize);
+    "day_find" surfbodkin_day_find(file: *const u8, length: usize, number: u64);
+    "day_add" surfbodkin_day_add(
+        file: *const u8, length: usize, message: *const u8, message_length: usize,
+        out: *mut u8, out_length: usize
+    );
+    "day_search" surfbodkin_day_search(
+        file: *const u8, length: usize, published: *const u8, published_length: usize,
+        own: *const u8, own_length: usize, space: u64, out: *mut u8, out_length: usize
+    );
+    "name_number" surfbodkin_name_number(
+        published: *const u8, published_length: usize, own: *const u8, own_length: usize,
+        name: *const u8, name_length: usize, number: *mut u64
     );
     "stream_open" surfbodkin_stream_open(state: *mut u64, words: usize);
     "stream_feed" surfbodkin_stream_feed(
@@ -147,6 +164,70 @@ pub fn check_names(published: &[u8], own: &[u8]) -> u64 {
 }
 
 #[inline]
+pub fn day_check(file: &[u8]) -> u64 {
+    unsafe { functions::surfbodkin_day_check(file.as_ptr(), file.len()) }
+}
+
+#[inline]
+pub fn day_find(file: &[u8], number: u64) -> u64 {
+    unsafe { functions::surfbodkin_day_find(file.as_ptr(), file.len(), number) }
+}
+
+#[inline]
+pub fn day_add(file: &[u8], message: &[u8], room: &mut [u8]) -> u64 {
+    unsafe {
+        functions::surfbodkin_day_add(
+            file.as_ptr(),
+            file.len(),
+            message.as_ptr(),
+            message.len(),
+            room.as_mut_ptr(),
+            room.len(),
+        )
+    }
+}
+
+/// The namespace is given in two's complement.
+#[inline]
+pub fn day_search(
+    file: &[u8],
+    published: &[u8],
+    own: &[u8],
+    namespace: u64,
+    room: &mut [u8],
+) -> u64 {
+    unsafe {
+        functions::surfbodkin_day_search(
+            file.as_ptr(),
+            file.len(),
+            published.as_ptr(),
+            published.len(),
+            own.as_ptr(),
+            own.len(),
+            namespace,
+            room.as_mut_ptr(),
+            room.len(),
+        )
+    }
+}
+
+/// The number goes to `number`, in two's complement, if there is one.
+#[inline]
+pub fn name_number(published: &[u8], own: &[u8], name: &[u8], number: &mut u64) -> u64 {
+    unsafe {
+        functions::surfbodkin_name_number(
+            published.as_ptr(),
+            published.len(),
+            own.as_ptr(),
+            own.len(),
+            name.as_ptr(),
+            name.len(),
+            number,
+        )
+    }
+}
+
+#[inline]
 pub fn stream_open(state: &mut [u64]) -> u64 {
     unsafe { functions::surfbodkin_stream_open(state.as_mut_ptr(), state.len()) }
 }
@@ -198,9 +279,28 @@ fn refused(refusal: Refusal) -> u64 {
 /// What was written to lent room has its size in the low half.
 pub fn packed_written(answer: Result<Written, Refusal>) -> u64 {
     match answer {
-        Ok(Written { items, size }) => packed(Answer::Accepted(items)) | size as u64,
+        Ok(Written { items, size }) => accepted(items, size),
         Err(refusal) => refused(refusal),
     }
+}
+
+/// Two numbers: one from bit 32 on, and one in the low half.
+fn accepted(count: usize, low: usize) -> u64 {
+    packed(Answer::Accepted(count)) | low as u64
+}
+
+/// The messages of a day file, or the entries that a search of it wrote.
+pub fn packed_low(answer: Result<usize, Refusal>) -> u64 {
+    answer.map_or_else(refused, |low| accepted(0, low))
+}
+
+/// A part of a day file: its bytes, and the first of them.
+pub fn packed_part(answer: Result<Range<usize>, Refusal>) -> u64 {
+    answer.map_or_else(refused, |part| accepted(part.len(), part.start))
+}
+
+pub fn packed_added(answer: Result<Added, Refusal>) -> u64 {
+    answer.map_or_else(refused, |Added { messages, bytes }| accepted(messages, bytes))
 }
 
 /// A table's check, or a feed.

@@ -2,6 +2,7 @@
 //! shapes near the limits, damaged ones, and random bytes. Nothing here is
 //! taken for right or wrong; that is for the readers to say.
 
+pub mod days;
 pub mod names;
 pub mod tables;
 pub mod texts;

@@ -9,12 +9,13 @@
 //! judge by the listing and a grant table, `write_text` and `read_text` go from
 //! a single ARI to its text and back, `read_table` reads the text of a grant table. A
 //! [`Stream`] takes a message in fragments; [`names`] has the lists of names, and release
-//! by them.
+//! by them; [`day`] the file of a day's messages.
 //!
 //! Not part of the reading: [`archive`] calls the gate, [`generate`] makes
 //! inputs for comparisons and times, [`vectors`] holds the fixed inputs,
 //! [`appendix`] RFC 8949's examples, [`printed`] is what programs print.
 
+pub mod day;
 mod grants;
 mod head;
 mod listing;
@@ -53,8 +54,8 @@ pub struct Limits {
 
 pub const LIMITS: Limits = Limits { bytes: 4_096, items: 1_024, containers: 12, text: 32_768 };
 
-/// The tests of 'Order of the tests', by number. 17 is missing: no call here is
-/// asked for an item by number.
+/// The tests of 'Order of the tests', and those of the change requests, by number. No call
+/// here is asked for an item, so 17 is of a day file's messages only.
 #[derive(Clone, Copy, Debug, PartialEq, Eq)]
 #[repr(u8)]
 pub enum Test {
@@ -90,14 +91,24 @@ pub enum Test {
     NotText = 15,
     /// "the answer needs more room than lent"
     Room = 16,
+    /// No message of that number.
+    Number = 17,
     /// "grant table"
     Table = 18,
     /// "a list line wrongly formed"
     Names = 19,
+    /// "bad trailer"
+    DayTrailer = 20,
+    /// "bad table"
+    DayTable = 21,
+    /// "the first stored message refused"
+    DayMessage = 22,
+    /// "file full"
+    DayFull = 23,
 }
 
-/// "A refusal is a number with one further number, the place"; with tests 16
-/// and 18 that number is a need or a row.
+/// "A refusal is a number with one further number, the place"; with tests 16 to 18 that
+/// number is a need, a count or a row, with 21 and 22 an entry or a message.
 #[derive(Clone, Copy, Debug, PartialEq, Eq)]
 pub struct Refusal {
     pub test: Test,
@@ -151,12 +162,16 @@ pub struct Written {
 
 /// Writes an answer to the front of the room, or nothing at all: "An acceptance
 /// leaves room past its answer unchanged", and 16 is given with the size.
-fn hand_over(answer: &[u8], written: Written, room: &mut [u8]) -> Result<Written, Refusal> {
+fn put(answer: &[u8], size: usize, room: &mut [u8]) -> Result<(), Refusal> {
     let Some(front) = room.get_mut(..answer.len()) else {
-        return Err(Refusal { test: Test::Room, place: written.size });
+        return Err(Refusal { test: Test::Room, place: size });
     };
     front.copy_from_slice(answer);
-    Ok(written)
+    Ok(())
+}
+
+fn hand_over(answer: &[u8], written: Written, room: &mut [u8]) -> Result<Written, Refusal> {
+    put(answer, written.size, room).map(|()| written)
 }
 
 /// "Asked for item k, the gate gives a record".

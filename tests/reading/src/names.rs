@@ -63,6 +63,11 @@ pub fn find_line<'a>(published: &'a [u8], own: &'a [u8], name: &[u8]) -> &'a [u8
     find(published, own, name).map_or(&[], |line| line.text)
 }
 
+/// The number that a name stands for, whatever other lines the lists have.
+pub fn name_number(published: &[u8], own: &[u8], name: &[u8]) -> Option<i64> {
+    find(published, own, name).map(|line| line.number)
+}
+
 /// The number that a namespace of an accepted message is, or stands for by the lists.
 pub fn number_of(
     message: &[u8],
@@ -72,9 +77,7 @@ pub fn number_of(
 ) -> Option<i64> {
     match namespace {
         Namespace::Number(number) => Some(number),
-        Namespace::Name(place) => {
-            find(published, own, name_at(message, place)).map(|line| line.number)
-        }
+        Namespace::Name(place) => name_number(published, own, name_at(message, place)),
         Namespace::Relative => None,
     }
 }

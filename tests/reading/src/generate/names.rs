@@ -139,7 +139,7 @@ fn alike(random: &mut Random, name: &[u8]) -> Vec<u8> {
 
 /// Lists with a line for each of the names, and others. Two in three have no line that is
 /// wrongly formed.
-fn lists_with(random: &mut Random, names: &[Vec<u8>]) -> Lists {
+pub(super) fn lists_with(random: &mut Random, names: &[Vec<u8>]) -> Lists {
     // The published list, and the own one.
     let mut lists: [Vec<Vec<u8>>; 2] = Default::default();
     let wrong = match random.below(9) {

@@ -1,12 +1,13 @@
 //! Compares the archive's answers, and what it leaves in lent memory, with the
 //! reading's: on inputs from the grammar, near the limits, damaged and random,
 //! with tables that grant most of what is named, and rooms from none to enough;
-//! and messages that are fed in fragments.
+//! day files, whole and damaged; and messages that are fed in fragments.
 //!
 //! `agree [--count N] [--seed S]`: N inputs in all (200,000), for each function
 //! that the archive has the same number, the stream's three counted as one; the
 //! seed is taken from the clock unless given, and printed.
 
+mod day;
 mod lent;
 mod stream;
 mod tally;
@@ -16,9 +17,11 @@ use std::time::{Instant, SystemTime, UNIX_EPOCH};
 
 use lent::Lent;
 use reading::archive::{self, packed, packed_plain, packed_release, packed_written, unpacked};
-use reading::generate::{self, names, tables, texts, Random, Settings};
+use reading::archive::{packed_added, packed_low, packed_part};
+use reading::day::{FOUND, VERSION_1};
+use reading::generate::{self, days, names, tables, texts, Random, Settings};
 use reading::vectors::to_hex;
-use reading::{Entry, Namespace, Record, Refusal, Test, Written, ENTRY, LIMITS};
+use reading::{Entry, Namespace, Record, Written, ENTRY, LIMITS};
 use tally::Column;
 
 #[derive(Clone, Copy, Debug, PartialEq, Eq)]
@@ -31,24 +34,33 @@ enum Call {
     Write,
     Read,
     Names,
+    DayCheck,
+    DayFind,
+    DayAdd,
+    DaySearch,
+    Number,
 }
 
 /// What a call is lent. Most use only a part of it.
 #[derive(Default)]
 struct Case {
-    /// The message, the single ARI or the text.
+    /// The message, the single ARI, the text or the day file.
     input: Vec<u8>,
+    /// The message to be added to a day file, or the name whose number is wanted.
+    other: Vec<u8>,
     table: Vec<u8>,
     /// The published list of names and the subscriber's own.
     lists: names::Lists,
-    subscriber: u64,
-    /// What the room for the answer holds before; of a release what the number of rows
-    /// compared is before, as eight bytes.
+    /// The subscriber, the number of a day file's message or the namespace sought in it.
+    number: u64,
+    /// What the room for the answer holds before; where a number is lent, that of the rows
+    /// compared or of a name, what it is before, as eight bytes.
     room: Vec<u8>,
 }
 
 impl Call {
-    const ALL: [Call; 8] = [
+    /// In the order of the archive's declarations.
+    const ALL: [Call; 13] = [
         Call::Single,
         Call::Message,
         Call::List,
@@ -57,6 +69,11 @@ impl Call {
         Call::Write,
         Call::Read,
         Call::Names,
+        Call::DayCheck,
+        Call::DayFind,
+        Call::DayAdd,
+        Call::DaySearch,
+        Call::Number,
     ];
 
     fn function(self) -> &'static str {
@@ -74,11 +91,16 @@ impl Call {
             Call::Write => (0..=7).chain(9..=14).chain([16]).collect(),
             Call::Read => vec![0, 1, 15, 16],
             Call::Names => vec![0, 19],
+            Call::DayCheck => vec![0, 20, 21, 22],
+            Call::DayFind => vec![0, 17, 20, 21, 22],
+            Call::DayAdd => (0..=12).chain([16]).chain(20..=23).collect(),
+            Call::DaySearch => vec![0, 16, 19, 20, 21, 22],
+            Call::Number => vec![0],
         }
     }
 
     fn reading(self, case: &Case, room: &mut [u8]) -> u64 {
-        let Case { input, table, lists: (published, own), subscriber, .. } = case;
+        let Case { input, other, table, lists: (published, own), number, .. } = case;
         match self {
             Call::Single => packed(reading::check_single(input)),
             Call::Message => packed(reading::check_message(input)),
@@ -87,9 +109,8 @@ impl Call {
                 packed_plain(reading::rows(table).and_then(|rows| reading::check_table(&rows)))
             }
             Call::Release => {
-                let counted = reading::names::counted_release(
-                    input, table, published, own, *subscriber, &LIMITS,
-                );
+                let counted =
+                    reading::names::counted_release(input, table, published, own, *number, &LIMITS);
                 if let Ok((_, compared)) = counted {
                     room.copy_from_slice(&compared.to_ne_bytes());
                 }
@@ -98,28 +119,45 @@ impl Call {
             Call::Write => packed_written(reading::write_text(input, room)),
             Call::Read => packed_written(reading::read_text(input, room)),
             Call::Names => packed_plain(reading::names::check_names(published, own)),
+            Call::DayCheck => packed_low(reading::day::check(input, &VERSION_1)),
+            Call::DayFind => packed_part(reading::day::find(input, *number, &VERSION_1)),
+            Call::DayAdd => packed_added(reading::day::add(input, other, room, &VERSION_1)),
+            Call::DaySearch => {
+                let namespace = *number as i64;
+                let search = reading::day::search;
+                packed_low(search(input, published, own, namespace, room, &VERSION_1))
+            }
+            Call::Number => {
+                let number = reading::names::name_number(published, own, other);
+                if let Some(number) = number {
+                    room.copy_from_slice(&number.to_ne_bytes());
+                }
+                packed_low(Ok(usize::from(number.is_some())))
+            }
         }
     }
 
-    /// What is lent to read is the input, the table and the two lists.
-    fn archive(self, lent: [&[u8]; 4], subscriber: u64, room: &mut [u8]) -> u64 {
-        let [input, table, published, own] = lent;
+    /// What is lent to read is the input, the other one, the table and the two lists.
+    fn archive(self, lent: [&[u8]; 5], number: u64, room: &mut [u8]) -> u64 {
+        let [input, other, table, published, own] = lent;
         match self {
             Call::Single => archive::check_single(input),
             Call::Message => archive::check_message(input),
             Call::List => archive::list(input, room),
             Call::Table => archive::check_table(table),
-            Call::Release => {
-                let before: [u8; 8] = (&*room).try_into().expect("eight bytes");
-                let mut compared = u64::from_ne_bytes(before);
-                let answer =
-                    archive::release(input, table, published, own, subscriber, &mut compared);
-                room.copy_from_slice(&compared.to_ne_bytes());
-                answer
-            }
+            Call::Release => with_number(room, |compared| {
+                archive::release(input, table, published, own, number, compared)
+            }),
             Call::Write => archive::write_text(input, room),
             Call::Read => archive::read_text(input, room),
             Call::Names => archive::check_names(published, own),
+            Call::DayCheck => archive::day_check(input),
+            Call::DayFind => archive::day_find(input, number),
+            Call::DayAdd => archive::day_add(input, other, room),
+            Call::DaySearch => archive::day_search(input, published, own, number, room),
+            Call::Number => {
+                with_number(room, |number| archive::name_number(published, own, other, number))
+            }
         }
     }
 
@@ -220,7 +258,7 @@ impl Call {
     /// namespaces; now and then there are no lists.
     fn give_names(self, random: &mut Random, case: &mut Case) {
         if random.chance(25) {
-            (case.table, case.subscriber) = tables::table_for(random, &case.input);
+            (case.table, case.number) = tables::table_for(random, &case.input);
             return;
         }
         if random.chance(50) {
@@ -229,14 +267,8 @@ impl Call {
             names::rename(random, &mut case.input, &known, 60);
         }
         case.lists = names::lists_for(random, &case.input);
-        if random.chance(8) {
-            let (published, own) = &mut case.lists;
-            match random.chance(50) {
-                true => names::damage(random, published, own),
-                false => names::damage(random, own, published),
-            }
-        }
-        (case.table, case.subscriber) = names::table_for(random, &case.input, &case.lists);
+        damage_lists(random, &mut case.lists);
+        (case.table, case.number) = names::table_for(random, &case.input, &case.lists);
     }
 
     fn case(self, random: &mut Random) -> Case {
@@ -245,20 +277,43 @@ impl Call {
             Call::Table => case.table = tables::table(random),
             Call::Read => case.input = text(random),
             Call::Names => case.lists = names::lists(random),
+            Call::DayCheck => case.input = days::file(random),
+            Call::DayFind => {
+                case.input = days::file(random);
+                case.number = days::message_number(random, &case.input);
+            }
+            Call::DayAdd => {
+                case.other = self.binary(random);
+                case.input = days::file_for(random, &case.other);
+            }
+            Call::DaySearch => {
+                (case.input, case.lists) = days::named_file(random);
+                damage_lists(random, &mut case.lists);
+                case.number = days::namespace(random, &case.input, &case.lists) as u64;
+            }
+            Call::Number => {
+                case.lists = names::lists(random);
+                case.other = names::sought(random, &case.lists);
+            }
             _ => case.input = self.binary(random),
         }
         if self == Call::Release {
             self.give_names(random, &mut case);
-            case.room = random.word().to_ne_bytes().to_vec();
         }
-        let need = match self {
-            Call::List => reading::list(&case.input, &mut []).map_err(|r| (r, ENTRY)),
-            Call::Write => reading::write_text(&case.input, &mut []).map_err(|r| (r, 1)),
-            Call::Read => reading::read_text(&case.input, &mut []).map_err(|r| (r, 1)),
+        // The size of what test 16 counts.
+        let size = match self {
+            Call::List => ENTRY,
+            Call::DaySearch => FOUND,
+            Call::Write | Call::Read | Call::DayAdd => 1,
+            Call::Release | Call::Number => {
+                case.room = random.word().to_ne_bytes().to_vec();
+                return case;
+            }
             _ => return case,
         };
-        let need = match need {
-            Err((Refusal { test: Test::Room, place }, size)) => place * size,
+        let answer = self.reading(&case, &mut []);
+        let need = match answer >> 56 {
+            16 => (answer << 8 >> 8) as usize * size,
             _ => 0,
         };
         let length = match random.below(10) {
@@ -272,6 +327,25 @@ impl Call {
         case.room = (0..length.div_ceil(8)).flat_map(|_| random.word().to_ne_bytes()).collect();
         case.room.truncate(length);
         case
+    }
+}
+
+/// Lends a call a number, which stands in the room before and after.
+fn with_number(room: &mut [u8], call: impl FnOnce(&mut u64) -> u64) -> u64 {
+    let before: [u8; 8] = (&*room).try_into().expect("eight bytes");
+    let mut number = u64::from_ne_bytes(before);
+    let answer = call(&mut number);
+    room.copy_from_slice(&number.to_ne_bytes());
+    answer
+}
+
+/// Damages one of the lists, now and then.
+fn damage_lists(random: &mut Random, (published, own): &mut names::Lists) {
+    if random.chance(8) {
+        match random.chance(50) {
+            true => names::damage(random, published, own),
+            false => names::damage(random, own, published),
+        }
     }
 }
 
@@ -293,17 +367,16 @@ fn text(random: &mut Random) -> Vec<u8> {
 /// Both answers, if they differ or lent memory isn't as it has to be: what is lent to
 /// read unchanged, the room as the reading leaves its own.
 fn compare(call: Call, case: &Case, shift: usize) -> Result<u64, String> {
-    let Case { input, table, lists: (published, own), subscriber, room } = case;
+    let Case { input, other, table, lists: (published, own), number, room } = case;
     let mut expected_room = room.clone();
     let expected = call.reading(case, &mut expected_room);
     let answered = matches!(expected >> 56, 0 | archive::NO);
     assert!(answered || expected_room == *room, "the reading wrote on a refusal");
 
-    let contents = [input, table, published, own];
-    let lent = [0, 1, 2, 3].map(|k| Lent::new(contents[k], shift / (k + 1)));
+    let contents = [input, other, table, published, own];
+    let lent = [0, 1, 2, 3, 4].map(|k| Lent::new(contents[k], shift / (k + 1)));
     let mut lent_room = Lent::new(room, shift / 3);
-    let given =
-        call.archive(lent.each_ref().map(Lent::content), *subscriber, lent_room.content_mut());
+    let given = call.archive(lent.each_ref().map(Lent::content), *number, lent_room.content_mut());
     let wrong = if given != expected {
         unpacked(given)
     } else if !lent.iter().zip(contents).all(|(lent, content)| lent.is(content)) {
@@ -314,15 +387,17 @@ fn compare(call: Call, case: &Case, shift: usize) -> Result<u64, String> {
         return Ok(expected);
     };
     let mut words = format!("{call:?}");
-    for (name, content) in ["input", "table", "published", "own", "room"]
+    for (name, content) in ["input", "other", "table", "published", "own", "room"]
         .into_iter()
-        .zip([input, table, published, own, room])
+        .zip([input, other, table, published, own, room])
         .filter(|(_, content)| !content.is_empty())
     {
         words += &format!(", {name} {}", to_hex(content));
     }
     match call {
-        Call::Release => words += &format!(", subscriber {subscriber}"),
+        Call::Release => words += &format!(", subscriber {number}"),
+        Call::DayFind => words += &format!(", message {number}"),
+        Call::DaySearch => words += &format!(", namespace {}", *number as i64),
         Call::Read => words += &format!(" ({})", String::from_utf8_lossy(input)),
         _ => (),
     }
@@ -354,16 +429,27 @@ struct Tally {
     /// Answers of no at another entry than the first.
     later_no: usize,
     read_back: usize,
+    days: day::Tally,
 }
 
 impl Tally {
     fn new(calls: &[Call]) -> Tally {
         let column = |call: &Call| (*call, Column::new(&format!("{call:?}"), call.numbers()));
         let answers = calls.iter().map(column).collect();
-        Tally { answers, deep: 0, entries: 0, yes: 0, named_yes: 0, later_no: 0, read_back: 0 }
+        Tally {
+            answers,
+            deep: 0,
+            entries: 0,
+            yes: 0,
+            named_yes: 0,
+            later_no: 0,
+            read_back: 0,
+            days: day::Tally::default(),
+        }
     }
 
-    fn add(&mut self, call: Call, input: &[u8], answer: u64) {
+    fn add(&mut self, call: Call, case: &Case, answer: u64) {
+        self.days.add(call, case, answer);
         for (_, column) in self.answers.iter_mut().filter(|(of, _)| *of == call) {
             column.add(answer);
         }
@@ -371,7 +457,7 @@ impl Tally {
         match number {
             0 if call == Call::List => self.entries += low as u32 as usize,
             0 if call == Call::Release => {
-                let entries = reading::listing(input).unwrap().entries;
+                let entries = reading::listing(&case.input).unwrap().entries;
                 let is_name = |entry: &Entry| matches!(entry.namespace, Namespace::Name(_));
                 self.yes += usize::from(!entries.is_empty());
                 self.named_yes += usize::from(entries.iter().any(is_name));
@@ -393,7 +479,7 @@ fn compare_call(
 ) -> Result<(), String> {
     let case = call.case(random);
     let answer = compare(call, &case, shift)?;
-    tally.add(call, &case.input, answer);
+    tally.add(call, &case, answer);
     if call == Call::Write && answer >> 56 == 0 && calls.contains(&Call::Read) {
         compare(Call::Read, &read_back(&case, answer), shift)?;
         tally.read_back += 1;
@@ -456,12 +542,18 @@ fn main() -> ExitCode {
     if with_stream {
         columns.extend([&streams.feeds, &streams.closes]);
     }
-    let complete = tally::print(&columns) && (!with_stream || streams.is_complete());
+    let with_days = day::CALLS.iter().all(|call| calls.contains(call));
+    let complete = tally::print(&columns)
+        && (!with_stream || streams.is_complete())
+        && (!with_days || tally.days.is_complete());
     println!(
         "refused at byte 16 or later {}, entries listed {}, yes with references {}, with names \
          {}, no past entry 0 {}, texts read back {}",
         tally.deep, tally.entries, tally.yes, tally.named_yes, tally.later_no, tally.read_back
     );
+    if with_days {
+        println!("{}", tally.days);
+    }
     if with_stream {
         println!("{streams}");
     }

@@ -24,11 +24,11 @@ impl Column {
 pub fn print(columns: &[&Column]) -> bool {
     print!("{:>12}", "");
     for column in columns {
-        print!("{:>9}", column.name);
+        print!("{:>10}", column.name);
     }
     println!();
     let mut complete = true;
-    for number in (0..=19).chain([NO]) {
+    for number in (0..=23).chain([NO]) {
         if !columns.iter().any(|column| column.numbers.contains(&number)) {
             continue;
         }
@@ -39,10 +39,10 @@ pub fn print(columns: &[&Column]) -> bool {
         }
         for column in columns {
             match column.answers[number as usize] {
-                0 if !column.numbers.contains(&number) => print!("{:>9}", "-"),
+                0 if !column.numbers.contains(&number) => print!("{:>10}", "-"),
                 times => {
                     complete &= times > 0;
-                    print!("{times:>9}");
+                    print!("{times:>10}");
                 }
             }
         }
