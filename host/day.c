@@ -281,16 +281,13 @@ static uint64_t find_space(struct bytes day, struct lists lists, int64_t space,
 }
 
 static int search(const char *name, int64_t space, struct lists lists) {
-  struct bytes day = read_day(name), found = {NULL, 0};
+  struct bytes day = read_day(name);
   int status = DONE;
-  /* Without room the answer is how much is needed. */
+  /* Enough for every file, so that nothing has to be counted first. */
+  struct bytes found = {NULL, SURFBODKIN_DAY_ENTRIES * SURFBODKIN_ENTRY};
+  found.at = malloc(found.length);
+  if (found.at == NULL) fail("%s: %s", name, strerror(errno));
   uint64_t answer = find_space(day, lists, space, found);
-  if (surfbodkin_number(answer) == SURFBODKIN_ROOM) {
-    found.length = surfbodkin_place(answer) * SURFBODKIN_ENTRY;
-    found.at = malloc(found.length);
-    if (found.at == NULL) fail("%s: %s", name, strerror(errno));
-    answer = find_space(day, lists, space, found);
-  }
   if (refused(answer)) {
     status = refuse(answer);
   } else {

@@ -60,7 +60,8 @@ enum surfbodkin_size {
   SURFBODKIN_ENTRIES = 512,      /* no listing has more: an entry takes two items */
   SURFBODKIN_STREAM_WORDS = 67,  /* of a stream's state, each a uint64_t */
   SURFBODKIN_DAY_BYTES = 65535,  /* of a day file */
-  SURFBODKIN_DAY_TRAILER_BYTES = 8 /* of its trailer, and of a file without messages */
+  SURFBODKIN_DAY_TRAILER_BYTES = 8, /* of its trailer, and of a file without messages */
+  SURFBODKIN_DAY_ENTRIES = 32767 /* no search finds more: a reference takes two bytes */
 };
 
 /* The number in an answer's top byte. Tests are tried in this order: 1, then 2 to 12
@@ -249,7 +250,9 @@ uint64_t surfbodkin_day_add(const uint8_t *file, size_t length,
      accepted   low: the entries written
      refused    20 to 22
                 19 as check_names
-                16, place: the number of entries, if `out` holds fewer whole ones */
+                16, place: the number of entries, if `out` holds fewer whole ones.
+                SURFBODKIN_DAY_ENTRIES * SURFBODKIN_ENTRY bytes always suffice, and
+                save a walk through the file that counts them first */
 uint64_t surfbodkin_day_search(const uint8_t *file, size_t length,
                                const uint8_t *published, size_t published_length,
                                const uint8_t *own, size_t own_length,

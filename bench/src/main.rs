@@ -11,7 +11,7 @@ use reading::day::{self, file_of, VERSION_1};
 use reading::generate::days::message_of_length;
 use reading::generate::{self, Random, Settings};
 use reading::vectors::hex;
-use reading::{check_message, check_single, Answer, Row, LIMITS};
+use reading::{check_message, check_single, Answer, Row, ENTRY, LIMITS};
 
 const ROUNDS: usize = 25;
 
@@ -447,7 +447,7 @@ fn time_day(
     reading: impl Fn(&[u8], &mut [u8]) -> u64,
 ) {
     let linked = functions.iter().all(|function| archive::has(function));
-    let [mut room, mut other_room] = [(); 2].map(|()| vec![0; VERSION_1.bytes]);
+    let [mut room, mut other_room] = [(); 2].map(|()| vec![0; VERSION_1.bytes / 2 * ENTRY]);
     let answer = reading(&file, &mut other_room);
     assert_eq!(answer >> 56, 0, "refused");
     assert!(!linked || archive(&file, &mut room) == answer && room == other_room);

@@ -4,28 +4,34 @@ use mathlib.Core.Path.{_≡_, refl, sym, _∙_, ap}
 use mathlib.Core.Bool.{Bool, true, false, cond, true≢false}
 use mathlib.Core.List.{List, [], _∷_, _++_, append-assoc}
 use native.Mathlib.Omega.{arith}
-use lib.ListN.{length, drop, getD, length-append}
-use lib.Seq.{sets-eq}
+use lib.ListN.{length, take, drop, getD, length-append, length-map}
+use lib.Seq.{sets-eq, length-take-le}
 use lib.Dec.{eqb, ltb, leb}
 use mir.Syntax.{w8}
 use mir.Val.{Fits}
 use borrow.Author.Tests.{le-leb, le-ltb, lt-ltb}
 use Rattle.buffer.specs.Bytes.{be, all, isByte}
 use Rattle.buffer.specs.Put.{Put}
-use Rattle.buffer.proofs.ByteLaws.{length-be, all-bytes}
+use Rattle.buffer.proofs.ByteLaws.{length-be, all-bytes, all-take, all-drop}
 use Rattle.ari.specs.declared.Limits.{Limits}
 use Rattle.ari.specs.declared.Input.the-variants.{Message}
 use Rattle.ari.specs.Reader.{Answer, accept, refuse, read}
-use Rattle.ari.specs.Listing.{Entry}
+use Rattle.ari.specs.Listing.{Entry, listing}
+use Rattle.ari.specs.Decode.{decode}
+use Rattle.ari.specs.Rules.{Is}
+use Rattle.ari.proofs.Demand.{demand-two}
+use Rattle.ari.proofs.ListingBound.{at-most-half}
+use Rattle.item_table.proofs.Entries.{fewer-than-bytes}
 use Rattle.names.specs.declared.Names.{Names}
 use Rattle.names.specs.declared.Names.the-variants as lists
 use Rattle.names.specs.Names.{checkNames}
-use Rattle.names.specs.Translated.{translated}
+use Rattle.names.specs.Translated.{translate, translated}
 use Rattle.day_file.specs.declared.Format.{Format}
 use Rattle.day_file.specs.declared.Day.{Day}
 use Rattle.day_file.specs.declared.Day.the-variants as day
-use Rattle.day_file.specs.Day.{countIn, offsetIn, messageIn, firstAt, messageAt, messageStands, isAccepted, checkDay}
-use Rattle.day_file.proofs.Files.{trailer-says}
+use Rattle.day_file.specs.declared.Day.the-variants.{Messages}
+use Rattle.day_file.specs.Day.{join, countIn, startIn, offsetIn, endIn, messageIn, messagesFrom, firstAt, messageAt, messageStands, isAccepted, checkDay}
+use Rattle.day_file.proofs.Files.{trailer-says, messages-joined}
 use Rattle.day_file.proofs.Adding.{Passes, passes-all}
 use Rattle.day_file.proofs.Days.{count-small}
 use Rattle.day_search.specs.declared.Searched.{Searched}
@@ -105,22 +111,83 @@ module _ (f : Format) (m : Limits) (b published own : List ℕ) (w : ℕ) where
         rw (mes, fst, acc)
         (ap (λ (u : List ℕ). hitsBytes (hitsIn w k (offsetIn f b k) es) ++ u) (written l n (suc k) (omega arith)) ∙ sym (hits-append (hitsIn w k (offsetIn f b k) es) (hitsFrom f b published own w (suc k) n)))
 
+message-bytes : (f : Format) (b : List ℕ) → all isByte b ≡ true → (k : ℕ) → all isByte (messageIn f b k) ≡ true
+unfolding messageIn
+message-bytes f b bytes k = all-take isByte (endIn f b k - offsetIn f b k) (drop (offsetIn f b k) b) (all-drop isByte (offsetIn f b k) b bytes)
+
+-- No more than half as many as bytes: a reference takes two items at the least, and an item a byte.
+module _ (f : Format) (m : Limits) (b published own : List ℕ) (w : ℕ) where
+  no-more : (es : List Entry) → matching w es ≤ length es
+  no-more [] = omega arith
+  no-more (e ∷ es) = go (isWord w (e .space)) (no-more es)
+    where
+      go : (x : Bool) → matching w es ≤ length es → cond x (suc (matching w es)) (matching w es) ≤ suc (length es)
+      go true h = omega arith
+      go false h = omega arith
+
+  half : (x : List ℕ) → all isByte x ≡ true → 2 * matchingIn m published own w x ≤ length x
+  unfolding matchingIn
+  half x bytes = go (read m Message x) refl
+    where
+      go : (a : Answer) → read m Message x ≡ a → 2 * matchingBy a w (translated published own x) ≤ length x
+      go (refuse r p) e = omega arith
+      go (accept n) e =
+          let c : Is m Message x (decode x) n = demand-two m Message x n bytes .0 e in
+          omega (arith, no-more (translated published own x), length-map (listing x) (translate published own), at-most-half c, fewer-than-bytes c)
+
+  module _ (bytes : all isByte b ≡ true) {c : ℕ} (p : Passes f m b c) (small : countIn b < 65536) where
+    half-from : (n k : ℕ) → k + n ≡ countIn b → 2 * matchingFrom f m b published own w k n ≤ length (join (messagesFrom f b k n))
+    half-from zero k e = omega arith
+    half-from (suc n) k e =
+        let (mes, fst) = there f m b published own w p k (omega arith) small in
+        let one : 2 * matchingIn m published own w (messageIn f b k) ≤ length (messageIn f b k) = half (messageIn f b k) (part-bytes k) in
+        rw mes (omega (arith, half-from n (suc k) (omega arith), length-append (messageIn f b k) (join (messagesFrom f b (suc k) n))))
+      where
+        part-bytes : (k : ℕ) → all isByte (messageIn f b k) ≡ true
+        part-bytes k = message-bytes f b bytes k
+
+    pub half-as-many : 2 * matchingFrom f m b published own w 0 (countIn b) ≤ length b
+    half-as-many =
+        let joined = messages-joined f b bytes (p .trailer-stands) (p .entries) in
+        omega (arith, half-from (countIn b) 0 (omega arith), ap length joined, length-take-le (startIn b) b (omega (arith, trailer-says f b (p .trailer-stands) .sum)), trailer-says f b (p .trailer-stands) .sum)
+
 -- the room
-module _ (f : Format) (m : Limits) (b published own : List ℕ) (w n : ℕ) (o : List ℕ) {c : ℕ} (e : c ≡ matchingFrom f m b published own w 0 n) where
-  pub too-many : length o / 24 < c → Refused 16 c ≡ foundOr (matchingFrom f m b published own w 0 n) (length o / 24)
-  too-many h = sym (rw (← e, lt-ltb (length o / 24) c h))
+module _ (f : Format) (m : Limits) (b published own : List ℕ) (w n : ℕ) (o : List ℕ) where
+  abbrev c : ℕ
+  c = matchingFrom f m b published own w 0 n
 
-  pub enough : c ≤ length o / 24 → Entries c ≡ foundOr (matchingFrom f m b published own w 0 n) (length o / 24)
-  enough h = sym (rw (← e, le-ltb (length o / 24) c h))
+  module _ {d : ℕ} (e : d ≡ c) where
+    pub too-many : length o / 24 < d → Refused 16 d ≡ foundOr c (length o / 24)
+    too-many h = sym (rw (← e, lt-ltb (length o / 24) d h))
 
-  pub filled-with : c ≤ length o / 24 → {o′ : List ℕ} {r : ℕ} → Put o o′ 0 r (bytesFrom f m b published own w 0 n) → o′ ≡ filled (Entries c) (bytesFrom f m b published own w 0 n) o
-  filled-with h p =
-      let u = bytesFrom f m b published own w 0 n in
-      let long : length u ≡ 24 * c = bytes-long f m b published own w n 0 ∙ ap (λ (i : ℕ). 24 * i) (sym e) in
-      let z : 0 + length u ≡ 24 * c = omega arith in
-      p .bytes ∙ sets-eq u o 0 (omega arith) ∙ ap (λ (i : ℕ). u ++ drop i o) z
+    pub counted-room : d ≤ length o / 24 → c ≤ length o / 24
+    counted-room h = omega arith
 
-pub ruleset rooms = (too-many, enough, filled-with)
+  pub sure-room : ((i : ℕ) → Fits w8 (getD b i 0)) → Messages n ≡ checkDay f m b → length b / 2 ≤ length o / 24 → c ≤ length o / 24
+  sure-room bytes e h =
+      let p = passes-all f m b e in
+      let small = count-small f m b (all-bytes b bytes) p in
+      let same-count : c ≡ matchingFrom f m b published own w 0 (countIn b) = ap (matchingFrom f m b published own w 0) (p .count) in
+      omega (arith, half-as-many f m b published own w (all-bytes b bytes) p small)
+
+  -- where it is enough, its end tells how many there are
+  module _ (h : c ≤ length o / 24) {o′ : List ℕ} {r : ℕ} (p : Put o o′ 0 r (bytesFrom f m b published own w 0 n)) where
+    abbrev u : List ℕ
+    u = bytesFrom f m b published own w 0 n
+
+    ends : r / 24 ≡ c
+    ends = let long = bytes-long f m b published own w n 0 in omega (arith, p .place)
+
+    pub enough : Entries (r / 24) ≡ foundOr c (length o / 24)
+    enough = rw ends (sym (rw (le-ltb (length o / 24) c h)))
+
+    pub filled-with : o′ ≡ filled (Entries (r / 24)) u o
+    filled-with =
+        let long = bytes-long f m b published own w n 0 in
+        let z : 0 + length u ≡ 24 * (r / 24) = omega (arith, ends) in
+        p .bytes ∙ sets-eq u o 0 (omega arith) ∙ ap (λ (i : ℕ). u ++ drop i o) z
+
+pub ruleset rooms = (too-many, counted-room, sure-room, enough, filled-with)
 
 -- the whole
 module _ (f : Format) (m : Limits) (b published own : List ℕ) (w room : ℕ) {d : Day} (e : d ≡ checkDay f m b) where
@@ -131,6 +198,9 @@ module _ (f : Format) (m : Limits) (b published own : List ℕ) (w room : ℕ) {
   module _ {n : ℕ} (g : d ≡ day.Messages n) where
     abbrev passes : Passes f m b n
     passes = passes-all f m b (sym g ∙ e)
+
+    pub passes-so : day.Messages n ≡ checkDay f m b
+    passes-so = sym g ∙ e
 
     pub few-messages : ((i : ℕ) → Fits w8 (getD b i 0)) → n < 65536
     few-messages bytes = omega (arith, passes .count, count-small f m b (all-bytes b bytes) passes)
@@ -160,4 +230,4 @@ module _ (f : Format) (m : Limits) (b published own : List ℕ) (w room : ℕ) {
         by-answer (Entries k) = refl
         by-answer (Refused i p) = refl
 
-pub ruleset searches = (search-refused, few-messages, search-wrong-list, search-done, search-room)
+pub ruleset searches = (search-refused, passes-so, few-messages, search-wrong-list, search-done, search-room)

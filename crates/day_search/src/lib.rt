@@ -9,6 +9,8 @@ ghost use Rattle.ari.specs.declared.Input.the-variants as input;
 ghost use Rattle.ari.specs.Limits.{capped};
 ghost use Rattle.item_table.specs.Entries.{Tabled};
 ghost use Rattle.names.specs.Translated.{standsBy, translated};
+ghost use Rattle.day_file.specs.declared.Day.the-variants.{Messages};
+ghost use Rattle.day_file.specs.Day.{checkDay};
 ghost use Rattle.day_search.specs.Search.{hitsIn, hitsBytes, hits, searchDay, roomAfter};
 ghost use Rattle.day_search.specs.Tally.{isSought, matching, matchingIn, matchingFrom, bytesIn, bytesFrom, foundOr, filled};
 use ari::Input;
@@ -244,7 +246,38 @@ fn put_day<'a>(
     p
 }
 
-// The matching references of messages that are all accepted, counted before any is put.
+// The matching references, where there is room for them.
+fn put_found<'a>(
+    format: Format,
+    limits: Limits,
+    file: &[u8],
+    count: usize,
+    published: &'a [u8],
+    own: &'a [u8],
+    word: u64,
+    out: &mut [u8],
+    table: &mut [u64],
+) -> Searched
+    requires { ⌜ (limits .items ≤ 1024) × (1024 ≤ length (now table)) × (limits .bytes < 65536) × (limits .containers < 256) × (count < 65536) ⌝ }
+    requires { ⌜ matchingFrom format limits (now file) (now published) (now own) word 0 count ≤ length (now out) / 24 ⌝ }
+    ensures { λ r. ⌜ r ≡ foundOr (matchingFrom format limits (now (file .entry)) (now (published .entry)) (now (own .entry)) word 0 count) (length (now (out .entry)) / 24) ⌝ }
+    ensures { λ r. ⌜ now (out .exit) ≡ filled r (bytesFrom format limits (now (file .entry)) (now (published .entry)) (now (own .entry)) word 0 count) (now (out .entry)) ⌝ }
+{
+    let end = put_day(
+        format,
+        limits,
+        file,
+        count,
+        published,
+        own,
+        word,
+        out,
+        table,
+    );
+    Searched::Entries(end / 24)
+}
+
+// Those of a file that passes. It has no more than half as many references as bytes: only for less room are they counted before any is put.
 fn search_messages<'a>(
     format: Format,
     limits: Limits,
@@ -257,9 +290,23 @@ fn search_messages<'a>(
     table: &mut [u64],
 ) -> Searched
     requires { ⌜ (limits .items ≤ 1024) × (1024 ≤ length (now table)) × (limits .bytes < 65536) × (limits .containers < 256) × (count < 65536) ⌝ }
+    requires { ⌜ Messages count ≡ checkDay format limits (now file) ⌝ }
     ensures { λ r. ⌜ r ≡ foundOr (matchingFrom format limits (now (file .entry)) (now (published .entry)) (now (own .entry)) word 0 count) (length (now (out .entry)) / 24) ⌝ }
     ensures { λ r. ⌜ now (out .exit) ≡ filled r (bytesFrom format limits (now (file .entry)) (now (published .entry)) (now (own .entry)) word 0 count) (now (out .entry)) ⌝ }
 {
+    if file.len() / 2 <= out.len() / 24 {
+        return put_found(
+            format,
+            limits,
+            file,
+            count,
+            published,
+            own,
+            word,
+            out,
+            table,
+        );
+    }
     let found = count_day(format, limits, file, count, published, own, word, table);
     if out.len() / 24 < found {
         return Searched::Refused {
@@ -267,7 +314,7 @@ fn search_messages<'a>(
             place: found,
         };
     }
-    put_day(
+    put_found(
         format,
         limits,
         file,
@@ -277,8 +324,7 @@ fn search_messages<'a>(
         word,
         out,
         table,
-    );
-    Searched::Entries(found)
+    )
 }
 
 fn search_within<'a>(
