@@ -147,9 +147,18 @@ const C: &str = "01 82 14 82 f6 84 1a00010000 22 00 81 83 33 2a 05";
 
 /// A message with one text string of that many bytes, all of them ASCII.
 fn note(length: u16) -> Vec<u8> {
-    let mut note = hex("01 82 15 83 f6 00 83 00 83 f6 20 00 79");
-    note.extend(length.to_be_bytes());
-    note.extend((0..length).map(|k| b' ' + (k % 95) as u8));
+    note_of(&ascii(length.into()))
+}
+
+fn ascii(length: usize) -> Vec<u8> {
+    (0..length).map(|k| b' ' + (k % 95) as u8).collect()
+}
+
+/// A report with one text string.
+fn note_of(string: &[u8]) -> Vec<u8> {
+    let mut note = hex("01 82 15 83 f6 00 83 00 83 f6 20 00");
+    generate::put_head(&mut note, 3, string.len() as u64);
+    note.extend(string);
     note
 }
 
@@ -198,8 +207,13 @@ fn checks(large: &[Vec<u8>]) -> Vec<Check> {
         };
         generate::message(random, settings)
     });
-    let note = note(4_000);
-    let string = note[note.len() - 4_000..].to_vec();
+    let plain = ascii(4_000);
+    // A letter of two bytes in every hundred.
+    let mut letters = plain.clone();
+    for pair in letters.chunks_mut(100) {
+        pair[50..52].copy_from_slice("ü".as_bytes());
+    }
+    let of = |string: &Vec<u8>| vec![note_of(string)];
 
     let check = |name, messages| Check { name, messages, string: None };
     vec![
@@ -207,7 +221,9 @@ fn checks(large: &[Vec<u8>]) -> Vec<Check> {
         check("a  2,000 like it", small),
         check("b  4,096 bytes, repeated", large[..1].to_vec()),
         check("b  500 like it", large.to_vec()),
-        Check { string: Some(string), ..check("c  4,000 bytes of ASCII", vec![note]) },
+        check("c  strings of 0 to 40 bytes", (0..=40).map(|k| note_of(&ascii(k))).collect()),
+        Check { string: Some(letters.clone()), ..check("c  40 letters of 2 bytes", of(&letters)) },
+        Check { string: Some(plain.clone()), ..check("c  4,000 bytes of ASCII", of(&plain)) },
     ]
 }
 

@@ -5,3 +5,4 @@ pub mod PutWays
 pub mod TextWays
 pub mod OrderWays
 pub mod Computed
+pub mod AsciiWays

@@ -1,9 +1,11 @@
--- UTF-8 as RFC 3629, section 4, has it: the table of well-formed byte sequences. Interface: utf8. Private to src/: isAscii.
-use Prim.Native.Nat.{ℕ, zero, suc}
+-- UTF-8 as RFC 3629, section 4, has it: the table of well-formed byte sequences. Interface: utf8. Private to src/: isAscii, AsciiTo.
+use Prim.Native.Nat.{ℕ, zero, suc, _≤_}
+use mathlib.Core.Path.{_≡_}
 use mathlib.Core.Bool.{Bool, true, false, _&&_, _||_}
 use mathlib.Core.List.{List, [], _∷_}
+use lib.ListN.{length}
 use lib.Dec.{ltb, eqb}
-use Rattle.buffer.specs.Bytes.{within}
+use Rattle.buffer.specs.Bytes.{all, part, within}
 
 -- n continuation bytes are due, the next of them from lo to hi
 unfoldable pub utf8From : ℕ → ℕ → ℕ → List ℕ → Bool
@@ -26,3 +28,9 @@ utf8 = utf8From 0 128 191
 -- a byte that is a sequence by itself
 abbrev pub isAscii : ℕ → Bool
 isAscii x = ltb x 128
+
+-- from a place to another there are only such
+pub record AsciiTo (t : List ℕ) (a i : ℕ) : Type 0 where
+  pub on : a ≤ i
+  pub inside : i ≤ length t
+  pub ascii : all isAscii (part t a i) ≡ true

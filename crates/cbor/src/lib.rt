@@ -2,12 +2,13 @@
 ghost use mathlib.Core.Path.{_≡_};
 ghost use Prim.Native.Nat.{_+_, _^_, _<_, _≤_, _%_, _/_};
 ghost use lib.ListN.{length, drop, getD};
+ghost use Rattle.buffer.specs.Bytes.{all, part};
 ghost use Rattle.buffer.specs.Put.{Put};
 ghost use Rattle.buffer.specs.Runs.{RunTo};
 ghost use Rattle.cbor.specs.Byte.{below};
 ghost use Rattle.cbor.specs.Head.{divides, tooLong, badHalf, badFloat, getFrom, headBytes, keyOf};
 ghost use Rattle.cbor.specs.Answer.{answer, counted, headAt, judged, Passed, follows, Tail, Sequence};
-ghost use Rattle.cbor.specs.Utf8.{utf8, isAscii};
+ghost use Rattle.cbor.specs.Utf8.{utf8, isAscii, AsciiTo};
 
 // The kinds of heads (specs/Head.antt).
 pub const UNSIGNED: u8 = 0;
@@ -322,12 +323,69 @@ fn sequence(s: &[u8], i: usize) -> usize
     0
 }
 
+// The high bit of each of eight bytes.
+const HIGH_BITS: u64 = 9259542123273814144;
+
+// Eight bytes are ASCII: as one number they have none of these bits.
+fn is_ascii_word(s: &[u8], at: usize) -> bool
+    requires { ⌜ at + 8 ≤ length (now s) ⌝ }
+    ensures { λ r. ⌜ r ≡ all isAscii (part (now (s .entry)) at (at + 8)) ⌝ }
+{
+    (buffer::load8(s, at) & HIGH_BITS) == 0
+}
+
+// The same of 32, four numbers a turn for long strings.
+fn is_ascii_block(s: &[u8], at: usize) -> bool
+    requires { ⌜ at + 32 ≤ length (now s) ⌝ }
+    ensures { λ r. ⌜ r ≡ all isAscii (part (now (s .entry)) at (at + 32)) ⌝ }
+{
+    if !is_ascii_word(s, at) {
+        return false;
+    }
+    if !is_ascii_word(s, at + 8) {
+        return false;
+    }
+    if !is_ascii_word(s, at + 16) {
+        return false;
+    }
+    is_ascii_word(s, at + 24)
+}
+
+// ASCII bytes in blocks, as far as whole ones go; and in words.
+fn ascii_blocks(s: &[u8], at: usize) -> usize
+    requires { ⌜ at ≤ length (now s) ⌝ }
+    ensures { λ r. ⌜ AsciiTo (now (s .entry)) at r ⌝ }
+{
+    let mut i = at;
+    while 32 <= s.len() - i {
+        if !is_ascii_block(s, i) {
+            return i;
+        }
+        i += 32;
+    }
+    i
+}
+
+fn ascii_words(s: &[u8], at: usize) -> usize
+    requires { ⌜ at ≤ length (now s) ⌝ }
+    ensures { λ r. ⌜ AsciiTo (now (s .entry)) at r ⌝ }
+{
+    let mut i = at;
+    while 8 <= s.len() - i {
+        if !is_ascii_word(s, i) {
+            return i;
+        }
+        i += 8;
+    }
+    i
+}
+
 // The place behind the ASCII bytes from a place on.
 fn ascii_run(s: &[u8], at: usize) -> usize
     requires { ⌜ at ≤ length (now s) ⌝ }
     ensures { λ r. ⌜ RunTo isAscii (now (s .entry)) at r ⌝ }
 {
-    let mut i = at;
+    let mut i = ascii_words(s, ascii_blocks(s, at));
     while i < s.len() {
         if s[i] < 128 {
             i += 1;

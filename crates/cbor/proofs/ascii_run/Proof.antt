@@ -4,6 +4,7 @@ use lib.ListN.{length}
 use Rattle.buffer.proofs.RunLaws.{Ahead}
 use Rattle.cbor.specs.Utf8.{isAscii}
 use Rattle.cbor.proofs.TextWays.{texts}
+use Rattle.cbor.proofs.AsciiWays.{asciis}
 use borrow.Author.Needs.{needs}
 use Rattle.cbor.proofs.ascii_run.Statement.{statement}
 use Rattle.cbor.proofs.ascii_run.Tie as tie
@@ -20,10 +21,12 @@ ascii-run-spec =
     (tie.spec
     Inv-loop
     μ-loop
-    (λ c. search (texts, needs))
-    (λ c. search (texts, needs))
-    (λ c. search (texts, needs))
-    (λ c. search (texts, needs))
-    (λ c. search (texts, needs))
-    (λ c. search (texts, needs))
-    (λ c. search (texts, needs)))
+    (λ c κs. search (asciis, texts, needs))
+    (λ c κs. search (asciis, texts, needs))
+    (λ c. search (asciis, texts, needs))
+    (λ c. search (asciis, texts, needs))
+    (λ c. search (asciis, texts, needs))
+    (λ c. search (asciis, texts, needs))
+    (λ c. search (asciis, texts, needs))
+    (λ c. search (asciis, texts, needs))
+    (λ c. search (asciis, texts, needs)))

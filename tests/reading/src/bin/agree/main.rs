@@ -487,6 +487,30 @@ fn compare_call(
     Ok(())
 }
 
+/// Text strings of every length up to 80, and each with one byte that is no ASCII at each
+/// of its places: the text check takes bytes in runs.
+fn compare_strings() -> Result<usize, String> {
+    let mut compared = 0;
+    for length in 0..=80 {
+        let plain: Vec<u8> = (0..length).map(|k| b'a' + (k % 26) as u8).collect();
+        let damaged = (0..length).flat_map(|at| {
+            [0x80, 0xbf, 0xc3, 0xe2, 0xf0, 0xff].map(|byte| {
+                let mut string = plain.clone();
+                string[at] = byte;
+                string
+            })
+        });
+        for string in damaged.chain([plain.clone()]) {
+            let mut input = Vec::new();
+            generate::put_head(&mut input, 3, length as u64);
+            input.extend(string);
+            compare(Call::Single, &Case { input, ..Case::default() }, length % 48)?;
+            compared += 1;
+        }
+    }
+    Ok(compared)
+}
+
 fn option(name: &str) -> Option<u64> {
     let mut arguments = std::env::args().skip_while(|a| a != name);
     arguments.next()?;
@@ -527,6 +551,15 @@ fn main() -> ExitCode {
         if let Err(words) = outcome {
             println!("DISAGREE at input {k} of seed {seed}: {words}");
             return ExitCode::FAILURE;
+        }
+    }
+    if calls.contains(&Call::Single) {
+        match compare_strings() {
+            Ok(compared) => println!("strings of 0 to 80 bytes, whole and damaged: {compared}"),
+            Err(words) => {
+                println!("DISAGREE at the strings: {words}");
+                return ExitCode::FAILURE;
+            }
         }
     }
     if with_stream {
