@@ -8,12 +8,14 @@ pub mod RulesFit
 pub mod FitRules
 pub mod Demand
 pub mod Spots
+pub mod Members
 pub mod Prefix
 pub mod Range
 pub mod Example
 pub mod Numbers
 pub mod Referring
 pub mod Listed
+pub mod Targets
 pub mod Larger
 pub mod ListingBound
 pub mod ListingExample

@@ -6,6 +6,7 @@ pub mod Decode
 pub mod Rules
 pub mod Limits
 pub mod Listing
+pub mod Targets
 pub mod References
 pub mod Due
 pub mod Signed

@@ -17,6 +17,13 @@ pub struct Limits {
     pub text: usize,
 }
 
+// Which target of an EXECSET or report of an RPTSET an item lies in: none, or its number, targets and reports counted together from 0 through
+// the whole input.
+pub enum Target {
+    None,
+    Number(u64),
+}
+
 // The gate's own limits. No other place has these numbers.
 pub const BYTES: usize = 4096;
 

@@ -116,16 +116,19 @@ value-join [] ys = omega arith
 value-join (x ∷ xs) ys =
     rw (length-append xs ys, pow-add 256 (length xs) (length ys), value-join xs ys, add-mul, mul-assoc x, add-assoc)
 
+pub all-both : (p : ℕ → Bool) (u v : List ℕ) → all p (u ++ v) ≡ (all p u && all p v)
+all-both p [] v = refl
+all-both p (x ∷ u) v = go (p x) (all-both p u v)
+  where
+    go : (t : Bool) → all p (u ++ v) ≡ (all p u && all p v) → (t && all p (u ++ v)) ≡ ((t && all p u) && all p v)
+    go true e = e
+    go false e = refl
+
 pub all-append : (p : ℕ → Bool) (u v : List ℕ) → all p u ≡ true → all p v ≡ true → all p (u ++ v) ≡ true
-all-append p [] v e f = f
-all-append p (x ∷ u) v e f = let (g, h) = and-true (p x) (all p u) e in rw (g, all-append p u v h f)
+all-append p u v e f = all-both p u v ∙ rw (e, f)
 
 pub all-split : (p : ℕ → Bool) (u v : List ℕ) → all p (u ++ v) ≡ true → (all p u ≡ true) × (all p v ≡ true)
-all-split p [] v e = (refl, e)
-all-split p (x ∷ u) v e =
-    let (a, b) = and-true (p x) (all p (u ++ v)) e in
-    let (c, d) = all-split p u v b in
-    (rw (a, c), d)
+all-split p u v e = and-true (all p u) (all p v) (sym (all-both p u v) ∙ e)
 
 -- the bytes of a slice are bytes
 pub all-bytes : (b : List ℕ) → ((i : ℕ) → Fits w8 (getD b i 0)) → all isByte b ≡ true

@@ -5,8 +5,8 @@ use mathlib.Core.Bool.{Bool, true, false, cond}
 use mathlib.Core.List.{List, [], _∷_, _++_}
 use native.Mathlib.Omega.{arith}
 use native.Mathlib.Numerals.{add-one}
-use lib.ListN.{length, drop, getD, drop-of-length-le, length-drop}
-use lib.Seq.{drop-cons, take-all}
+use lib.ListN.{length, take, drop, getD, drop-of-length-le, length-drop}
+use lib.Seq.{drop-cons, take-all, take-add, drop-drop}
 use Rattle.buffer.specs.Bytes.{part, all}
 use Rattle.buffer.specs.Runs.{front, past, RunTo}
 use Rattle.buffer.proofs.ByteLaws.{and-true}
@@ -25,6 +25,13 @@ pub part-cons : (t : List ℕ) (i e : ℕ) → i < e → e ≤ length t → part
 part-cons t i e h g =
     let q : e - i ≡ suc (e - (i + 1)) = omega arith in
     rw (here t i (omega arith), q)
+
+-- parts side by side
+pub part-join : (t : List ℕ) (x y z : ℕ) → x ≤ y → y ≤ z → part t x y ++ part t y z ≡ part t x z
+part-join t x y z h k =
+    let e : z - x ≡ (y - x) + (z - y) = omega arith in
+    let d : x + (y - x) ≡ y = omega arith in
+    sym (rw e (take-add (y - x) (z - y) (drop x t) ∙ ap (λ (l : List ℕ). take (y - x) (drop x t) ++ take (z - y) l) (drop-drop (y - x) x t ∙ rw d)))
 
 pub part-all : (t : List ℕ) (from : ℕ) → part t from (length t) ≡ drop from t
 part-all t from = take-all (length t - from) (drop from t) (rw (length-drop from t) (omega arith))

@@ -1,23 +1,22 @@
 -- ASCII bytes, eight at a time. The idea: the number of w bytes has a high bit where one of them has, since `&` goes byte by byte.
-use Prim.Native.Nat.{ℕ, zero, suc, _+_, _-_, _*_, _/_, _%_, _^_, _<_, _≤_, min}
+use Prim.Native.Nat.{ℕ, zero, suc, _+_, _-_, _*_, _/_, _%_, _^_, _<_, _≤_}
 use mathlib.Core.Path.{_≡_, refl, sym, _∙_, ap}
 use mathlib.Core.Bool.{Bool, true, false, not, _&&_}
 use mathlib.Core.List.{List, [], _∷_, _++_}
 use native.Mathlib.Omega.{arith}
 use native.Mathlib.Numerals.{add-one}
 use lib.ListN.{length, take, drop, getD, length-drop}
-use lib.Seq.{take-add, drop-drop, length-take-le}
+use lib.Seq.{length-take-le}
 use lib.Bits.{bitAnd, and-block, and-high}
 use lib.Pow.{pow-add}
 use lib.Dec.{ltb, eqb}
 use mir.Syntax.{w8}
 use mir.Val.{Fits}
-use borrow.Author.Tests.{eq-eqb, ne-eqb, lt-ltb, le-ltb, ltb-true, ltb-false, eqb-true, eqb-false, not-true, not-false}
+use borrow.Author.Tests.{eq-eqb, ne-eqb, ltb-true, ltb-false, not-true, not-false}
 use Rattle.buffer.specs.Bytes.{value, loadAt, part, all, isByte}
-use Rattle.buffer.specs.Runs.{RunTo}
-use Rattle.buffer.proofs.ByteLaws.{and-true, value-lt, all-take, all-drop, all-append, all-split, all-bytes}
+use Rattle.buffer.proofs.ByteLaws.{and-true, value-lt, all-take, all-drop, all-both, all-bytes}
 use Rattle.buffer.proofs.Numbers.{load-there}
-use Rattle.buffer.proofs.RunLaws.{Ahead, run-begins, run-on, part-none, part-cons}
+use Rattle.buffer.proofs.RunLaws.{Ahead, run-begins, run-on, part-none, part-cons, part-join}
 use Rattle.cbor.specs.Utf8.{isAscii, AsciiTo}
 
 -- the high bits of w bytes
@@ -79,36 +78,17 @@ module _ (s : List ℕ) (at : ℕ) (h : at + 8 ≤ length s) where
       let m : mask (length u) ≡ 9259542123273814144 = rw long in
       rw (eight, e, load-there 8 s at h) (ap (λ (i : ℕ). eqb (bitAnd (value u) i) 0) (sym m) ∙ word-ascii u all-of)
 
--- parts side by side
-part-more : (s : List ℕ) (a i n : ℕ) → a ≤ i → part s a (i + n) ≡ part s a i ++ part s i (i + n)
-part-more s a i n h =
-    let e : i + n - a ≡ (i - a) + n = omega arith in
-    let d : a + (i - a) ≡ i = omega arith in
-    let q : i + n - i ≡ n = omega arith in
-    rw (e, q) (take-add (i - a) n (drop a s) ∙ ap (λ (l : List ℕ). take (i - a) (drop a s) ++ take n l) (drop-drop (i - a) a s ∙ rw d))
-
-all-more : (u v : List ℕ) → all isAscii (u ++ v) ≡ (all isAscii u && all isAscii v)
-all-more [] v = refl
-all-more (x ∷ u) v = go (isAscii x) (all-more u v)
-  where
-    go : (t : Bool) → all isAscii (u ++ v) ≡ (all isAscii u && all isAscii v) → (t && all isAscii (u ++ v)) ≡ ((t && all isAscii u) && all isAscii v)
-    go true e = e
-    go false e = refl
-
 -- 32 bytes, eight by eight
 module _ (s : List ℕ) (at : ℕ) where
   four-parts : all isAscii (part s at (at + 32))
       ≡ (((all isAscii (part s at (at + 8)) && all isAscii (part s (at + 8) (at + 16))) && all isAscii (part s (at + 16) (at + 24))) && all isAscii (part s (at + 24) (at + 32)))
   four-parts =
-      let e₁ : at + 8 + 8 ≡ at + 16 = omega arith in
-      let e₂ : at + 16 + 8 ≡ at + 24 = omega arith in
-      let e₃ : at + 24 + 8 ≡ at + 32 = omega arith in
-      let p₁ : part s at (at + 16) ≡ part s at (at + 8) ++ part s (at + 8) (at + 16) = rw e₁ at (part-more s at (at + 8) 8 (omega arith)) in
-      let p₂ : part s at (at + 24) ≡ part s at (at + 16) ++ part s (at + 16) (at + 24) = rw e₂ at (part-more s at (at + 16) 8 (omega arith)) in
-      let p₃ : part s at (at + 32) ≡ part s at (at + 24) ++ part s (at + 24) (at + 32) = rw e₃ at (part-more s at (at + 24) 8 (omega arith)) in
-      ap (all isAscii) p₃ ∙ all-more (part s at (at + 24)) (part s (at + 24) (at + 32))
-      ∙ ap (λ (x : Bool). x && all isAscii (part s (at + 24) (at + 32))) (ap (all isAscii) p₂ ∙ all-more (part s at (at + 16)) (part s (at + 16) (at + 24))
-      ∙ ap (λ (x : Bool). x && all isAscii (part s (at + 16) (at + 24))) (ap (all isAscii) p₁ ∙ all-more (part s at (at + 8)) (part s (at + 8) (at + 16))))
+      let p₁ : part s at (at + 16) ≡ part s at (at + 8) ++ part s (at + 8) (at + 16) = sym (part-join s at (at + 8) (at + 16) (omega arith) (omega arith)) in
+      let p₂ : part s at (at + 24) ≡ part s at (at + 16) ++ part s (at + 16) (at + 24) = sym (part-join s at (at + 16) (at + 24) (omega arith) (omega arith)) in
+      let p₃ : part s at (at + 32) ≡ part s at (at + 24) ++ part s (at + 24) (at + 32) = sym (part-join s at (at + 24) (at + 32) (omega arith) (omega arith)) in
+      ap (all isAscii) p₃ ∙ all-both isAscii (part s at (at + 24)) (part s (at + 24) (at + 32))
+      ∙ ap (λ (x : Bool). x && all isAscii (part s (at + 24) (at + 32))) (ap (all isAscii) p₂ ∙ all-both isAscii (part s at (at + 16)) (part s (at + 16) (at + 24))
+      ∙ ap (λ (x : Bool). x && all isAscii (part s (at + 16) (at + 24))) (ap (all isAscii) p₁ ∙ all-both isAscii (part s at (at + 8)) (part s (at + 8) (at + 16))))
 
   module _ {a : Bool} (ea : a ≡ all isAscii (part s at (at + 8))) where
     pub first-fails : not a ≡ true → false ≡ all isAscii (part s at (at + 32))
@@ -144,7 +124,7 @@ module _ (s : List ℕ) where
     more n h e = record {
       on = omega (arith, p .on);
       inside = h;
-      ascii = ap (all isAscii) (part-more s a i n (p .on)) ∙ all-more (part s a i) (part s i (i + n)) ∙ rw (p .ascii, e);
+      ascii = ap (all isAscii) (sym (part-join s a i (i + n) (p .on) (omega arith))) ∙ all-both isAscii (part s a i) (part s i (i + n)) ∙ rw (p .ascii, e);
     }
 
     pub word-more : 8 ≤ length s - i → {x : Bool} → x ≡ all isAscii (part s i (i + 8)) → not x ≡ false → AsciiTo s a (i + 8)

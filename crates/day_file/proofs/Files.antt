@@ -2,26 +2,20 @@
 -- table's entries and the trailer are the bytes of their numbers.
 use Prim.Native.Nat.{ℕ, zero, suc, _+_, _-_, _*_, _<_, _≤_}
 use mathlib.Core.Path.{_≡_, refl, sym, _∙_, ap}
-use mathlib.Core.Bool.{Bool, true, false, not, _&&_, _||_, cond, true≢false}
-use mathlib.Core.List.{List, [], _∷_, _++_, append-nil, append-assoc}
+use mathlib.Core.Bool.{true, not, _&&_, _||_, cond}
+use mathlib.Core.List.{List, _∷_, _++_, append-nil}
 use native.Mathlib.Omega.{arith}
 use native.Mathlib.Numerals.{add-one}
-use lib.ListN.{length, take, drop, getD, length-drop, length-append, take-append-drop}
-use lib.Seq.{take-all, take-add, drop-drop, drop-cons, length-take-le}
-use lib.Dec.{eqb, ltb, leb}
-use borrow.Author.Tests.{eqb-true, eqb-false, ltb-true, lt-ltb, le-ltb, eq-eqb, ne-eqb}
-use Rattle.buffer.specs.Bytes.{be, value, loadAt, part, all, isByte, within}
-use Rattle.buffer.proofs.ByteLaws.{and-true, or-true, not-true, within-true, value-part-be, all-drop}
+use lib.ListN.{length, take, drop, getD, length-drop, take-append-drop}
+use lib.Seq.{take-all, drop-drop, drop-cons, length-take-le}
+use lib.Dec.{eqb, ltb}
+use borrow.Author.Tests.{eqb-true, ltb-true, lt-ltb, le-ltb, eq-eqb, ne-eqb}
+use Rattle.buffer.specs.Bytes.{be, loadAt, part, all, isByte}
+use Rattle.buffer.proofs.ByteLaws.{and-true, within-true, value-part-be, all-drop}
 use Rattle.buffer.proofs.Numbers.{load-there}
+use Rattle.buffer.proofs.RunLaws.{part-join}
 use Rattle.day_file.specs.declared.Format.{Format}
 use Rattle.day_file.specs.Day.{width, mostBytes, join, offsets, trailer, fileOf, countIn, startIn, offsetIn, endIn, messageIn, messagesFrom, messagesIn, trailerStands, entryStands}
-
--- parts side by side
-pub part-join : (b : List ℕ) (x y z : ℕ) → x ≤ y → y ≤ z → part b x y ++ part b y z ≡ part b x z
-part-join b x y z h k =
-    let e : z - x ≡ (y - x) + (z - y) = omega arith in
-    let d : x + (y - x) ≡ y = omega arith in
-    sym (rw e (take-add (y - x) (z - y) (drop x b) ∙ ap (λ (l : List ℕ). take (y - x) (drop x b) ++ take (z - y) l) (drop-drop (y - x) x b ∙ rw d)))
 
 pub length-part : (b : List ℕ) (x y : ℕ) → x ≤ y → y ≤ length b → length (part b x y) ≡ y - x
 length-part b x y h k = length-take-le (y - x) (drop x b) (rw length-drop (omega arith))

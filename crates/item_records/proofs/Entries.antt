@@ -1,26 +1,24 @@
 -- From the item table and the bytes to a record: what each function answers, way by way, and item k.
-use Prim.Native.Nat.{ℕ, _+_, _*_, _^_, _≤_, _<_, min}
-use mathlib.Core.Path.{_≡_, refl, sym, _∙_, ap}
+use Prim.Native.Nat.{ℕ, suc, _*_, _^_, _≤_, _<_, min}
+use mathlib.Core.Path.{_≡_, refl, _∙_, ap}
 use mathlib.Core.Bool.{Bool, true, false, cond}
 use mathlib.Core.List.{List, [], _∷_}
 use native.Mathlib.Omega.{arith}
 use lib.ListN.{length, getD}
-use lib.Dec.{ltb, eqb}
-use lib.IntN.{pos, negsuc}
+use lib.Dec.{ltb}
 use mir.Syntax.{w8, w64}
 use mir.Val.{Fits}
 use borrow.Author.Tests.{lt-ltb, le-ltb, eq-eqb, ne-eqb, ltb-true}
-use Rattle.buffer.specs.Bytes.{all, isByte}
-use Rattle.cbor.specs.Head.{Lead, Sound}
 use Rattle.cbor.specs.declared.Head.{Head}
 use Rattle.cbor.specs.declared.Head.the-variants.{Bad, Good}
 use Rattle.cbor.specs.Answer.{headAt}
-use Rattle.ari.specs.Table.{isReference}
 use Rattle.ari.specs.declared.Limits.{Limits}
 use Rattle.ari.specs.declared.Input.{Input}
 use Rattle.ari.specs.Reader.{read, refuse, accept}
 use Rattle.ari.specs.Reader as reader
+use Rattle.ari.specs.Items.{spotsOf}
 use Rattle.ari.specs.Decode.{decode}
+use Rattle.ari.specs.declared.Target.{Target}
 use Rattle.ari.specs.Rules.{Is}
 use Rattle.ari.proofs.Demand.{demand-two}
 use Rattle.item_table.specs.declared.Item.{Item}
@@ -41,7 +39,10 @@ use Rattle.item_records.specs.declared.Kind.the-variants as kinds
 use Rattle.item_records.specs.declared.Record.{Record}
 use Rattle.item_records.specs.declared.Found.{Found}
 use Rattle.item_records.specs.declared.Found.the-variants as found
-use Rattle.item_records.specs.Records.{literalOf, kindOf, kindAt, recordOf, recordBy, recordFrom, foundOf, foundFrom, itemOf, Roomy}
+use Rattle.item_records.specs.declared.Targets.{Targets}
+use Rattle.item_records.specs.Numbered.{targetsTo, targetBy}
+use Rattle.item_records.proofs.Counting.{target-at}
+use Rattle.item_records.specs.Records.{literalOf, kindOf, kindAt, recordOf, recordFrom, foundOf, foundFrom, itemOf, Roomy}
 
 -- the literals in the order of their kinds
 abbrev pub list : ℕ → List Literal
@@ -73,18 +74,19 @@ good-kind i e g f = f ∙ rw (e, g)
 pub bad-kind : (i : ℕ) {h : Head} {r : ℕ} → h ≡ Bad r → kinds.Literal (Simple 0) ≡ kindAt i h
 bad-kind i e = rw e
 
-pub the-record : (b : List ℕ) (e : ℕ) {x : Item} → x ≡ items.itemOf e → {h : Head} → h ≡ headAt b (x .first) → {y : Kind} → y ≡ kindAt (x .slot) h
-    → _≡_ {A = Record} (record { first = x .first; after = x .after; around = x .around; kind = y }) (recordFrom b e)
+pub the-record : (b : List ℕ) (t : Targets) (e : ℕ) {x : Item} → x ≡ items.itemOf e → {z : Target} → z ≡ targetBy t (x .first) → {h : Head} → h ≡ headAt b (x .first)
+    → {y : Kind} → y ≡ kindAt (x .slot) h
+    → _≡_ {A = Record} (record { first = x .first; after = x .after; around = x .around; target = z; kind = y }) (recordFrom b t e)
 unfolding recordFrom
-the-record b e q g f = rw (← q, f, g)
+the-record b t e q n g f = rw (← q, n, f, g)
 
 module _ (b : List ℕ) (k : ℕ) (t : List ℕ) {a : Answer} where
   pub found-refused : {r p : ℕ} → a ≡ answers.Refused r p → found.Refused r p ≡ foundFrom b k t a
   found-refused e = rw e
 
   module _ {n : ℕ} (e : a ≡ Accepted n) where
-    pub found-item : k < n → {x : Record} → x ≡ recordFrom b (getD t k 0) → found.Item x n ≡ foundFrom b k t a
-    found-item h g = rw (e, g, lt-ltb k n h)
+    pub found-item : k < n → {y : Targets} → y ≡ targetsTo t (suc k) → {x : Record} → x ≡ recordFrom b y (getD t k 0) → found.Item x n ≡ foundFrom b k t a
+    found-item h f g = rw (e, g, f, lt-ltb k n h)
 
     pub found-none : n ≤ k → found.Refused 17 n ≡ foundFrom b k t a
     found-none h = rw (e, le-ltb k n h)
@@ -98,9 +100,10 @@ module _ (b : List ℕ) (k : ℕ) (t : List ℕ) {a : Answer} where
 pub ruleset found-ways = (room-fits, found-refused, found-item, found-none, has-room)
 
 -- the word of item k gives back its record
-pub record-at : {m : Limits} {i : Input} {b : List ℕ} {n : ℕ} {t : List ℕ} → Tabled m i b n t → (k : ℕ) → k < n → recordFrom b (getD t k 0) ≡ recordOf (spotNumber i b k)
+pub record-at : {m : Limits} {i : Input} {b : List ℕ} {n : ℕ} {t : List ℕ} → Tabled m i b n t → (k : ℕ) → k < n
+    → recordFrom b (targetsTo t (suc k)) (getD t k 0) ≡ recordOf (spotsOf i (decode b)) (spotNumber i b k)
 unfolding recordFrom
-record-at c k h = rw (item-at c k h, head-at c k h, reference-at c k h)
+record-at c k h = rw (item-at c k h, head-at c k h, reference-at c k h, target-at c k h)
 
 -- Item k, from the input's answer and table.
 module _ (m : Limits) (i : Input) (b : List ℕ) (bytes : (j : ℕ) → Fits w8 (getD b j 0)) (k : ℕ) (t : List ℕ)
@@ -113,7 +116,8 @@ module _ (m : Limits) (i : Input) (b : List ℕ) (bytes : (j : ℕ) → Fits w8 
   item-of (accept n) e {t′} l y = go (ltb k n) refl
     where
       go : (u : Bool) → ltb k n ≡ u
-          → cond u (found.Item (recordFrom b (getD t′ k 0)) n) (found.Refused 17 n) ≡ cond u (found.Item (recordOf (spotNumber i b k)) n) (found.Refused 17 n)
+          → cond u (found.Item (recordFrom b (targetsTo t′ (suc k)) (getD t′ k 0)) n) (found.Refused 17 n)
+          ≡ cond u (found.Item (recordOf (spotsOf i (decode b)) (spotNumber i b k)) n) (found.Refused 17 n)
       go true q =
           let c = stored-table t (is-of e) (fit .1) (fit .2) (fit .0) l (y .kept) in
           ap (λ (z : Record). found.Item z n) (record-at c k (ltb-true k n q))

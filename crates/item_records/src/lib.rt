@@ -1,11 +1,13 @@
 // Item k of an input: its record, read off the item table and the input's bytes.
 ghost use mathlib.Core.Path.{_≡_};
-ghost use Prim.Native.Nat.{_<_, _≤_, min};
+ghost use Prim.Native.Nat.{suc, _<_, _≤_, min};
 ghost use lib.ListN.{length};
 ghost use Rattle.ari.specs.Limits.{firstLimits, capped};
 ghost use Rattle.item_records.specs.Records.{literalOf, kindOf, kindAt, recordFrom, foundFrom, Roomy, itemOf};
+ghost use Rattle.item_records.specs.Numbered.{isTargetBy, passedBy, targetBy, targetsTo};
 use ari::Input;
 use ari::Limits;
+use ari::Target;
 use reader::Answer;
 
 // What is no container: a number (Negative(n) is -1 - n), a simple value, a float's bits or a string's length: specs/Values.antt.
@@ -33,13 +35,22 @@ pub enum Kind {
     Reference(u64),
 }
 
-// An item: its first byte, the byte after its last, the open containers around it, its kind.
+// An item: its first byte, the byte after its last, the open containers around it, the target or report that it lies in, its kind.
 pub struct Record {
     pub first: usize,
     pub after: usize,
     pub around: usize,
+    pub target: Target,
     pub kind: Kind,
 }
+
+// The targets and reports among an input's first items: how many, and where the last of them ends.
+pub struct Targets {
+    pub count: u64,
+    pub end: usize,
+}
+
+pub const NO_TARGETS: Targets = Targets { count: 0, end: 0 };
 
 // Item k with the item count; or the input's own refusal; or 17 with the count.
 pub enum Found {
@@ -94,18 +105,71 @@ fn kind_at(slot: u64, h: cbor::Head) -> Kind
     }
 }
 
-// The record of a word of the item table.
-pub fn record_of(s: &[u8], entry: u64) -> Record
-    ensures { λ r. ⌜ r ≡ recordFrom (now (s .entry)) entry ⌝ }
+// Whether a target or a report is due at a slot.
+fn is_target(slot: u64) -> bool
+    ensures { λ r. ⌜ r ≡ isTargetBy slot ⌝ }
+{
+    if slot == grammar::TARGET {
+        return true;
+    }
+    slot == grammar::REPORT
+}
+
+// One item further.
+pub fn pass(targets: Targets, entry: u64) -> Targets
+    ensures { λ r. ⌜ r ≡ passedBy targets entry ⌝ }
 {
     let x = item_table::item_of(entry);
+    if is_target(x.slot) {
+        return Targets {
+            count: buffer::saturating_add(targets.count, 1),
+            end: x.after,
+        };
+    }
+    targets
+}
+
+// The target or report of the item that was passed last: it lies in the last of them, if that one's end is not reached.
+fn target_of(targets: Targets, first: usize) -> Target
+    ensures { λ r. ⌜ r ≡ targetBy targets first ⌝ }
+{
+    if targets.end <= first {
+        return Target::None;
+    }
+    if targets.count == 0 {
+        return Target::Number(0);
+    }
+    Target::Number(targets.count - 1)
+}
+
+// The record of a word of the item table, with the targets and reports up to it.
+pub fn record_of(s: &[u8], targets: Targets, entry: u64) -> Record
+    ensures { λ r. ⌜ r ≡ recordFrom (now (s .entry)) targets entry ⌝ }
+{
+    let x = item_table::item_of(entry);
+    let target = target_of(targets, x.first);
     let kind = kind_at(x.slot, cbor::head_again(s, x.first));
     Record {
         first: x.first,
         after: x.after,
         around: x.around,
+        target,
         kind,
     }
+}
+
+// The targets and reports among the items of a table up to item k.
+fn targets_to(entries: &[u64], k: usize) -> Targets
+    requires { ⌜ k < length (now entries) ⌝ }
+    ensures { λ r. ⌜ r ≡ targetsTo (now (entries .entry)) (suc k) ⌝ }
+{
+    let mut targets = NO_TARGETS;
+    let mut j = 0;
+    while j <= k {
+        targets = pass(targets, entries[j]);
+        j += 1;
+    }
+    targets
 }
 
 fn find_item(s: &[u8], k: usize, a: Answer, entries: &[u64]) -> Found
@@ -116,7 +180,8 @@ fn find_item(s: &[u8], k: usize, a: Answer, entries: &[u64]) -> Found
         Answer::Refused { number, place } => Found::Refused { number, place },
         Answer::Accepted(count) => {
             if k < count {
-                let record = record_of(s, entries[k]);
+                let targets = targets_to(entries, k);
+                let record = record_of(s, targets, entries[k]);
                 return Found::Item { record, count };
             }
             Found::Refused {

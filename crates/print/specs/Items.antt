@@ -7,6 +7,7 @@ use lib.Dec.{leb}
 use Rattle.reader.specs.declared.Answer.{Answer}
 use Rattle.reader.specs.declared.Answer.the-variants.{Accepted, Refused}
 use Rattle.item_records.specs.Records.{recordFrom}
+use Rattle.item_records.specs.Numbered.{targetsTo}
 use Rattle.buffer.specs.Put.{Put}
 use Rattle.print.specs.Texts.{lineOf, refusedOf, acceptedOf}
 
@@ -21,5 +22,5 @@ answerLine (Refused r p) = refusedOf r p
 -- from a buffer and a place: the lines of the first items of an input s, so many, by the words t of its table, leave this buffer and this place
 pub data Listed (s t indent xs : List ℕ) (at : ℕ) : ℕ → List ℕ → ℕ → Type 0 where
   none : Listed s t indent xs at zero xs at
-  more : {k p q : ℕ} {ys zs : List ℕ} → Listed s t indent xs at k ys p → Put ys zs (freshOf p (length ys)) q (lineOf k (recordFrom s (getD t k 0)) indent)
+  more : {k p q : ℕ} {ys zs : List ℕ} → Listed s t indent xs at k ys p → Put ys zs (freshOf p (length ys)) q (lineOf k (recordFrom s (targetsTo t (suc k)) (getD t k 0)) indent)
       → Listed s t indent xs at (suc k) zs q

@@ -5,6 +5,8 @@ use mathlib.Core.List.{List, [], _∷_, _++_}
 use lib.Dec.{ltb, leb, eqb}
 use Rattle.io.specs.Digits.{glyph}
 use Rattle.buffer.specs.Decimal.{decimal}
+use Rattle.ari.specs.declared.Target.{Target}
+use Rattle.ari.specs.declared.Target.the-variants.{None, Number}
 use Rattle.item_records.specs.declared.Literal.{Literal}
 use Rattle.item_records.specs.declared.Literal.the-variants.{Unsigned, Negative, Bytes, Text, Simple, Half, Single, Double}
 use Rattle.item_records.specs.declared.Container.{Container}
@@ -65,9 +67,14 @@ kindOf (kinds.Reference n) = (114 ∷ 101 ∷ 102 ∷ 101 ∷ 114 ∷ 101 ∷ 11
 abbrev pub fieldOf : ℕ → List ℕ
 fieldOf n = decimal n ++ (32 ∷ [])
 
--- item k: its number, first byte, byte after, containers around
+-- a target's or report's number, or '-', and a space
+abbrev pub targetOf : Target → List ℕ
+targetOf None = 45 ∷ 32 ∷ []
+targetOf (Number n) = fieldOf n
+
+-- item k: its number, first byte, byte after, containers around, target or report
 abbrev pub numbersOf : ℕ → Record → List ℕ
-numbersOf k x = fieldOf k ++ (fieldOf (x .first) ++ (fieldOf (x .after) ++ fieldOf (x .around)))
+numbersOf k x = fieldOf k ++ (fieldOf (x .first) ++ (fieldOf (x .after) ++ (fieldOf (x .around) ++ targetOf (x .target))))
 
 -- these, then the indent for each container around, the kind, a line end
 abbrev pub lineOf : ℕ → Record → List ℕ → List ℕ

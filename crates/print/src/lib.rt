@@ -6,7 +6,7 @@ ghost use Prim.Native.Nat.{_-_, min, max};
 ghost use lib.ListN.{length};
 ghost use Rattle.buffer.specs.Put.{Put};
 ghost use Rattle.buffer.specs.Decimal.{decimal};
-ghost use Rattle.print.specs.Texts.{repeated, hexOf, negativeOf, simpleOf, literalOf, containerOf, kindOf, numbersOf, lineOf, refusedOf, acceptedOf, fieldOf};
+ghost use Rattle.print.specs.Texts.{repeated, hexOf, negativeOf, simpleOf, literalOf, containerOf, kindOf, targetOf, numbersOf, lineOf, refusedOf, acceptedOf, fieldOf};
 ghost use Rattle.item_records.specs.Records.{recordFrom};
 ghost use Rattle.print.specs.Items.{freshOf, answerLine, Listed};
 ghost use Rattle.print.specs.Integers.{integerOf};
@@ -124,6 +124,16 @@ pub fn field(out: &mut [u8], at: usize, n: u64) -> usize
     buffer::put(out, p, b' ')
 }
 
+// The number of a target or report, or a hyphen, and a space.
+fn target_number(out: &mut [u8], at: usize, t: ari::Target) -> usize
+    ensures { λ r. ⌜ Put (now (out .entry)) (now (out .exit)) at r (targetOf t) ⌝ }
+{
+    match t {
+        ari::Target::None => buffer::put_all(out, at, b"- "),
+        ari::Target::Number(n) => field(out, at, n),
+    }
+}
+
 // The numbers of an item's line.
 fn numbers(out: &mut [u8], at: usize, k: usize, x: item_records::Record) -> usize
     ensures { λ r. ⌜ Put (now (out .entry)) (now (out .exit)) at r (numbersOf k x) ⌝ }
@@ -131,10 +141,12 @@ fn numbers(out: &mut [u8], at: usize, k: usize, x: item_records::Record) -> usiz
     let a = field(out, at, k as u64);
     let b = field(out, a, x.first as u64);
     let c = field(out, b, x.after as u64);
-    field(out, c, x.around as u64)
+    let d = field(out, c, x.around as u64);
+    let g = x.target;
+    target_number(out, d, g)
 }
 
-// An item's line: its number, first byte, byte after, containers around, kind. The indent stands before the kind, once for each
+// An item's line: its number, first byte, byte after, containers around, target or report, kind. The indent stands before the kind, once for each
 // container around.
 pub fn item(out: &mut [u8], at: usize, k: usize, x: item_records::Record, indent: &[u8]) -> usize
     ensures { λ r. ⌜ Put (now (out .entry)) (now (out .exit)) at r (lineOf k x (now (indent .entry))) ⌝ }
@@ -196,12 +208,20 @@ pub fn fresh_line(out: &[u8], at: usize) -> usize
     0
 }
 
-// The line of item k, by its word in the item table.
-fn item_line(out: &mut [u8], at: usize, s: &[u8], k: usize, entry: u64, indent: &[u8]) -> usize
-    ensures { λ r. ⌜ Put (now (out .entry)) (now (out .exit)) (freshOf at (length (now (out .entry)))) r (lineOf k (recordFrom (now (s .entry)) entry) (now (indent .entry))) ⌝ }
+// The line of item k, by its word in the item table and the targets up to it.
+fn item_line(
+    out: &mut [u8],
+    at: usize,
+    s: &[u8],
+    k: usize,
+    targets: item_records::Targets,
+    entry: u64,
+    indent: &[u8],
+) -> usize
+    ensures { λ r. ⌜ Put (now (out .entry)) (now (out .exit)) (freshOf at (length (now (out .entry)))) r (lineOf k (recordFrom (now (s .entry)) targets entry) (now (indent .entry))) ⌝ }
 {
     let p = fresh_line(out, at);
-    let x = item_records::record_of(s, entry);
+    let x = item_records::record_of(s, targets, entry);
     item(out, p, k, x, indent)
 }
 
@@ -211,8 +231,10 @@ pub fn items(out: &mut [u8], at: usize, s: &[u8], entries: &[u64], indent: &[u8]
 {
     let mut p = at;
     let mut k = 0;
+    let mut targets = item_records::NO_TARGETS;
     while k < entries.len() {
-        p = item_line(out, p, s, k, entries[k], indent);
+        targets = item_records::pass(targets, entries[k]);
+        p = item_line(out, p, s, k, targets, entries[k], indent);
         k += 1;
     }
     p

@@ -184,6 +184,9 @@ pub struct Record {
     pub after: usize,
     /// "open containers around it"
     pub around: usize,
+    /// The EXECSET target or RPTSET report that the item lies in or is, counted together
+    /// from 0 through the whole input; none elsewhere.
+    pub target: Option<usize>,
     /// "its kind, with that kind's own data"
     pub kind: Kind,
     /// "whether it is a reference": an array of length 1, 3 or 4 where the
@@ -191,31 +194,63 @@ pub struct Record {
     pub reference: bool,
 }
 
-impl std::fmt::Display for Record {
-    fn fmt(&self, f: &mut std::fmt::Formatter<'_>) -> std::fmt::Result {
-        write!(f, "{} {} {} ", self.first, self.after, self.around)?;
+impl Record {
+    /// The columns before the kind: places, containers around, the target's number or `-`.
+    pub fn columns(&self) -> String {
+        let target = self.target.map_or("-".to_string(), |number| number.to_string());
+        format!("{} {} {} {target}", self.first, self.after, self.around)
+    }
+
+    /// The kind in words.
+    pub fn words(&self) -> String {
         match self.kind {
-            Kind::Array(length) if self.reference => write!(f, "reference {length}"),
-            kind => write!(f, "{kind}"),
+            Kind::Array(length) if self.reference => format!("reference {length}"),
+            kind => kind.to_string(),
         }
     }
 }
 
+impl std::fmt::Display for Record {
+    fn fmt(&self, f: &mut std::fmt::Formatter<'_>) -> std::fmt::Result {
+        write!(f, "{} {}", self.columns(), self.words())
+    }
+}
+
 /// Collects the records of all items, in the order of their heads.
-impl Visitor for Vec<Record> {
+#[derive(Default)]
+struct Records {
+    records: Vec<Record>,
+    /// Targets and reports met so far.
+    targets: usize,
+    /// The one that is being read.
+    target: Option<usize>,
+}
+
+impl Visitor for Records {
     type Mark = usize;
 
     fn leaf(&mut self, first: usize, after: usize, around: usize, kind: Kind) {
-        self.push(Record { first, after, around, kind, reference: false });
+        let target = self.target;
+        self.records.push(Record { first, after, around, target, kind, reference: false });
     }
 
     fn open(&mut self, first: usize, around: usize, kind: Kind, reference: bool) -> usize {
-        self.push(Record { first, after: first, around, kind, reference });
-        self.len() - 1
+        let target = self.target;
+        self.records.push(Record { first, after: first, around, target, kind, reference });
+        self.records.len() - 1
     }
 
     fn close(&mut self, opened: usize, after: usize) {
-        self[opened].after = after;
+        self.records[opened].after = after;
+    }
+
+    fn target(&mut self) {
+        self.target = Some(self.targets);
+        self.targets += 1;
+    }
+
+    fn end_of_target(&mut self) {
+        self.target = None;
     }
 }
 
@@ -228,11 +263,11 @@ pub fn check_message(input: &[u8]) -> Answer {
 }
 
 pub fn items_single(input: &[u8]) -> Result<Vec<Record>, Refusal> {
-    let mut records = Vec::new();
-    walk_single(input, &LIMITS, &mut records).map(|_| records)
+    let mut collected = Records::default();
+    walk_single(input, &LIMITS, &mut collected).map(|_| collected.records)
 }
 
 pub fn items_message(input: &[u8]) -> Result<Vec<Record>, Refusal> {
-    let mut records = Vec::new();
-    walk_message(input, &LIMITS, &mut records).map(|_| records)
+    let mut collected = Records::default();
+    walk_message(input, &LIMITS, &mut collected).map(|_| collected.records)
 }

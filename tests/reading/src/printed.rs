@@ -1,8 +1,24 @@
-//! What the programs of `gate` print of a listing.
+//! What the programs of `gate` print of a listing and of items.
 
 use std::fmt::Write as _;
 
-use crate::{Entry, Listing, Namespace, Refusal};
+use crate::{Entry, Listing, Namespace, Record, Refusal};
+
+/// A line for each item: its number, its columns, and its kind, two places further in for
+/// each container around it; or the refusal's line.
+pub fn item_lines(records: &Result<Vec<Record>, Refusal>) -> String {
+    match records {
+        Err(refusal) => format!("{refusal}\n"),
+        Ok(records) => {
+            let mut lines = String::new();
+            for (k, record) in records.iter().enumerate() {
+                let indent = "  ".repeat(record.around);
+                let _ = writeln!(lines, "{k} {} {indent}{}", record.columns(), record.words());
+            }
+            lines
+        }
+    }
+}
 
 /// "refs N", a line for each reference, "items N"; or the refusal's line.
 pub fn listing_lines(message: &[u8], listing: &Result<Listing, Refusal>) -> String {

@@ -197,6 +197,7 @@ pub fn lines() -> Vec<Line> {
     after(&mut f);
     huge_lengths(&mut f);
     records(&mut f);
+    targets(&mut f);
     records_of_accepted(&mut f);
     fixed_texts(&mut f);
     texts_of_accepted(&mut f);
@@ -1214,33 +1215,42 @@ fn records(f: &mut Fixed) {
     f.items_message("02", "refused 8 0");
     f.items_single("82 02 190100", "refused 7 2");
     f.items_single("00 00", "refused 13 1");
-    f.items_message("01", "0 0 1 0 unsigned 1\naccepted 1");
+    f.items_message("01", "0 0 1 0 - unsigned 1\naccepted 1");
     f.items_message(
         C,
-        "0 0 1 0 unsigned 1\n1 1 18 0 array 2\n2 2 3 1 unsigned 20\n3 3 18 1 array 2\n\
-         4 4 5 2 null\n5 5 18 2 reference 4\n6 6 11 3 unsigned 65536\n7 11 12 3 negative -3\n\
-         8 12 13 3 unsigned 0\n9 13 18 3 array 1\n10 14 18 4 reference 3\n\
-         11 15 16 5 negative -20\n12 16 17 5 negative -11\n13 17 18 5 unsigned 5\naccepted 14",
+        "0 0 1 0 - unsigned 1\n1 1 18 0 - array 2\n2 2 3 1 - unsigned 20\n3 3 18 1 - array 2\n\
+         4 4 5 2 - null\n5 5 18 2 0 reference 4\n6 6 11 3 0 unsigned 65536\n\
+         7 11 12 3 0 negative -3\n8 12 13 3 0 unsigned 0\n9 13 18 3 0 array 1\n\
+         10 14 18 4 0 reference 3\n11 15 16 5 0 negative -20\n12 16 17 5 0 negative -11\n\
+         13 17 18 5 0 unsigned 5\naccepted 14",
     );
     f.items_message(
         ORDER,
-        "0 0 1 0 unsigned 1\n1 1 24 0 array 2\n2 2 3 1 unsigned 20\n3 3 24 1 array 3\n\
-         4 4 7 2 unsigned 1234\n5 7 15 2 reference 3\n6 8 13 3 unsigned 65536\n\
-         7 13 14 3 negative -3\n8 14 15 3 unsigned 18\n9 15 24 2 reference 3\n\
-         10 16 21 3 unsigned 65536\n11 21 22 3 negative -2\n12 22 24 3 unsigned 43\naccepted 13",
+        "0 0 1 0 - unsigned 1\n1 1 24 0 - array 2\n2 2 3 1 - unsigned 20\n3 3 24 1 - array 3\n\
+         4 4 7 2 - unsigned 1234\n5 7 15 2 0 reference 3\n6 8 13 3 0 unsigned 65536\n\
+         7 13 14 3 0 negative -3\n8 14 15 3 0 unsigned 18\n9 15 24 2 1 reference 3\n\
+         10 16 21 3 1 unsigned 65536\n11 21 22 3 1 negative -2\n12 22 24 3 1 unsigned 43\n\
+         accepted 13",
     );
-    f.items_single("f7", "0 0 1 0 undefined\naccepted 1");
+    f.items_single("f7", "0 0 1 0 - undefined\naccepted 1");
     f.items_single(
         "82 11 88 f4 f5 f6 f7 f97e00 fa47c35000 fb3ff199999999999a 41ff",
-        "0 0 26 0 array 2\n1 1 2 1 unsigned 17\n2 2 26 1 array 8\n3 3 4 2 false\n4 4 5 2 true\n\
-         5 5 6 2 null\n6 6 7 2 undefined\n7 7 10 2 half 7e00\n8 10 15 2 single 47c35000\n\
-         9 15 24 2 double 3ff199999999999a\n10 24 26 2 bytes 1\naccepted 11",
+        "0 0 26 0 - array 2\n1 1 2 1 - unsigned 17\n2 2 26 1 - array 8\n3 3 4 2 - false\n\
+         4 4 5 2 - true\n5 5 6 2 - null\n6 6 7 2 - undefined\n7 7 10 2 - half 7e00\n\
+         8 10 15 2 - single 47c35000\n9 15 24 2 - double 3ff199999999999a\n10 24 26 2 - bytes 1\n\
+         accepted 11",
     );
-    f.items_single("3b7fffffffffffffff", "0 0 9 0 negative -9223372036854775808\naccepted 1");
-    f.items_single("1bffffffffffffffff", "0 0 9 0 unsigned 18446744073709551615\naccepted 1");
-    f.items_single("82 11 80", "0 0 3 0 array 2\n1 1 2 1 unsigned 17\n2 2 3 1 array 0\naccepted 3");
-    f.items_single("82 12 a0", "0 0 3 0 array 2\n1 1 2 1 unsigned 18\n2 2 3 1 map 0\naccepted 3");
-    f.items_single("81 6161", "0 0 3 0 reference 1\n1 1 3 1 text 1\naccepted 2");
+    f.items_single("3b7fffffffffffffff", "0 0 9 0 - negative -9223372036854775808\naccepted 1");
+    f.items_single("1bffffffffffffffff", "0 0 9 0 - unsigned 18446744073709551615\naccepted 1");
+    f.items_single(
+        "82 11 80",
+        "0 0 3 0 - array 2\n1 1 2 1 - unsigned 17\n2 2 3 1 - array 0\naccepted 3",
+    );
+    f.items_single(
+        "82 12 a0",
+        "0 0 3 0 - array 2\n1 1 2 1 - unsigned 18\n2 2 3 1 - map 0\naccepted 3",
+    );
+    f.items_single("81 6161", "0 0 3 0 - reference 1\n1 1 3 1 - text 1\naccepted 2");
     // Lists, parameters, maps and sets of length 1, 3 and 4 are no references.
     for length in [1, 3, 4] {
         f.items_single(&format!("82 11 8{length} {}", "00".repeat(length)), "");
@@ -1256,8 +1266,99 @@ fn records(f: &mut Fixed) {
     f.items_single("820f4ba164746573748203f94480", "");
     f.items_single(&list(1_021, "00"), "");
     f.items_single(&list(1_022, "00"), "refused 5 1026");
-    f.items_single(&byte_string(4_096), "0 0 4096 0 bytes 4093\naccepted 1");
+    f.items_single(&byte_string(4_096), "0 0 4096 0 - bytes 4093\naccepted 1");
     f.items_single(&byte_string(4_097), "refused 1 0");
+}
+
+/// Targets and reports are counted together, through all sets; what is in none has `-`.
+fn targets(f: &mut Fixed) {
+    f.group("item records: which target or report an item belongs to");
+    // Orders, then reports; and the other way round.
+    f.items_message(
+        "01 82 14 83 f6 83 00 20 00 83 01 20 00 82 15 84 f6 00 82 05 83 02 20 00 83 06 83 03 20 00 f7",
+        "0 0 1 0 - unsigned 1\n1 1 13 0 - array 2\n2 2 3 1 - unsigned 20\n3 3 13 1 - array 3\n\
+         4 4 5 2 - null\n5 5 9 2 0 reference 3\n6 6 7 3 0 unsigned 0\n7 7 8 3 0 negative -1\n\
+         8 8 9 3 0 unsigned 0\n9 9 13 2 1 reference 3\n10 10 11 3 1 unsigned 1\n\
+         11 11 12 3 1 negative -1\n12 12 13 3 1 unsigned 0\n13 13 31 0 - array 2\n\
+         14 14 15 1 - unsigned 21\n15 15 31 1 - array 4\n16 16 17 2 - null\n\
+         17 17 18 2 - unsigned 0\n18 18 24 2 2 array 2\n19 19 20 3 2 unsigned 5\n\
+         20 20 24 3 2 reference 3\n21 21 22 4 2 unsigned 2\n22 22 23 4 2 negative -1\n\
+         23 23 24 4 2 unsigned 0\n24 24 31 2 3 array 3\n25 25 26 3 3 unsigned 6\n\
+         26 26 30 3 3 reference 3\n27 27 28 4 3 unsigned 3\n28 28 29 4 3 negative -1\n\
+         29 29 30 4 3 unsigned 0\n30 30 31 3 3 undefined\naccepted 31",
+    );
+    f.items_message(
+        "01 82 15 83 4101 20 82 00 83 f6 20 00 82 14 83 05 83 6161 20 00 83 622161 20 00",
+        "0 0 1 0 - unsigned 1\n1 1 13 0 - array 2\n2 2 3 1 - unsigned 21\n3 3 13 1 - array 3\n\
+         4 4 6 2 - bytes 1\n5 6 7 2 - negative -1\n6 7 13 2 0 array 2\n7 8 9 3 0 unsigned 0\n\
+         8 9 13 3 0 reference 3\n9 10 11 4 0 null\n10 11 12 4 0 negative -1\n\
+         11 12 13 4 0 unsigned 0\n12 13 28 0 - array 2\n13 14 15 1 - unsigned 20\n\
+         14 15 28 1 - array 3\n15 16 17 2 - unsigned 5\n16 17 22 2 1 reference 3\n\
+         17 18 20 3 1 text 1\n18 20 21 3 1 negative -1\n19 21 22 3 1 unsigned 0\n\
+         20 22 28 2 2 reference 3\n21 23 26 3 2 text 2\n22 26 27 3 2 negative -1\n\
+         23 27 28 3 2 unsigned 0\naccepted 24",
+    );
+    // An empty set of each type between two others.
+    f.items_message(
+        "01 82 14 82 f6 83 00 20 00 82 14 81 f6 82 15 82 40 20 82 14 82 00 83 01 20 00",
+        "0 0 1 0 - unsigned 1\n1 1 9 0 - array 2\n2 2 3 1 - unsigned 20\n3 3 9 1 - array 2\n\
+         4 4 5 2 - null\n5 5 9 2 0 reference 3\n6 6 7 3 0 unsigned 0\n7 7 8 3 0 negative -1\n\
+         8 8 9 3 0 unsigned 0\n9 9 13 0 - array 2\n10 10 11 1 - unsigned 20\n\
+         11 11 13 1 - array 1\n12 12 13 2 - null\n13 13 18 0 - array 2\n14 14 15 1 - unsigned 21\n\
+         15 15 18 1 - array 2\n16 16 17 2 - bytes 0\n17 17 18 2 - negative -1\n\
+         18 18 26 0 - array 2\n19 19 20 1 - unsigned 20\n20 20 26 1 - array 2\n\
+         21 21 22 2 - unsigned 0\n22 22 26 2 1 reference 3\n23 23 24 3 1 unsigned 1\n\
+         24 24 25 3 1 negative -1\n25 25 26 3 1 unsigned 0\naccepted 26",
+    );
+    // Sets as single ARIs.
+    f.items_single(
+        "82 14 83 f6 83 00 20 00 84 01 20 00 81 81 02",
+        "0 0 15 0 - array 2\n1 1 2 1 - unsigned 20\n2 2 15 1 - array 3\n3 3 4 2 - null\n\
+         4 4 8 2 0 reference 3\n5 5 6 3 0 unsigned 0\n6 6 7 3 0 negative -1\n\
+         7 7 8 3 0 unsigned 0\n8 8 15 2 1 reference 4\n9 9 10 3 1 unsigned 1\n\
+         10 10 11 3 1 negative -1\n11 11 12 3 1 unsigned 0\n12 12 15 3 1 array 1\n\
+         13 13 15 4 1 reference 1\n14 14 15 5 1 unsigned 2\naccepted 15",
+    );
+    f.items_single(
+        "82 15 84 f6 05 82 00 83 00 20 00 83 00 83 01 20 00 82 05 0a",
+        "0 0 20 0 - array 2\n1 1 2 1 - unsigned 21\n2 2 20 1 - array 4\n3 3 4 2 - null\n\
+         4 4 5 2 - unsigned 5\n5 5 11 2 0 array 2\n6 6 7 3 0 unsigned 0\n7 7 11 3 0 reference 3\n\
+         8 8 9 4 0 unsigned 0\n9 9 10 4 0 negative -1\n10 10 11 4 0 unsigned 0\n\
+         11 11 20 2 1 array 3\n12 12 13 3 1 unsigned 0\n13 13 17 3 1 reference 3\n\
+         14 14 15 4 1 unsigned 1\n15 15 16 4 1 negative -1\n16 16 17 4 1 unsigned 0\n\
+         17 17 20 3 1 array 2\n18 18 19 4 1 unsigned 5\n19 19 20 4 1 unsigned 10\naccepted 20",
+    );
+    // A reference, with parameters too, is a target in a set only.
+    f.items_single(
+        "84 1a00010000 22 00 81 83 33 2a 05",
+        "0 0 13 0 - reference 4\n1 1 6 1 - unsigned 65536\n2 6 7 1 - negative -3\n\
+         3 7 8 1 - unsigned 0\n4 8 13 1 - array 1\n5 9 13 2 - reference 3\n\
+         6 10 11 3 - negative -20\n7 11 12 3 - negative -11\n8 12 13 3 - unsigned 5\naccepted 9",
+    );
+    f.items_single(
+        "82 11 82 84 00 20 00 82 81 05 f7 83 f6 20 00",
+        "0 0 15 0 - array 2\n1 1 2 1 - unsigned 17\n2 2 15 1 - array 2\n3 3 11 2 - reference 4\n\
+         4 4 5 3 - unsigned 0\n5 5 6 3 - negative -1\n6 6 7 3 - unsigned 0\n7 7 11 3 - array 2\n\
+         8 8 10 4 - reference 1\n9 9 10 5 - unsigned 5\n10 10 11 4 - undefined\n\
+         11 11 15 2 - reference 3\n12 12 13 3 - null\n13 13 14 3 - negative -1\n\
+         14 14 15 3 - unsigned 0\naccepted 15",
+    );
+    // Lists in maps, in the parameters of a report's source, and an item after it.
+    f.items_message(
+        "01 82 15 84 f6 00 82 00 83 00 20 00 83 00 84 01 20 00 a1 05 82 11 82 82 12 a1 6161 81 07 f7 82 11 81 83 f6 20 00",
+        "0 0 1 0 - unsigned 1\n1 1 38 0 - array 2\n2 2 3 1 - unsigned 21\n3 3 38 1 - array 4\n\
+         4 4 5 2 - null\n5 5 6 2 - unsigned 0\n6 6 12 2 0 array 2\n7 7 8 3 0 unsigned 0\n\
+         8 8 12 3 0 reference 3\n9 9 10 4 0 unsigned 0\n10 10 11 4 0 negative -1\n\
+         11 11 12 4 0 unsigned 0\n12 12 38 2 1 array 3\n13 13 14 3 1 unsigned 0\n\
+         14 14 31 3 1 reference 4\n15 15 16 4 1 unsigned 1\n16 16 17 4 1 negative -1\n\
+         17 17 18 4 1 unsigned 0\n18 18 31 4 1 map 1\n19 19 20 5 1 unsigned 5\n\
+         20 20 31 5 1 array 2\n21 21 22 6 1 unsigned 17\n22 22 31 6 1 array 2\n\
+         23 23 30 7 1 array 2\n24 24 25 8 1 unsigned 18\n25 25 30 8 1 map 1\n26 26 28 9 1 text 1\n\
+         27 28 30 9 1 reference 1\n28 29 30 10 1 unsigned 7\n29 30 31 7 1 undefined\n\
+         30 31 38 3 1 array 2\n31 32 33 4 1 unsigned 17\n32 33 38 4 1 array 1\n\
+         33 34 38 5 1 reference 3\n34 35 36 6 1 null\n35 36 37 6 1 negative -1\n\
+         36 37 38 6 1 unsigned 0\naccepted 37",
+    );
 }
 
 /// Of everything accepted above, the records too, where they are not many.

@@ -15,6 +15,11 @@ pub trait Visitor {
     fn leaf(&mut self, first: usize, after: usize, around: usize, kind: Kind);
     fn open(&mut self, first: usize, around: usize, kind: Kind, reference: bool) -> Self::Mark;
     fn close(&mut self, opened: Self::Mark, after: usize);
+    /// A target or a report is due: what comes up to its end belongs to it.
+    #[inline(always)]
+    fn target(&mut self) {}
+    #[inline(always)]
+    fn end_of_target(&mut self) {}
 }
 
 /// A check wants nothing but the answer.
@@ -364,7 +369,7 @@ impl<'a, V: Visitor> Reader<'a, V> {
             (20, Kind::Array(length @ 1..)) => self.container(head, false, |r| {
                 r.nonce()?;
                 for _ in 1..length {
-                    r.object_reference()?;
+                    r.target(Self::object_reference)?;
                 }
                 Ok(())
             }),
@@ -372,7 +377,7 @@ impl<'a, V: Visitor> Reader<'a, V> {
                 r.nonce()?;
                 r.integer()?;
                 for _ in 2..length {
-                    r.report()?;
+                    r.target(Self::report)?;
                 }
                 Ok(())
             }),
@@ -399,6 +404,15 @@ impl<'a, V: Visitor> Reader<'a, V> {
             Kind::Unsigned(0..=MAX) | Kind::Negative(0..=MAX) => self.leaf(head),
             _ => head.refuse(Test::NotAllowed),
         }
+    }
+
+    /// A set's target or report; neither stands within another.
+    #[inline(always)]
+    fn target(&mut self, read: impl FnOnce(&mut Self) -> Read) -> Read {
+        self.visitor.target();
+        read(self)?;
+        self.visitor.end_of_target();
+        Ok(())
     }
 
     /// "A report is an array: integer, object reference, then ARIs."

@@ -188,6 +188,32 @@ fn records_agree_with_the_check() {
     }
 }
 
+/// Request (vi): the number is that of the target or report whose bytes hold the item's. In
+/// a set these are the containers with two others around them, and nowhere else is there one.
+#[test]
+fn items_belong_to_targets() {
+    let (mut sets, mut most) = (0, 0);
+    for input in inputs(3_000) {
+        for (is_message, records) in [(true, items_message(&input)), (false, items_single(&input))]
+        {
+            let Ok(records) = records else { continue };
+            let is_set = is_message || matches!(input[..], [0x82, 0x14 | 0x15, ..]);
+            let targets: Vec<_> = records
+                .iter()
+                .filter(|r| is_set && r.around == 2 && matches!(r.kind, Kind::Array(_)))
+                .map(|r| r.first..r.after)
+                .collect();
+            sets += usize::from(!targets.is_empty());
+            most = most.max(targets.len());
+            for record in &records {
+                let target = targets.iter().position(|target| target.contains(&record.first));
+                assert_eq!(record.target, target, "item {record} of {}", to_hex(&input));
+            }
+        }
+    }
+    assert!(sets > 500 && most > 20, "{sets} {most}");
+}
+
 /// Heads are taken from the front: a refusal for anything but missing bytes,
 /// or bytes after, is that of every continuation.
 #[test]

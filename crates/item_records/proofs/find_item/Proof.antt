@@ -10,6 +10,7 @@ find-item-spec =
     (tie.spec
     (λ c. search needs)
     (λ c. search needs)
+    (λ c κs. search (found-ways, needs))
     (λ c. search (found-ways, needs))
     (λ c. search (found-ways, needs))
     (λ c κs. search needs)

@@ -1,4 +1,4 @@
-//! `programs COMMAND PROGRAM [--seed S]`: gives the program of `gate list`, `stream`,
+//! `programs COMMAND PROGRAM [--seed S]`: gives the program of `gate list`, `items`, `stream`,
 //! `text`, `table`, `names` or `release` fixed inputs and made ones, and compares what it
 //! writes with the reading.
 
@@ -9,11 +9,12 @@ use std::process::{Command, ExitCode, Stdio};
 use reading::generate::names::{self as made, Lists};
 use reading::generate::{self, tables, texts, Random};
 use reading::names::{self, check_names, find_line, lines};
-use reading::printed::{entry_line, listing_lines};
+use reading::printed::{entry_line, item_lines, listing_lines};
 use reading::vectors::{self, to_hex, Call, Line};
 use reading::{
-    check_table, closing, is_namespace_name, listing, read_table, read_text, rows, table_bytes,
-    text_of, Listing, NoTable, Refusal, Release, Row, LIMITS, TABLE_ROWS, TABLE_TEXT,
+    check_table, closing, is_namespace_name, items_message, items_single, listing, read_table,
+    read_text, rows, table_bytes, text_of, Listing, NoTable, Record, Refusal, Release, Row, LIMITS,
+    TABLE_ROWS, TABLE_TEXT,
 };
 
 /// What a program writes to standard output and to standard error.
@@ -134,6 +135,49 @@ fn stream(program: &Program, random: &mut Random) -> Result<String, String> {
     let within = |message: &[u8]| closing(message, &LIMITS);
     let words = compare_listings(program, &[&fixed[..], &made].concat(), within)?;
     Ok(format!("{} fixed and {} made messages, {words}", fixed.len(), made.len()))
+}
+
+/// Messages and single ARIs, some of the made ones damaged.
+fn items(program: &Program, random: &mut Random) -> Result<String, String> {
+    let mut inputs: Vec<(bool, Vec<u8>)> = Vec::new();
+    for (single, calls) in
+        [(false, [Call::Message, Call::ItemsMessage]), (true, [Call::Single, Call::ItemsSingle])]
+    {
+        inputs.extend(calls.into_iter().flat_map(fixed).map(|input| (single, input)));
+    }
+    let fixed = inputs.len();
+    for _ in 0..1_000 {
+        let (settings, single) = (generate::settings(random), random.chance(50));
+        let mut input = match (single, random.chance(10)) {
+            (true, true) => generate::nested_single(random, LIMITS.containers),
+            (true, false) => generate::single(random, settings),
+            (false, true) => generate::nested_message(random, LIMITS.containers),
+            (false, false) => generate::message(random, settings),
+        };
+        if random.chance(20) {
+            generate::damage(random, &mut input, &[], &[0x82, 0x14, 0x81, 0xf6]);
+        }
+        inputs.push((single, input));
+    }
+    let (mut accepted, mut belonging) = ([0; 2], 0);
+    for (single, input) in &inputs {
+        let records = if *single { items_single(input) } else { items_message(input) };
+        accepted[usize::from(*single)] += usize::from(records.is_ok());
+        let has_target = |record: &&Record| record.target.is_some();
+        belonging += records.iter().flatten().filter(has_target).count();
+        let arguments: &[&str] = if *single { &["single"] } else { &[] };
+        program.compare(arguments, input, Printed::out(item_lines(&records)))?;
+    }
+    for arguments in [&["message"][..], &["Single"], &[""], &["single", "single"], &["singles"]] {
+        let due = Printed::error("usage: gate items [single]\n");
+        program.compare(arguments, b"\x01", due)?;
+    }
+    let made = inputs.len() - fixed;
+    let [messages, aris] = accepted;
+    Ok(format!(
+        "{fixed} fixed and {made} made inputs, accepted {messages} messages and {aris} ARIs, \
+         {belonging} items of targets"
+    ))
 }
 
 /// The text or the binary form and nothing behind it, or a refusal's line.
@@ -473,6 +517,7 @@ fn main() -> ExitCode {
     };
     let compare = known.and_then(|(command, _)| match command.as_str() {
         "list" => Some(list as fn(&Program, &mut Random) -> Result<String, String>),
+        "items" => Some(items as _),
         "stream" => Some(stream as _),
         "text" => Some(text as _),
         "table" => Some(table as _),
@@ -481,7 +526,7 @@ fn main() -> ExitCode {
         _ => None,
     });
     let (Some(seed), Some((command, program)), Some(compare)) = (seed, known, compare) else {
-        eprintln!("usage: programs list|stream|text|table|names|release PROGRAM [--seed S]");
+        eprintln!("usage: programs list|items|stream|text|table|names|release PROGRAM [--seed S]");
         return ExitCode::FAILURE;
     };
     match compare(&Program(program.clone()), &mut Random::new(seed)) {
