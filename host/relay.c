@@ -9,7 +9,8 @@
    subscriber's own; a list that is missing is empty. The message is taken in the
    pieces that come, and refused as soon as nothing can mend it, without waiting for
    its end. The table, the lists and the message are checked, the message's references
-   listed, and it is said whether they are all granted. DAY is a day file, to which what
+   listed, and it is said whether they are all granted, and if not where the first that
+   is not stands. DAY is a day file, to which what
    is released is added; a missing one is made. /dev/null serves as an empty list.
 
    A message is said to be released only when it stands in the day file: whoever reads
@@ -173,6 +174,25 @@ static void print_entry(size_t k) {
   }
 }
 
+/* The chain that surfbodkin_why has put there. */
+static uint8_t chain[SURFBODKIN_LINKS * SURFBODKIN_LINK];
+
+static void print_why(uint64_t why) {
+  static const char *const reasons[] = {"its namespace is not granted", "its name is in no list",
+                                        "it is relative"};
+  static const char *const meanings[] = {
+      "set",    "typed value",   "target",      "parameters",       "parameter", "map value",
+      "report", "report source", "report item", "collection member"};
+  printf("reason: %s\n", reasons[surfbodkin_why_reason(why)]);
+  for (unsigned k = 0; k < surfbodkin_why_links(why); k++) {
+    struct surfbodkin_link link = surfbodkin_get_link(chain, k);
+    printf("  in bytes %" PRIu32 " to %" PRIu32 ": %s", link.first, link.after,
+           meanings[link.meaning]);
+    if (link.meaning == SURFBODKIN_MAP_VALUE) printf(", key at byte %" PRIu64, link.key);
+    printf("\n");
+  }
+}
+
 /* Puts the released message into the day file. */
 static void add_to_day(const char *day) {
   static char why[DAY_FILE_WHY];
@@ -228,6 +248,12 @@ static int relay(int count, char **words) {
   answer = surfbodkin_release(message, message_length, table.at, table.length,
                               published.at, published.length, own.at, own.length,
                               subscriber, &compared);
+  uint64_t why = 0;
+  if (surfbodkin_number(answer) == SURFBODKIN_HELD) {
+    why = surfbodkin_why(message, message_length, table.at, table.length, published.at,
+                         published.length, own.at, own.length, subscriber, chain,
+                         sizeof chain);
+  }
   free(table.at);
   free(published.at);
   free(own.at);
@@ -241,6 +267,7 @@ static int relay(int count, char **words) {
       printf("release to %" PRIu64 ": no, entry %" PRIu64
              " is not granted, rows compared %" PRIu64 "\n",
              subscriber, surfbodkin_place(answer), compared);
+      print_why(why);
       return HELD_BACK;
     default:
       return refuse_message(answer);

@@ -1,6 +1,6 @@
 /* Surfbodkin: a gate that reads AMP messages, whole or as a link delivers them, and
    ARIs, lists the references in a message, says whether a subscriber's grants cover
-   them, and keeps the messages of a day in one file.
+   them and why not, and keeps the messages of a day in one file.
 
    To use it, link with libsurfbodkin.a (x86-64), which rt staticlib surfbodkin builds
    as target/staticlib/libsurfbodkin.a:
@@ -30,7 +30,8 @@
      0          accepted; released; the table passes; the stream goes on
      1 to 23    refused, by the test of that number (see enum surfbodkin_test);
                 the other 56 bits are the place, or another number, that goes with it
-     255        held back (release's no); the other 56 bits are the entry
+     255        held back (release's no); the other 56 bits are the entry. Why
+                puts more beside it
 
    An acceptance has the number of items (CBOR heads) of the input in bits 32 to 55,
    and in bits 0 to 31 the size of what was written to `out`, 0 for a check; those of
@@ -58,6 +59,8 @@ enum surfbodkin_size {
   SURFBODKIN_ROW = 16,           /* bytes of a row in a grant table */
   SURFBODKIN_ENTRY = 24,         /* bytes of an entry in a listing */
   SURFBODKIN_ENTRIES = 512,      /* no listing has more: an entry takes two items */
+  SURFBODKIN_LINK = 24,          /* bytes of a link in the chain that why writes */
+  SURFBODKIN_LINKS = 12,         /* no chain has more: each link is an open container */
   SURFBODKIN_STREAM_WORDS = 67,  /* of a stream's state, each a uint64_t */
   SURFBODKIN_DAY_BYTES = 65535,  /* of a day file */
   SURFBODKIN_DAY_TRAILER_BYTES = 8, /* of its trailer, and of a file without messages */
@@ -207,6 +210,22 @@ uint64_t surfbodkin_release(const uint8_t *message, size_t length,
                             const uint8_t *own, size_t own_length,
                             uint64_t subscriber, uint64_t *compared);
 
+/* Says why a message is not released: the entry that release names, the chain of
+   containers from the outermost down to it, and the reason. Each container directly
+   holds the next, and the last is the entry itself: SURFBODKIN_LINK bytes each, the
+   outermost first, to be read with surfbodkin_get_link.
+     0          it is released, and `out` is as it was
+     255        held; surfbodkin_why_entry, _links and _reason take the answer apart:
+                the entry as release gives it, the links written, the reason
+     refused    1 to 12, 19, 18 as release
+                16, place: the bytes of this chain, if `out` has fewer.
+                SURFBODKIN_LINKS * SURFBODKIN_LINK bytes always suffice */
+uint64_t surfbodkin_why(const uint8_t *message, size_t length,
+                        const uint8_t *table, size_t table_length,
+                        const uint8_t *published, size_t published_length,
+                        const uint8_t *own, size_t own_length,
+                        uint64_t subscriber, uint8_t *out, size_t out_length);
+
 /* A DAY FILE holds the messages that were released on one day: the messages back to
    back from byte 0, then a table with the first byte of each as 2 bytes, then a trailer
    of 8 bytes: the version, 1, a zero byte, the number of messages (2 bytes) and the
@@ -337,6 +356,57 @@ static inline struct surfbodkin_entry surfbodkin_get_entry(const uint8_t *out,
   entry.kind = surfbodkin_get_number(at + 8, 8);
   entry.space = space >> 63 ? -1 - (int64_t)~space : (int64_t)space;
   return entry;
+}
+
+/* Why an entry is held. */
+enum surfbodkin_reason {
+  SURFBODKIN_NOT_GRANTED = 0,  /* a number, or a name that stands for one, in no row */
+  SURFBODKIN_NAME_UNKNOWN = 1, /* a name that has no line in its list */
+  SURFBODKIN_NO_NAMESPACE = 2  /* a relative reference */
+};
+
+/* Of a 255 that surfbodkin_why gives: the entry, the links, the reason. */
+static inline uint32_t surfbodkin_why_entry(uint64_t answer) {
+  return (uint32_t)(answer & 0xffffffff);
+}
+static inline unsigned surfbodkin_why_links(uint64_t answer) {
+  return (unsigned)(answer >> 32 & 0xffff);
+}
+static inline unsigned surfbodkin_why_reason(uint64_t answer) {
+  return (unsigned)(answer >> 48 & 0xff);
+}
+
+/* What a container is to the one around it. */
+enum surfbodkin_meaning {
+  SURFBODKIN_SET = 0,               /* an EXECSET or RPTSET of the message */
+  SURFBODKIN_TYPED_VALUE = 1,       /* a typed literal's value, as a set's inner array */
+  SURFBODKIN_TARGET = 2,            /* of an EXECSET */
+  SURFBODKIN_PARAMETERS = 3,        /* a parameter list or map */
+  SURFBODKIN_PARAMETER = 4,         /* in a parameter list */
+  SURFBODKIN_MAP_VALUE = 5,         /* in any map, a parameter map too */
+  SURFBODKIN_REPORT = 6,            /* of an RPTSET */
+  SURFBODKIN_REPORT_SOURCE = 7,
+  SURFBODKIN_REPORT_ITEM = 8,
+  SURFBODKIN_COLLECTION_MEMBER = 9  /* in an AC */
+};
+
+/* A link of the chain. */
+struct surfbodkin_link {
+  uint32_t first;   /* the container's first byte in the message */
+  uint32_t after;   /* the byte after its last */
+  uint64_t meaning; /* an enum surfbodkin_meaning */
+  uint64_t key;     /* of a map's value the place of its key's head, else UINT64_MAX */
+};
+
+/* Link k, counted from 0, of the chain in `out`. */
+static inline struct surfbodkin_link surfbodkin_get_link(const uint8_t *out, size_t k) {
+  const uint8_t *at = out + k * SURFBODKIN_LINK;
+  struct surfbodkin_link link;
+  link.first = (uint32_t)surfbodkin_get_number(at, 4);
+  link.after = (uint32_t)surfbodkin_get_number(at + 4, 4);
+  link.meaning = surfbodkin_get_number(at + 8, 8);
+  link.key = surfbodkin_get_number(at + 16, 8);
+  return link;
 }
 
 /* An entry that surfbodkin_day_search writes. */

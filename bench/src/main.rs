@@ -6,7 +6,7 @@
 use std::hint::black_box;
 use std::time::Instant;
 
-use reading::archive::{self, packed, packed_low, packed_release, packed_written};
+use reading::archive::{self, packed, packed_low, packed_release, packed_why, packed_written};
 use reading::day::{self, file_of, VERSION_1};
 use reading::generate::days::message_of_length;
 use reading::generate::{self, Random, Settings};
@@ -270,14 +270,15 @@ struct Call<'a> {
 }
 
 /// Any other call, beside the reading. The column `answer` has the entries or
-/// bytes that it writes.
+/// bytes that it writes; of a message that is held, the entry.
 fn time_call(name: &str, call: &Call, inputs: &[Vec<u8>]) {
     let linked = archive::has(call.function);
     let [mut room, mut other_room] = [(); 2].map(|()| vec![0; LIMITS.text]);
     let mut answers = 0;
     for input in inputs {
         let answer = (call.reading)(input, &mut room);
-        assert_eq!(answer >> 56, 0, "refused or held");
+        let due = if call.function == "surfbodkin_why" { archive::NO } else { 0 };
+        assert_eq!(answer >> 56, due, "refused, or held where it is not asked why");
         answers += answer as u32 as usize;
         assert!(!linked || (call.archive)(input, &mut other_room) == answer);
         assert!(!linked || room == other_room);
@@ -615,6 +616,20 @@ fn main() {
     time_call("e  release, 500 rows, message C", &release, &c);
     time_call("e  release, 500 rows, 4,096 bytes", &release, &few[..1]);
     time_call("e  release, 500 rows, 500 like it", &release, &few);
+
+    // C is held at its parameter, 500 references at the last: all but that one's namespace are granted.
+    let granted: Vec<Row> = (0..499).chain([65_536]).map(|k| Row { subscriber: 7, namespace: k }).collect();
+    let granted = reading::table_bytes(&granted);
+    let why = Call {
+        function: "surfbodkin_why",
+        archive: &|message, room| archive::why(message, &granted, b"", b"", 7, room),
+        reading: &|message, room| {
+            let answer = reading::why::why(message, &granted, b"", b"", 7, &LIMITS);
+            packed_why(answer.and_then(|why| reading::why::write(why, room)))
+        },
+    };
+    time_call("e  why held, message C", &why, &c);
+    time_call("e  why held, the last of 500 references", &why, &[references_of(500, 500)]);
 
     // References of one namespace, which the table's last row grants, and of 100 in turns.
     let rows = (0..400).map(|k| Row { subscriber: 8, namespace: k });

@@ -20,10 +20,11 @@
 #pragma weak surfbodkin_day_add
 #pragma weak surfbodkin_day_search
 #pragma weak surfbodkin_name_number
+#pragma weak surfbodkin_why
 
 enum call {
   SINGLE, MESSAGE, LIST, TABLE, RELEASE, WRITE, READ, LISTS, STREAM,
-  DAY_CHECK, DAY_FIND, DAY_ADD, DAY_SEARCH, NAME, CALLS
+  DAY_CHECK, DAY_FIND, DAY_ADD, DAY_SEARCH, NAME, WHY, CALLS
 };
 static int there[CALLS];
 static unsigned long calls_made;
@@ -36,8 +37,12 @@ struct arguments {
   struct bytes published, own;
 };
 
-/* How much of the room an acceptance has written. */
+/* How much of the room an answer has written. */
 static size_t written_by(enum call call, uint64_t answer) {
+  if (call == WHY && surfbodkin_number(answer) == SURFBODKIN_HELD) {
+    return surfbodkin_why_links(answer) * (size_t)SURFBODKIN_LINK;
+  }
+  if (surfbodkin_number(answer) != SURFBODKIN_ACCEPTED) return 0;
   switch (call) {
     case LIST: case STREAM: case DAY_SEARCH: return surfbodkin_low(answer) * (size_t)SURFBODKIN_ENTRY;
     case WRITE: case READ: case DAY_ADD: return surfbodkin_low(answer);
@@ -124,14 +129,16 @@ static uint64_t make(const struct arguments *a, enum way way, const uint8_t *out
                                       in.length, &number);
       if (number != (answer == 1 ? a->subscriber : unset)) fail("another number than it stands for");
       break;
+    case WHY:
+      answer = surfbodkin_why(in.at, in.length, rows.at, rows.length, first.at, first.length,
+                              second.at, second.length, a->subscriber, to.at, to.length);
+      break;
     default: fail("no such call");
   }
   calls_made++;
-  if (surfbodkin_number(answer) == SURFBODKIN_ACCEPTED) {
-    size_t written = written_by(a->call, answer);
-    if (written > a->room) fail("says that it wrote more than there was room for");
-    if (written > 0) memcpy(room, out != NULL ? out : to.at, written);
-  }
+  size_t written = written_by(a->call, answer);
+  if (written > a->room) fail("says that it wrote more than there was room for");
+  if (written > 0) memcpy(room, out != NULL ? out : to.at, written);
   take_back(input, a->input.at, "the input");
   take_back(table, a->table.at, "the table");
   take_back(published, a->published.at, "the published list");
@@ -171,7 +178,7 @@ static const char *const NAMES[CALLS] = {"check_single", "check_message", "list"
                                          "check_table",  "release",       "write_text",
                                          "read_text",    "check_names",   "stream_close",
                                          "day_check",    "day_find",      "day_add",
-                                         "day_search",   "name_number"};
+                                         "day_search",   "name_number",   "why"};
 
 /* A check, and each beginning of its input with whatever answer. */
 static void check(enum call call, const char *input, uint64_t answer) {
@@ -250,18 +257,18 @@ static void with_lists(enum call call, const char *input, const char *table, con
   free(a.own.at);
 }
 
-/* With a day file, another message or a number, and lists: in every room up to some past
-   the need, and each input at each of its lengths. */
+/* With a day file, another message or a number, and lists, or all that a release is given:
+   in every room up to some past the need, and each input at each of its lengths. */
 static void with_day(enum call call, const char *file, const char *message, uint64_t number,
                      const char *published, const char *own, uint64_t answer, const char *out) {
   if (!there[call]) return;
   struct bytes written = bytes(out);
   struct arguments a = {.call = call, .input = bytes(file), .table = bytes(message),
                         .subscriber = number, .published = bytes(published), .own = bytes(own)};
+  uint64_t need = call == WHY ? written.length : surfbodkin_low(answer);
   for (a.room = 0; a.room <= written.length + 30; a.room++) {
     int short_of = a.room < written.length;
-    expect(a, NAMES[call], file, short_of ? refused(SURFBODKIN_ROOM, surfbodkin_low(answer)) : answer,
-           written.at);
+    expect(a, NAMES[call], file, short_of ? refused(SURFBODKIN_ROOM, need) : answer, written.at);
   }
   struct bytes *const inputs[] = {&a.input, &a.table, &a.published, &a.own};
   for (int k = 0; k < 4; k++) {
@@ -296,7 +303,24 @@ static const char *repeated(const char *before, const char *part, int times, con
 #define EMPTY_DAY "01 00 0000 00000000"
 #define DAY C NAMED " 0000 0012 01 00 0002 00000022"
 
+/* The chain down to C's parameter, and to the first target of NAMED. */
+#define LINK(first, after, meaning) first after " 00000000000000" meaning " ffffffffffffffff "
+#define CHAIN_C \
+  LINK("00000001", "00000012", "00") LINK("00000003", "00000012", "01") LINK("00000005", "00000012", "02") \
+  LINK("0000000d", "00000012", "03") LINK("0000000e", "00000012", "04")
+#define CHAIN_NAMED \
+  LINK("00000001", "00000010", "00") LINK("00000003", "00000010", "01") LINK("00000005", "0000000a", "02")
+#define KEYED "01 82 14 82 f6 84 00 20 00 a1 6161 83 01 20 00"
+#define CHAIN_KEYED \
+  LINK("00000001", "00000010", "00") LINK("00000003", "00000010", "01") LINK("00000005", "00000010", "02") \
+  LINK("00000009", "00000010", "03") "0000000c 00000010 0000000000000005 000000000000000a"
+#define ROW_0 "0000000000000007 0000000000000000 "
+
 static uint64_t items(uint64_t count) { return count << 32; }
+
+static uint64_t held(uint64_t reason, uint64_t links, uint64_t entry) {
+  return (uint64_t)SURFBODKIN_HELD << 56 | reason << 48 | links << 32 | entry;
+}
 
 int main(void) {
   there[SINGLE] = surfbodkin_check_single != NULL;
@@ -314,6 +338,7 @@ int main(void) {
   there[DAY_ADD] = surfbodkin_day_add != NULL;
   there[DAY_SEARCH] = surfbodkin_day_search != NULL;
   there[NAME] = surfbodkin_name_number != NULL;
+  there[WHY] = surfbodkin_why != NULL;
   const char *before = "guards: skipped, not in the archive:";
   for (int call = 0; call < CALLS; call++) {
     if (there[call]) continue;
@@ -444,6 +469,14 @@ int main(void) {
   with_day(NAME, ":!a", "", (uint64_t)-20, ":!a=1\n", ":!a=-20\n", 1, "");
   with_day(NAME, ":!b", "", 0, ":!b=1\n", ":!a=-20\n", 0, "");
   with_day(NAME, ":", "", 0, ":=1\n", ":", 0, "");
+  with_day(WHY, C, ROW_65536, 7, "", "", held(SURFBODKIN_NOT_GRANTED, 5, 1), CHAIN_C);
+  with_day(WHY, C, ROW_65536 ROW_20, 7, "", "", 0, "");
+  with_day(WHY, NAMED, "", 7, "", "", held(SURFBODKIN_NAME_UNKNOWN, 3, 0), CHAIN_NAMED);
+  with_day(WHY, NAMED, "", 7, "61 3d 37 0a", "", held(SURFBODKIN_NOT_GRANTED, 3, 0), CHAIN_NAMED);
+  with_day(WHY, KEYED, ROW_0, 7, "", "", held(SURFBODKIN_NOT_GRANTED, 5, 1), CHAIN_KEYED);
+  with_day(WHY, "02", ROW_0, 7, "", "", refused(8, 0), "");
+  with_day(WHY, C, "00", 7, "61", "", refused(19, 0), "");
+  with_day(WHY, C, "00", 7, "", "", refused(18, 0), "");
 
   printf("guards: %lu calls, all as the header says\n", calls_made);
   return 0;

@@ -14,7 +14,7 @@ ghost use Rattle.print.specs.Entries.{nameOf, spaceOf, entryLine, entryO
 ghost use Rattle.cbor.specs.Answer.{headAt};
 
 // A text, so many times.
-fn repeat(out: &mut [u8], at: usize, text: &[u8], times: usize) -> usize
+pub fn repeat(out: &mut [u8], at: usize, text: &[u8], times: usize) -> usize
     ensures { λ r. ⌜ Put (now (out .entry)) (now (out .exit)) at r (repeated times (now (text .entry))) ⌝ }
 {
     let mut p = at;

@@ -29,6 +29,8 @@ use Rattle.stream.specs.declared.Fed.{Fed}
 use Rattle.stream.specs.declared.Fed.the-variants.{GoOn}
 use Rattle.stream.specs.declared.Fed.the-variants as fed
 use Rattle.stream.specs.Calls.{Opens, Feeds, Closes}
+use Rattle.why_held.specs.declared.Outcome.{Outcome}
+use Rattle.why_held.specs.declared.Outcome.the-variants as outcomes
 use Rattle.text_write.specs.declared.Written.{Written}
 use Rattle.text_write.specs.declared.Written.the-variants as written
 
@@ -93,6 +95,15 @@ abbrev pub releaseCode : Release → ℕ
 releaseCode yes = 0
 releaseCode (no k) = refusalCode 255 k
 releaseCode (Release.refused r p) = refusalCode r p
+
+-- 255 for a message that is held: the reason, the links, the entry, each as far as its bits go
+unfoldable pub heldCode : ℕ → ℕ → ℕ → ℕ
+heldCode entry reason links = 255 * 2 ^ 56 + min reason 255 * 2 ^ 48 + min links 65535 * 2 ^ 32 + min entry 4294967295
+
+abbrev pub whyCode : Outcome → ℕ
+whyCode outcomes.Released = 0
+whyCode (outcomes.Held k r n) = heldCode k r n
+whyCode (outcomes.Refused r p) = refusalCode r p
 
 -- the item count and the bytes written
 abbrev pub textCode : Written → ℕ

@@ -14,9 +14,10 @@ ghost use Rattle.grants.specs.Verdict.{checkOf};
 ghost use Rattle.listing.specs.Answers.{listOf, writtenOf as listedIn};
 ghost use Rattle.release.specs.Release.{releaseBytes, answerOf as releasedOf};
 ghost use Rattle.release.specs.Compared.{countAfter, countedBytes};
+ghost use Rattle.why_held.specs.Why.{why, outcomeIn, whyRoom};
 ghost use Rattle.text.specs.Answer.{writeText, readText, lent};
 ghost use Rattle.text_write.specs.Written.{writtenOf, roomAfter};
-ghost use Rattle.surfbodkin.specs.Code.{refusalCode, countCode, checkCode, listCode, tableCode, releaseCode, textCode, fedCode, OpensAs, FeedsAs, ClosesAs, namesCode, numberCode, numberAfter, version1, dayCode, findCode, addCode, searchCode};
+ghost use Rattle.surfbodkin.specs.Code.{refusalCode, countCode, checkCode, listCode, tableCode, releaseCode, heldCode, whyCode, textCode, fedCode, OpensAs, FeedsAs, ClosesAs, namesCode, numberCode, numberAfter, version1, dayCode, findCode, addCode, searchCode};
 use buffer::Number;
 use day_file::Added;
 use day_file::Day;
@@ -29,6 +30,7 @@ use reader::Answer;
 use release::Released;
 use stream::Fed;
 use text_write::Written;
+use why_held::Outcome;
 
 // The top byte is the refusal's number, the low 56 bits its place.
 fn refusal_code(number: u8, low: u64) -> u64
@@ -226,6 +228,45 @@ pub extern "C" fn surfbodkin_release<'a>(
     let a = release::release_message(message, table, published, own, subscriber);
     put_compared(a, compared);
     release_code(a)
+}
+
+// Held: the entry in bits 0 to 31, the links in 32 to 47, the reason in 48 to 55.
+fn held_code(entry: usize, reason: u64, links: usize) -> u64
+    ensures { λ r. ⌜ r ≡ heldCode entry reason links ⌝ }
+{
+    18374686479671623680
+        + buffer::least(reason as usize, 255) as u64 * 281474976710656
+        + buffer::least(links, 65535) as u64 * 4294967296
+        + buffer::least(entry, 4294967295) as u64
+}
+
+fn why_code(a: Outcome) -> u64
+    ensures { λ r. ⌜ r ≡ whyCode a ⌝ }
+{
+    match a {
+        Outcome::Released => 0,
+        Outcome::Held {
+            entry,
+            reason,
+            links,
+        } => held_code(entry, reason, links),
+        Outcome::Refused { number, place } => refusal_code(number, place as u64),
+    }
+}
+
+#[no_mangle]
+pub extern "C" fn surfbodkin_why<'a>(
+    message: &[u8],
+    table: &[u8],
+    published: &'a [u8],
+    own: &'a [u8],
+    subscriber: u64,
+    out: &mut [u8],
+) -> u64
+    ensures { λ r. ⌜ r ≡ whyCode (outcomeIn (why firstLimits (now (message .entry)) (now (table .entry)) (now (published .entry)) (now (own .entry)) subscriber .outcome) (length (now (out .entry)))) ⌝ }
+    ensures { λ _. ⌜ now (out .exit) ≡ whyRoom firstLimits (now (message .entry)) (now (table .entry)) (now (published .entry)) (now (own .entry)) subscriber (now (out .entry)) ⌝ }
+{
+    why_code(why_held::why_bytes(message, table, published, own, subscriber, out))
 }
 
 fn text_code(a: Written) -> u64

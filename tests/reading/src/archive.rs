@@ -5,6 +5,7 @@
 use std::ops::Range;
 
 use crate::day::Added;
+use crate::why::Why;
 use crate::{Answer, Refusal, Release, Written};
 
 /// Declares the functions that the archive has, and puts one that panics in the
@@ -60,6 +61,10 @@ functions! {
     "name_number" surfbodkin_name_number(
         published: *const u8, published_length: usize, own: *const u8, own_length: usize,
         name: *const u8, name_length: usize, number: *mut u64
+    );
+    "why" surfbodkin_why(
+        message: *const u8, length: usize, table: *const u8, table_length: usize, published: *const u8, published_length: usize,
+        own: *const u8, own_length: usize, subscriber: u64, out: *mut u8, out_length: usize
     );
     "stream_open" surfbodkin_stream_open(state: *mut u64, words: usize);
     "stream_feed" surfbodkin_stream_feed(
@@ -227,6 +232,33 @@ pub fn name_number(published: &[u8], own: &[u8], name: &[u8], number: &mut u64) 
     }
 }
 
+/// The chain goes to the room, if the message is held.
+#[inline]
+pub fn why(
+    message: &[u8],
+    table: &[u8],
+    published: &[u8],
+    own: &[u8],
+    subscriber: u64,
+    room: &mut [u8],
+) -> u64 {
+    unsafe {
+        functions::surfbodkin_why(
+            message.as_ptr(),
+            message.len(),
+            table.as_ptr(),
+            table.len(),
+            published.as_ptr(),
+            published.len(),
+            own.as_ptr(),
+            own.len(),
+            subscriber,
+            room.as_mut_ptr(),
+            room.len(),
+        )
+    }
+}
+
 #[inline]
 pub fn stream_open(state: &mut [u64]) -> u64 {
     unsafe { functions::surfbodkin_stream_open(state.as_mut_ptr(), state.len()) }
@@ -260,15 +292,18 @@ pub fn stream_close(state: &mut [u64], message: &mut [u8], room: &mut [u8]) -> u
     }
 }
 
-/// The top byte of release's no.
+/// The top byte of release's no, and of a message that is held.
 pub const NO: u64 = 255;
+
+/// The greatest place: one that would pass it is this.
+const MOST: u64 = (1 << 56) - 1;
 
 /// A check's answer as the archive gives it: the refusal's number in the top
 /// byte and its place below, or 0 there and the item count from bit 32 on.
 pub fn packed(answer: Answer) -> u64 {
     match answer {
         Answer::Accepted(items) => (items as u64) << 32,
-        Answer::Refused { number, place } => u64::from(number) << 56 | place as u64,
+        Answer::Refused { number, place } => u64::from(number) << 56 | MOST.min(place as u64),
     }
 }
 
@@ -316,11 +351,25 @@ pub fn packed_release(answer: Result<Release, Refusal>) -> u64 {
     }
 }
 
+/// "0 released; 255: bits 0 to 31 the entry, 32 to 47 the links, 48 to 55 the reason"
+pub fn packed_why(answer: Result<Why, Refusal>) -> u64 {
+    match answer {
+        Ok(Why::Released) => 0,
+        Ok(Why::Held { entry, reason, chain }) => {
+            NO << 56 | (reason as u64) << 48 | accepted(chain.len(), entry)
+        }
+        Err(refusal) => refused(refusal),
+    }
+}
+
 /// An archive's answer in words.
 pub fn unpacked(answer: u64) -> String {
     match (answer >> 56, answer << 8 >> 8) {
         (0, low) => format!("accepted {} (low half {})", low >> 32, low as u32),
-        (NO, entry) => format!("no {entry}"),
+        (NO, low) => match (low >> 48, low >> 32 & 0xffff) {
+            (0, 0) => format!("no {low}"),
+            (reason, links) => format!("no {}, reason {reason}, links {links}", low as u32),
+        },
         (number, place) => format!("refused {number} {place}"),
     }
 }

@@ -4,6 +4,7 @@
 
 pub mod days;
 pub mod names;
+pub mod nests;
 pub mod tables;
 pub mod texts;
 
@@ -335,8 +336,8 @@ impl<'r> Writer<'r> {
         });
     }
 
-    /// A map with at most `most` pairs, at least one unless `most` is 0.
-    fn map(&mut self, most: usize, in_parameters: bool) {
+    /// Keys for a map, at most `most` and at least one unless `most` is 0.
+    fn keys(&mut self, most: usize) -> Vec<Vec<u8>> {
         let mut keys = Vec::new();
         for _ in 0..most {
             let mut key = Writer::new(self.random, self.settings);
@@ -348,6 +349,12 @@ impl<'r> Writer<'r> {
         }
         keys.sort();
         keys.dedup();
+        keys
+    }
+
+    /// A map with at most `most` pairs, at least one unless `most` is 0.
+    fn map(&mut self, most: usize, in_parameters: bool) {
+        let keys = self.keys(most);
         self.container(5, keys.len(), |m| {
             for key in keys {
                 m.items += 1;

@@ -9,7 +9,7 @@
 //! judge by the listing and a grant table, `write_text` and `read_text` go from
 //! a single ARI to its text and back, `read_table` reads the text of a grant table. A
 //! [`Stream`] takes a message in fragments; [`names`] has the lists of names, and release
-//! by them; [`day`] the file of a day's messages.
+//! by them; [`why`] says why a message was held; [`day`] has the file of a day's messages.
 //!
 //! Not part of the reading: [`archive`] calls the gate, [`generate`] makes
 //! inputs for comparisons and times, [`vectors`] holds the fixed inputs,
@@ -25,6 +25,7 @@ mod stream;
 mod table_text;
 mod text;
 mod walk;
+pub mod why;
 
 pub mod appendix;
 pub mod archive;
@@ -38,7 +39,7 @@ pub use listing::{list, listing, listing_within, Entry, Listing, Namespace, ENTR
 pub use spelling::{is_identifier, is_namespace_name, is_utf8};
 pub use stream::{closing, standing, Stream};
 pub use table_text::{read_table, NoTable, TABLE_ROWS, TABLE_TEXT};
-pub use text::{read_text, text_of, write_text};
+pub use text::{key_text, read_text, text_of, write_text};
 pub use walk::{walk_message, walk_single, Visitor};
 
 /// "at most 4,096 bytes, at most 1,024 items (one item is one head), at most

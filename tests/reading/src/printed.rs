@@ -1,8 +1,10 @@
-//! What the programs of `gate` print of a listing and of items.
+//! What the programs of `gate` print of a listing, of items, and of a message that was held.
 
 use std::fmt::Write as _;
 
-use crate::{Entry, Listing, Namespace, Record, Refusal};
+use crate::names::name_number;
+use crate::why::{Link, Meaning, Reason, Why};
+use crate::{key_text, listing, text_of, Entry, Listing, Namespace, Record, Refusal, LIMITS};
 
 /// A line for each item: its number, its columns, and its kind, two places further in for
 /// each container around it; or the refusal's line.
@@ -42,6 +44,66 @@ pub fn entry_line(message: &[u8], entry: &Entry) -> String {
         Namespace::Relative => writeln!(line, "."),
     };
     line
+}
+
+/// "released", or the refusal's line; or the entry with the reason, and a line for each
+/// link, further in than the one around it.
+pub fn why_lines(
+    message: &[u8],
+    published: &[u8],
+    own: &[u8],
+    subscriber: u64,
+    answer: &Result<Why, Refusal>,
+) -> String {
+    let (entry, reason, chain) = match answer {
+        Err(refusal) => return format!("{refusal}\n"),
+        Ok(Why::Released) => return "released\n".to_string(),
+        Ok(Why::Held { entry, reason, chain }) => (*entry, *reason, chain),
+    };
+    let Entry { first, after, namespace } = listing(message).expect("held").entries[entry];
+    // A reference with a float has no text.
+    let text = match text_of(&message[first..after], &LIMITS) {
+        Ok((text, _)) => text,
+        Err(_) => format!("bytes {first} to {after}"),
+    };
+    let reason = match (reason, namespace) {
+        (Reason::NotGranted, Namespace::Number(number)) => {
+            format!("namespace {number} is not granted to subscriber {subscriber}")
+        }
+        (Reason::NotGranted, Namespace::Name(place)) => {
+            let name = name(message, place);
+            let number = name_number(published, own, name.as_bytes()).expect("a line");
+            format!("namespace {name}, number {number}, is not granted to subscriber {subscriber}")
+        }
+        (Reason::NameUnknown, Namespace::Name(place)) => {
+            let name = name(message, place);
+            let list = if name.starts_with('!') { "own" } else { "published" };
+            format!("namespace {name} is not in the {list} list")
+        }
+        (Reason::Relative, Namespace::Relative) => "relative, without a namespace".to_string(),
+        _ => panic!("{reason:?} cannot be said of {namespace:?}"),
+    };
+    let mut lines = format!("held: entry {entry}, {text}: {reason}\n");
+    for (k, Link { first, meaning, .. }) in chain.iter().enumerate() {
+        let _ = writeln!(lines, "{}byte {first}: {}", "  ".repeat(k + 1), words(message, *meaning));
+    }
+    lines
+}
+
+fn words(message: &[u8], meaning: Meaning) -> String {
+    match meaning {
+        Meaning::Set(k) => format!("set {k}"),
+        Meaning::TypedValue => "typed value".to_string(),
+        Meaning::Target(k) => format!("target {k}"),
+        Meaning::ParameterList => "parameter list".to_string(),
+        Meaning::ParameterMap => "parameter map".to_string(),
+        Meaning::Parameter(k) => format!("parameter {k}"),
+        Meaning::MapValue { key } => format!("map value, key {}", key_text(message, key)),
+        Meaning::Report(k) => format!("report {k}"),
+        Meaning::ReportSource => "report source".to_string(),
+        Meaning::ReportItem(k) => format!("report item {k}"),
+        Meaning::CollectionMember(k) => format!("collection member {k}"),
+    }
 }
 
 /// The text string at a place of an accepted message.

@@ -82,6 +82,14 @@ pub fn write_text(ari: &[u8], room: &mut [u8]) -> Result<Written, Refusal> {
     hand_over(text.as_bytes(), Written { items, size: text.len() }, room)
 }
 
+/// The map key whose head is at a place of an accepted input, as it stands in a text.
+pub fn key_text(input: &[u8], place: usize) -> String {
+    let mut writer = Writer { rest: &input[place..], out: String::new() };
+    let key = writer.head();
+    writer.literal(key);
+    writer.out
+}
+
 /// Writes the text of an ARI that has been accepted and has one.
 struct Writer<'a> {
     /// The bytes not written yet.

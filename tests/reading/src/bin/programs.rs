@@ -1,16 +1,17 @@
 //! `programs COMMAND PROGRAM [--seed S]`: gives the program of `gate list`, `items`, `stream`,
-//! `text`, `table`, `names` or `release` fixed inputs and made ones, and compares what it
-//! writes with the reading.
+//! `text`, `table`, `names`, `release` or `why` fixed inputs and made ones, and compares what
+//! it writes with the reading.
 
 use std::fmt::Write as _;
 use std::io::Write as _;
 use std::process::{Command, ExitCode, Stdio};
 
 use reading::generate::names::{self as made, Lists};
-use reading::generate::{self, tables, texts, Random};
+use reading::generate::{self, nests, tables, texts, Random};
 use reading::names::{self, check_names, find_line, lines};
-use reading::printed::{entry_line, item_lines, listing_lines};
+use reading::printed::{entry_line, item_lines, listing_lines, why_lines};
 use reading::vectors::{self, to_hex, Call, Line};
+use reading::why::why;
 use reading::{
     check_table, closing, is_namespace_name, items_message, items_single, listing, read_table,
     read_text, rows, table_bytes, text_of, Listing, NoTable, Record, Refusal, Release, Row, LIMITS,
@@ -448,7 +449,18 @@ fn release_lines(message: &[u8], table: &[Row], lists: &Lists, subscriber: u64) 
     }
 }
 
-fn compare_released(program: &Program, random: &mut Random) -> Result<String, String> {
+/// What a program has to print of a message, a table, lists and a subscriber.
+type Judge = fn(&[u8], &[Row], &Lists, u64) -> Printed;
+
+/// Gives `gate release` or `gate why` messages with tables and lists; counts the answers whose
+/// first line has each of the words, one of its own words beginning there.
+fn compare_judged<const N: usize>(
+    program: &Program,
+    random: &mut Random,
+    command: &str,
+    judge: Judge,
+    words: [&str; N],
+) -> Result<(String, [usize; N]), String> {
     let files = Files::new()?;
     let mut messages = fixed(Call::Message);
     let fixed = messages.len();
@@ -457,31 +469,42 @@ fn compare_released(program: &Program, random: &mut Random) -> Result<String, St
         let few_namespaces = random.chance(60);
         messages.push(generate::message(random, generate::Settings { few_namespaces, ..settings }));
     }
-    let mut answers = [0; 4];
-    for message in &mut messages {
+    let mut cases = Vec::new();
+    for mut message in messages {
         let mut lists = Lists::default();
         if random.chance(60) {
             let (published, own) = made::lists(random);
             let known = [made::names_of(&published), made::names_of(&own)].concat();
-            made::rename(random, message, &known, 60);
-            lists = made::lists_for(random, message);
+            made::rename(random, &mut message, &known, 60);
+            lists = made::lists_for(random, &message);
         }
-        let (mut bytes, subscriber) = made::table_for(random, message, &lists);
-        bytes.truncate(bytes.len() / 16 * 16);
+        let (table, subscriber) = made::table_for(random, &message, &lists);
+        cases.push(nests::Nest { message, lists, table, subscriber });
+    }
+    for _ in 0..600 {
+        let containers = LIMITS.containers - random.pick(&[0, 0, 0, 1, 2, 5, 8]);
+        cases.push(nests::nest(random, containers));
+    }
+    let mut answers = [0; N];
+    let made = cases.len() - fixed;
+    for nests::Nest { message, lists, mut table, subscriber } in cases {
+        table.truncate(table.len() / 16 * 16);
         let faults = random.chance(5);
-        let text = table_text(random, &rows(&bytes).expect("whole rows"), faults);
+        let text = table_text(random, &rows(&table).expect("whole rows"), faults);
         let table = files.put("table", &text)?;
         let due = match read_table(&text) {
             Err(why) => no_table(&table, why),
-            Ok(rows) => release_lines(message, &rows, &lists, subscriber),
+            Ok(rows) => judge(&message, &rows, &lists, subscriber),
         };
-        for (k, start) in ["yes", "no", "refused", "refused 19"].into_iter().enumerate() {
-            answers[k] += usize::from(due.out.starts_with(start.as_bytes()));
+        let first_line = due.out.split(|byte| *byte == b'\n').next().unwrap_or_default();
+        let first_line = String::from_utf8_lossy(first_line);
+        for (k, words) in words.into_iter().enumerate() {
+            answers[k] += usize::from(format!(" {first_line}").contains(&format!(" {words}")));
         }
         let paths = [files.put("published", &lists.0)?, files.put("own", &lists.1)?];
         let mut given = vec![table, subscriber.to_string()];
         given.extend(list_arguments(random, &lists, paths));
-        program.compare(&strings(&given), message, due)?;
+        program.compare(&strings(&given), &message, due)?;
     }
     let name: &str = &files.put("table", b"1 1\n")?;
     for subscriber in ["", "x", "-1", "+1", "01", "18446744073709551616", "1 "] {
@@ -489,7 +512,7 @@ fn compare_released(program: &Program, random: &mut Random) -> Result<String, St
         program.compare(&[name, subscriber], b"\x01", Printed::error(error))?;
     }
     for arguments in [&[][..], &[name], &[name, "1", name, name, name]] {
-        let error = "usage: gate release TABLE SUBSCRIBER [PUBLISHED [OWN]]\n";
+        let error = format!("usage: gate {command} TABLE SUBSCRIBER [PUBLISHED [OWN]]\n");
         program.compare(arguments, b"\x01", Printed::error(error))?;
     }
     let missing: &str = &files.path("missing")?;
@@ -498,11 +521,37 @@ fn compare_released(program: &Program, random: &mut Random) -> Result<String, St
         program.compare(arguments, b"\x01", Printed::error(error.clone()))?;
     }
     program.compare(&["/", "1"], b"\x01", Printed::error("/: Is a directory\n"))?;
-    let made = messages.len() - fixed;
-    let [yes, no, refused, names] = answers;
+    Ok((format!("{fixed} fixed and {made} made messages"), answers))
+}
+
+fn compare_released(program: &Program, random: &mut Random) -> Result<String, String> {
+    let words = ["yes", "no", "refused", "refused 19"];
+    let (messages, [yes, no, refused, names]) =
+        compare_judged(program, random, "release", release_lines, words)?;
+    Ok(format!("{messages}: {yes} yes, {no} no, {refused} refused, {names} of them for a list"))
+}
+
+fn judged_why(message: &[u8], table: &[Row], lists: &Lists, subscriber: u64) -> Printed {
+    let (published, own) = lists;
+    let answer = why(message, &table_bytes(table), published, own, subscriber, &LIMITS);
+    Printed::out(why_lines(message, published, own, subscriber, &answer))
+}
+
+fn compare_why(program: &Program, random: &mut Random) -> Result<String, String> {
+    let words = [
+        "released",
+        "refused",
+        "is not granted",
+        "is not in the published list",
+        "is not in the own list",
+        "relative, without",
+        "bytes ",
+    ];
+    let (messages, [released, refused, granted, published, own, relative, bytes]) =
+        compare_judged(program, random, "why", judged_why, words)?;
     Ok(format!(
-        "{fixed} fixed and {made} made messages: {yes} yes, {no} no, {refused} refused, {names} of \
-         them for a list"
+        "{messages}: {released} released, {refused} refused; held {granted} not granted, \
+         {published} and {own} without a line, {relative} relative; {bytes} without a text"
     ))
 }
 
@@ -523,10 +572,13 @@ fn main() -> ExitCode {
         "table" => Some(table as _),
         "names" => Some(compare_names as _),
         "release" => Some(compare_released as _),
+        "why" => Some(compare_why as _),
         _ => None,
     });
     let (Some(seed), Some((command, program)), Some(compare)) = (seed, known, compare) else {
-        eprintln!("usage: programs list|items|stream|text|table|names|release PROGRAM [--seed S]");
+        eprintln!(
+            "usage: programs list|items|stream|text|table|names|release|why PROGRAM [--seed S]"
+        );
         return ExitCode::FAILURE;
     };
     match compare(&Program(program.clone()), &mut Random::new(seed)) {

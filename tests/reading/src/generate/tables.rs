@@ -5,7 +5,7 @@ use super::Random;
 use crate::{listing, table_bytes, Namespace, Row};
 
 /// Some of them one bit apart.
-const SUBSCRIBERS: [u64; 6] = [0, 7, 6, 7 | 1 << 63, u64::MAX, 7 << 56];
+pub(super) const SUBSCRIBERS: [u64; 6] = [0, 7, 6, 7 | 1 << 63, u64::MAX, 7 << 56];
 
 /// A row's namespace if it has nothing to do with a message.
 fn any_namespace(random: &mut Random) -> i64 {
@@ -23,7 +23,7 @@ pub(super) fn shuffle<T>(random: &mut Random, list: &mut [T]) {
 }
 
 /// Leaves a table as it is, most often, or cuts or adds a few bytes.
-fn fray(random: &mut Random, table: &mut Vec<u8>) {
+pub(super) fn fray(random: &mut Random, table: &mut Vec<u8>) {
     match random.below(20) {
         0 => table.truncate(table.len().saturating_sub(1 + random.below(15))),
         1 => table.extend((0..=random.below(15)).map(|_| random.word() as u8)),

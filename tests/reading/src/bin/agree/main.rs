@@ -1,7 +1,8 @@
 //! Compares the archive's answers, and what it leaves in lent memory, with the
 //! reading's: on inputs from the grammar, near the limits, damaged and random,
 //! with tables that grant most of what is named, and rooms from none to enough;
-//! day files, whole and damaged; and messages that are fed in fragments.
+//! day files, whole and damaged; messages that nest down to the reference by which they
+//! are held; and messages that are fed in fragments.
 //!
 //! `agree [--count N] [--seed S]`: N inputs in all (200,000), for each function
 //! that the archive has the same number, the stream's three counted as one; the
@@ -11,15 +12,16 @@ mod day;
 mod lent;
 mod stream;
 mod tally;
+mod why;
 
 use std::process::ExitCode;
 use std::time::{Instant, SystemTime, UNIX_EPOCH};
 
 use lent::Lent;
 use reading::archive::{self, packed, packed_plain, packed_release, packed_written, unpacked};
-use reading::archive::{packed_added, packed_low, packed_part};
+use reading::archive::{packed_added, packed_low, packed_part, packed_why};
 use reading::day::{FOUND, VERSION_1};
-use reading::generate::{self, days, names, tables, texts, Random, Settings};
+use reading::generate::{self, days, names, nests, tables, texts, Random, Settings};
 use reading::vectors::to_hex;
 use reading::{Entry, Namespace, Record, Written, ENTRY, LIMITS};
 use tally::Column;
@@ -39,6 +41,7 @@ enum Call {
     DayAdd,
     DaySearch,
     Number,
+    Why,
 }
 
 /// What a call is lent. Most use only a part of it.
@@ -60,7 +63,7 @@ struct Case {
 
 impl Call {
     /// In the order of the archive's declarations.
-    const ALL: [Call; 13] = [
+    const ALL: [Call; 14] = [
         Call::Single,
         Call::Message,
         Call::List,
@@ -74,6 +77,7 @@ impl Call {
         Call::DayAdd,
         Call::DaySearch,
         Call::Number,
+        Call::Why,
     ];
 
     fn function(self) -> &'static str {
@@ -96,6 +100,7 @@ impl Call {
             Call::DayAdd => (0..=12).chain([16]).chain(20..=23).collect(),
             Call::DaySearch => vec![0, 16, 19, 20, 21, 22],
             Call::Number => vec![0],
+            Call::Why => (0..=12).chain([16, 18, 19, archive::NO]).collect(),
         }
     }
 
@@ -134,6 +139,9 @@ impl Call {
                 }
                 packed_low(Ok(usize::from(number.is_some())))
             }
+            Call::Why => {
+                packed_why(why::answer(case).and_then(|answer| reading::why::write(answer, room)))
+            }
         }
     }
 
@@ -158,6 +166,7 @@ impl Call {
             Call::Number => {
                 with_number(room, |number| archive::name_number(published, own, other, number))
             }
+            Call::Why => archive::why(input, table, published, own, number, room),
         }
     }
 
@@ -177,7 +186,7 @@ impl Call {
     fn settings(self, random: &mut Random) -> Settings {
         let settings = generate::settings(random);
         match self {
-            Call::Release => Settings { few_namespaces: random.chance(60), ..settings },
+            Call::Release | Call::Why => Settings { few_namespaces: random.chance(60), ..settings },
             Call::Write => Settings { floats: random.chance(20), ..settings },
             _ => settings,
         }
@@ -271,6 +280,20 @@ impl Call {
         (case.table, case.number) = names::table_for(random, &case.input, &case.lists);
     }
 
+    /// A message that nests down to one reference, a few damaged, with its lists and table.
+    fn nest(self, random: &mut Random) -> Case {
+        let containers = match random.chance(50) {
+            true => LIMITS.containers,
+            false => 4 + random.below(LIMITS.containers - 2),
+        };
+        let nests::Nest { mut message, lists, table, subscriber } = nests::nest(random, containers);
+        if random.chance(10) {
+            let records = self.records(&message);
+            generate::damage(random, &mut message, &records, &[]);
+        }
+        Case { input: message, lists, table, number: subscriber, ..Case::default() }
+    }
+
     fn case(self, random: &mut Random) -> Case {
         let mut case = Case::default();
         match self {
@@ -295,16 +318,18 @@ impl Call {
                 case.lists = names::lists(random);
                 case.other = names::sought(random, &case.lists);
             }
+            Call::Why if random.chance(40) => case = self.nest(random),
+            Call::Release | Call::Why => {
+                case.input = self.binary(random);
+                self.give_names(random, &mut case);
+            }
             _ => case.input = self.binary(random),
-        }
-        if self == Call::Release {
-            self.give_names(random, &mut case);
         }
         // The size of what test 16 counts.
         let size = match self {
             Call::List => ENTRY,
             Call::DaySearch => FOUND,
-            Call::Write | Call::Read | Call::DayAdd => 1,
+            Call::Write | Call::Read | Call::DayAdd | Call::Why => 1,
             Call::Release | Call::Number => {
                 case.room = random.word().to_ne_bytes().to_vec();
                 return case;
@@ -395,7 +420,7 @@ fn compare(call: Call, case: &Case, shift: usize) -> Result<u64, String> {
         words += &format!(", {name} {}", to_hex(content));
     }
     match call {
-        Call::Release => words += &format!(", subscriber {number}"),
+        Call::Release | Call::Why => words += &format!(", subscriber {number}"),
         Call::DayFind => words += &format!(", message {number}"),
         Call::DaySearch => words += &format!(", namespace {}", *number as i64),
         Call::Read => words += &format!(" ({})", String::from_utf8_lossy(input)),
@@ -430,6 +455,7 @@ struct Tally {
     later_no: usize,
     read_back: usize,
     days: day::Tally,
+    whys: why::Tally,
 }
 
 impl Tally {
@@ -445,11 +471,15 @@ impl Tally {
             later_no: 0,
             read_back: 0,
             days: day::Tally::default(),
+            whys: why::Tally::default(),
         }
     }
 
     fn add(&mut self, call: Call, case: &Case, answer: u64) {
         self.days.add(call, case, answer);
+        if call == Call::Why {
+            self.whys.add(case, answer);
+        }
         for (_, column) in self.answers.iter_mut().filter(|(of, _)| *of == call) {
             column.add(answer);
         }
@@ -463,7 +493,7 @@ impl Tally {
                 self.named_yes += usize::from(entries.iter().any(is_name));
             }
             1..=14 => self.deep += usize::from(low >= 16),
-            archive::NO => self.later_no += usize::from(low > 0),
+            archive::NO => self.later_no += usize::from(low as u32 > 0),
             _ => (),
         }
     }
@@ -576,9 +606,11 @@ fn main() -> ExitCode {
         columns.extend([&streams.feeds, &streams.closes]);
     }
     let with_days = day::CALLS.iter().all(|call| calls.contains(call));
+    let with_why = calls.contains(&Call::Why);
     let complete = tally::print(&columns)
         && (!with_stream || streams.is_complete())
-        && (!with_days || tally.days.is_complete());
+        && (!with_days || tally.days.is_complete())
+        && (!with_why || tally.whys.is_complete());
     println!(
         "refused at byte 16 or later {}, entries listed {}, yes with references {}, with names \
          {}, no past entry 0 {}, texts read back {}",
@@ -586,6 +618,9 @@ fn main() -> ExitCode {
     );
     if with_days {
         println!("{}", tally.days);
+    }
+    if with_why {
+        println!("{}", tally.whys);
     }
     if with_stream {
         println!("{streams}");

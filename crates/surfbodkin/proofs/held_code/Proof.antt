@@ -1,0 +1,20 @@
+-- `surfbodkin::held_code` meets its contract: number beside number.
+use borrow.Author.Needs.{needs}
+use Rattle.surfbodkin.specs.Code.{heldCode}
+use Rattle.surfbodkin.proofs.held_code.Statement.{statement}
+use Rattle.surfbodkin.proofs.held_code.Tie as tie
+
+pub held-code-spec : {M : Type 1} → statement M
+unfolding heldCode
+held-code-spec =
+    tie.close
+    (tie.spec
+    (λ c κs. search needs)
+    (λ c. search needs)
+    (λ c. search needs)
+    (λ c κs. search needs)
+    (λ c. search needs)
+    (λ c. search needs)
+    (λ c κs. search needs)
+    (λ c. search needs)
+    (λ c. search needs))

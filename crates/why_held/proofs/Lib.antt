@@ -1,0 +1,7 @@
+pub mod Paths
+pub mod Going
+pub mod Finding
+pub mod Answered
+pub mod Writing
+pub mod Keys
+pub mod WhyDemand
