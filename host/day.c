@@ -206,14 +206,12 @@ static void say_line(uint32_t number, size_t first, const uint8_t *message,
   if (entry.kind == SURFBODKIN_BY_NUMBER) {
     say("%" PRId64 " %" PRId64 " ", entry.space, entry.space);
   } else if (entry.kind == SURFBODKIN_BY_NAME) {
-    /* A name has at most 65 bytes: its head is one byte up to 23, else two. */
-    const uint8_t *head = message + entry.space;
-    size_t size = head[0] == 0x78 ? 2 : 1;
-    size_t length = size == 2 ? head[1] : head[0] - 0x60u;
+    size_t length;
+    const uint8_t *name = surfbodkin_get_name(message, entry.space, &length);
     uint64_t stands_for;
-    say_bytes(head + size, length);
+    say_bytes(name, length);
     if (surfbodkin_name_number(lists.published.at, lists.published.length, lists.own.at,
-                               lists.own.length, head + size, length, &stands_for) == 1) {
+                               lists.own.length, name, length, &stands_for) == 1) {
       say(" %s%" PRIu64 " ", stands_for >> 63 ? "-" : "",
           stands_for >> 63 ? 0 - stands_for : stands_for);
     } else {

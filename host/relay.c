@@ -117,7 +117,7 @@ static const char *reason(unsigned number) {
     case SURFBODKIN_TOO_LONG: return "the message is too long";
     case SURFBODKIN_CUT: return "the message ends where an item is due";
     case SURFBODKIN_NOT_IN_USE: return "this kind of item is not in use";
-    case SURFBODKIN_NOT_SHORTEST: return "the item is not written in its shortest form";
+    case SURFBODKIN_NOT_SHORTEST: return "the float is not in its shortest form";
     case SURFBODKIN_TOO_MANY_ITEMS: return "there are too many items";
     case SURFBODKIN_TOO_MANY_CONTAINERS: return "arrays and maps are nested too deep";
     case SURFBODKIN_NOT_ALLOWED: return "the item is not allowed here";
@@ -164,11 +164,9 @@ static void print_entry(size_t k) {
   if (entry.kind == SURFBODKIN_BY_NUMBER) {
     printf("namespace %" PRId64 "\n", entry.space);
   } else if (entry.kind == SURFBODKIN_BY_NAME) {
-    /* A name has at most 65 bytes: its head is one byte up to 23, else two. */
-    const uint8_t *head = message + entry.space;
-    int size = head[0] == 0x78 ? 2 : 1;
-    int length = size == 2 ? head[1] : head[0] - 0x60;
-    printf("namespace %.*s\n", length, (const char *)head + size);
+    size_t length;
+    const uint8_t *name = surfbodkin_get_name(message, entry.space, &length);
+    printf("namespace %.*s\n", (int)length, (const char *)name);
   } else {
     printf("relative\n");
   }

@@ -76,7 +76,9 @@ enum surfbodkin_test {
   SURFBODKIN_TOO_LONG = 1,            /* more bytes than the limit; place 0 */
   SURFBODKIN_CUT = 2,                 /* ends where a head is due, or inside one */
   SURFBODKIN_NOT_IN_USE = 3,          /* a head that is not used here, as a tag */
-  SURFBODKIN_NOT_SHORTEST = 4,        /* a shorter head or float would do */
+  SURFBODKIN_NOT_SHORTEST = 4,        /* a shorter float would do, or another NaN; of
+                                         numbers and lengths any head that holds them
+                                         is taken since request (ix) */
   SURFBODKIN_TOO_MANY_ITEMS = 5,
   SURFBODKIN_TOO_MANY_CONTAINERS = 6,
   SURFBODKIN_NOT_ALLOWED = 7,         /* kind, range or length not allowed here */
@@ -356,6 +358,17 @@ static inline struct surfbodkin_entry surfbodkin_get_entry(const uint8_t *out,
   entry.kind = surfbodkin_get_number(at + 8, 8);
   entry.space = space >> 63 ? -1 - (int64_t)~space : (int64_t)space;
   return entry;
+}
+
+/* The bytes of a name in a listed message, whatever head it has: `place` is the entry's
+   `space`. Not for a message that was refused. */
+static inline const uint8_t *surfbodkin_get_name(const uint8_t *message, int64_t place,
+                                                 size_t *length) {
+  const uint8_t *head = message + place;
+  unsigned info = head[0] & 31;
+  size_t width = info < 24 ? 0 : (size_t)1 << (info - 24);
+  *length = width == 0 ? info : (size_t)surfbodkin_get_number(head + 1, width);
+  return head + 1 + width;
 }
 
 /* Why an entry is held. */

@@ -129,6 +129,7 @@ fn large_settings(random: &mut Random) -> Settings {
         small_numbers: random.chance(70),
         floats: true,
         few_namespaces: false,
+        wide: 0,
     }
 }
 
@@ -204,8 +205,14 @@ fn checks(large: &[Vec<u8>]) -> Vec<Check> {
             small_numbers: true,
             floats: true,
             few_namespaces: false,
+            wide: 0,
         };
         generate::message(random, settings)
+    });
+    // Every head at full width.
+    let wide = varied(500, 3, 4_080..=4_096, 200..=1_024, check_message, |random| {
+        let settings = Settings { wide: 100, ..large_settings(random) };
+        generate::full_message(random, settings, 4_096)
     });
     let plain = ascii(4_000);
     // A letter of two bytes in every hundred.
@@ -221,6 +228,8 @@ fn checks(large: &[Vec<u8>]) -> Vec<Check> {
         check("a  2,000 like it", small),
         check("b  4,096 bytes, repeated", large[..1].to_vec()),
         check("b  500 like it", large.to_vec()),
+        check("b  4,096 bytes, heads of 9", wide[..1].to_vec()),
+        check("b  500 like it", wide),
         check("c  strings of 0 to 40 bytes", (0..=40).map(|k| note_of(&ascii(k))).collect()),
         Check { string: Some(letters.clone()), ..check("c  40 letters of 2 bytes", of(&letters)) },
         Check { string: Some(plain.clone()), ..check("c  4,000 bytes of ASCII", of(&plain)) },
@@ -618,7 +627,8 @@ fn main() {
     time_call("e  release, 500 rows, 500 like it", &release, &few);
 
     // C is held at its parameter, 500 references at the last: all but that one's namespace are granted.
-    let granted: Vec<Row> = (0..499).chain([65_536]).map(|k| Row { subscriber: 7, namespace: k }).collect();
+    let granted: Vec<Row> =
+        (0..499).chain([65_536]).map(|k| Row { subscriber: 7, namespace: k }).collect();
     let granted = reading::table_bytes(&granted);
     let why = Call {
         function: "surfbodkin_why",

@@ -365,7 +365,9 @@ int main(void) {
   check(MESSAGE, "", refused(2, 0));
   check(MESSAGE, "01", items(1));
   check(MESSAGE, "02", refused(8, 0));
-  check(MESSAGE, "01 82 14 81 9b 0000000000000001", refused(4, 4));
+  check(MESSAGE, "01 82 14 81 9b 0000000000000001", refused(7, 4));
+  check(MESSAGE, "01 82 14 81 5b 0000000000000001", refused(9, 4));
+  check(MESSAGE, "1b 0000000000000001", items(1));
   check(MESSAGE, "01 82 14 81 5b ffffffffffffffff", refused(9, 4));
 
   for (int k = 0; k < 2; k++) {

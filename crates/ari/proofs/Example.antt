@@ -2,7 +2,7 @@
 use Prim.Native.Nat.{ℕ}
 use mathlib.Core.Path.{_≡_, refl}
 use mathlib.Core.List.{List, [], _∷_}
-use Rattle.cbor.specs.Head.{width, shortest, majorOf, kindOf, argument, shortBytes, tooLong, badSingle, badDouble, badHalf, badFloat, unused, notShortest, getFrom, getHead, stringSize, isContainer}
+use Rattle.cbor.specs.Head.{width, shortest, majorOf, kindOf, argument, shortBytes, tooLong, badSingle, badDouble, badHalf, badFloat, unused, getFrom, getHead, stringSize, isContainer}
 use Rattle.cbor.specs.Utf8.{utf8From}
 use Rattle.ari.specs.Table.{types, rule, members}
 use Rattle.ari.specs.declared.Input.{Input}
@@ -37,5 +37,5 @@ examples =
     ∷ []
 
 pub the-examples : Hold examples
-unfolding utf8From width shortest majorOf kindOf argument shortBytes tooLong badSingle badDouble badHalf badFloat unused notShortest getFrom getHead stringSize isContainer types rule members judge judgeContent judgeGot takeStep visit run read
+unfolding utf8From width shortest majorOf kindOf argument shortBytes tooLong badSingle badDouble badHalf badFloat unused getFrom getHead stringSize isContainer types rule members judge judgeContent judgeGot takeStep visit run read
 the-examples = (refl, (refl, (refl, (refl, (refl, (refl, (refl, (refl, (refl, (refl, (refl, (refl, (refl, tt)))))))))))))

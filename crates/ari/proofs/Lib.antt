@@ -16,6 +16,8 @@ pub mod Numbers
 pub mod Referring
 pub mod Listed
 pub mod Targets
+pub mod Shortened
+pub mod ShortListing
 pub mod Larger
 pub mod ListingBound
 pub mod ListingExample

@@ -6,7 +6,7 @@ use mathlib.Core.List.{List, [], _∷_, _++_}
 use native.Mathlib.Omega.{arith}
 use lib.ListN.{length, take, drop}
 use lib.Dec.{ltb, eqb}
-use Rattle.cbor.specs.Head.{text, Lead, size, Got, bad, got, getHead, getFrom, width, unused, notShortest, kindOf, argument, stringSize, isContainer}
+use Rattle.cbor.specs.Head.{text, Lead, size, Got, bad, got, getHead, getFrom, width, unused, badFloat, kindOf, argument, stringSize, isContainer}
 use Rattle.ari.specs.Table.{Slot, ari, message, rule, fits}
 use Rattle.ari.specs.declared.Limits.{Limits}
 use Rattle.ari.specs.declared.Input.{Input}
@@ -50,7 +50,7 @@ small-head (x ∷ b) =
     let i : ℕ = x % 32 in
     either Got13 (ltb (length b) (width i)) (bad-13 2 (omega arith))
     (either Got13 (unused (x / 32) i) (bad-13 3 (omega arith))
-    (either Got13 (notShortest i (kindOf (x / 32) i) (argument i b)) (bad-13 4 (omega arith)) (record { small = tt })))
+    (either Got13 (badFloat (kindOf (x / 32) i) (argument i b)) (bad-13 4 (omega arith)) (record { small = tt })))
 
 small-judge : (left d : ℕ) (s : Slot) (prev : List ℕ) (l : Lead) (r : List ℕ) → Step13 (judge left d s prev l r)
 unfolding judge judgeContent

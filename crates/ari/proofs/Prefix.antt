@@ -9,7 +9,7 @@ use lib.Seq.{take-append-le, drop-append-le, length-take-le}
 use lib.Dec.{ltb, eqb}
 use borrow.Author.Tests.{ltb-true, ltb-false, le-ltb, lt-ltb}
 use Rattle.buffer.proofs.ByteLaws.{past}
-use Rattle.cbor.specs.Head.{text, Lead, size, width, argument, kindOf, unused, notShortest, Got, bad, got, getFrom, getHead, stringSize, isContainer}
+use Rattle.cbor.specs.Head.{text, Lead, size, width, argument, kindOf, unused, badFloat, Got, bad, got, getFrom, getHead, stringSize, isContainer}
 use Rattle.cbor.proofs.HeadLaws.{head-fits}
 use Rattle.ari.specs.Table.{message, Slot, ari, rule, fits}
 use Rattle.ari.specs.declared.Limits.{Limits}
@@ -95,7 +95,7 @@ taken-fits left d s prev b {k} {str} j = go (getHead b) refl j
 head-number : (b : List ℕ) {r : ℕ} → getHead b ≡ bad r → (1 < r) × (r < 5)
 unfolding getHead getFrom
 head-number [] {r} e = let z : 2 ≡ r = cc in (omega arith, omega arith)
-head-number (x ∷ b) {r} e = go (ltb (length b) (width (x % 32))) (unused (x / 32) (x % 32)) (notShortest (x % 32) (kindOf (x / 32) (x % 32)) (argument (x % 32) b)) _ e
+head-number (x ∷ b) {r} e = go (ltb (length b) (width (x % 32))) (unused (x / 32) (x % 32)) (badFloat (kindOf (x / 32) (x % 32)) (argument (x % 32) b)) _ e
   where
     go : (t u v : Bool) (l : Lead) → cond t (bad 2) (cond u (bad 3) (cond v (bad 4) (got l))) ≡ bad r → (1 < r) × (r < 5)
     go true u v l e = let z : 2 ≡ r = cc in (omega arith, omega arith)

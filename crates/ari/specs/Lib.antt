@@ -7,6 +7,7 @@ pub mod Rules
 pub mod Limits
 pub mod Listing
 pub mod Targets
+pub mod Shortened
 pub mod References
 pub mod Due
 pub mod Signed

@@ -11,13 +11,8 @@ use lib.Dec.{ltb, leb, eqb}
 use lib.Arith.{digits-div, digits-mod}
 use borrow.Author.Tests.{ltb-true, ltb-false, leb-true, leb-false, eqb-true, eqb-false, lt-ltb, le-ltb, le-leb, lt-leb, eq-eqb, ne-eqb}
 use Rattle.buffer.specs.Bytes.{be, value, all, isByte}
-use Rattle.cbor.specs.Head.{simple, Lead, width, shortest, majorOf, kindOf, argument, leadBytes, size, shortBytes, leadOf, headBytes, keyBytes, badFloat, unused, notShortest, Got, bad, got, getFrom, getHead, keyBy, keyOf, Sound, counted, a-simple, a-float}
+use Rattle.cbor.specs.Head.{simple, Lead, width, shortest, majorOf, kindOf, argument, leadBytes, size, shortBytes, leadOf, headBytes, keyBytes, badFloat, unused, Got, bad, got, getFrom, getHead, keyBy, keyOf, Sound, counted, a-simple, a-float, Carries, itself, after}
 use Rattle.buffer.proofs.ByteLaws.{and-true, or-false, not-false, past, length-be, value-be, value-part-lt, value-part-be}
-
--- an info that carries an argument
-pub data Carries (i a : ℕ) : Type 0 where
-  itself : i < 24 → a ≡ i → Carries i a
-  after : 24 ≤ i → i ≤ 27 → a < 256 ^ width i → Carries i a
 
 pub carries-lt : {i a : ℕ} → Carries i a → i < 28
 carries-lt (itself h e) = omega arith
@@ -67,13 +62,52 @@ shortest-carries a h = go (ltb a 24) refl
     go true e = itself (ltb-true a 24 e) refl
     go false e = go2 (ltb a 256) refl
 
+shortest-small : (i : ℕ) → i < 24 → shortest i ≡ i
+unfolding shortest
+shortest-small i h = rw (lt-ltb i 24 h)
+
+-- no info carries an argument in fewer bytes than the shortest
+width-if : (t : Bool) (i j w : ℕ) → (t ≡ true → width i ≤ w) → (t ≡ false → width j ≤ w) → width (cond t i j) ≤ w
+width-if true i j w f g = f refl
+width-if false i j w f g = g refl
+
+module _ (a w : ℕ) where
+  within-1 : 1 ≤ w → a < 256 → width (shortest a) ≤ w
+  unfolding shortest width
+  within-1 h l =
+      width-if (ltb a 24) a _ w (λ e. rw (width-small a (ltb-true a 24 e)) (omega arith)) (λ e. rw (lt-ltb a 256 l) h)
+
+  within-2 : 2 ≤ w → a < 65536 → width (shortest a) ≤ w
+  unfolding shortest width
+  within-2 h l =
+      width-if (ltb a 24) a _ w (λ e. rw (width-small a (ltb-true a 24 e)) (omega arith))
+      (λ e. width-if (ltb a 256) 24 _ w (λ f. omega arith) (λ f. rw (lt-ltb a 65536 l) h))
+
+  within-4 : 4 ≤ w → a < 4294967296 → width (shortest a) ≤ w
+  unfolding shortest width
+  within-4 h l =
+      width-if (ltb a 24) a _ w (λ e. rw (width-small a (ltb-true a 24 e)) (omega arith))
+      (λ e. width-if (ltb a 256) 24 _ w (λ f. omega arith) (λ f. width-if (ltb a 65536) 25 _ w (λ g. omega arith) (λ g. rw (lt-ltb a 4294967296 l) h)))
+
+pub shortest-least : {i a : ℕ} → Carries i a → width (shortest a) ≤ width i
+unfolding width
+shortest-least {i} {a} (itself h e) = rw (e, shortest-small i h) (omega arith)
+shortest-least {i} {a} (after h g l) = go (eqb i 24) refl (eqb i 25) refl (eqb i 26) refl
+  where
+    go : (t : Bool) → eqb i 24 ≡ t → (u : Bool) → eqb i 25 ≡ u → (v : Bool) → eqb i 26 ≡ v → width (shortest a) ≤ width i
+    go true e u f v k = let q = eqb-true i 24 e in rw q (within-1 a 1 (omega arith) (rw q at l))
+    go false e true f v k = let q = eqb-true i 25 f in rw q (within-2 a 2 (omega arith) (rw q at l))
+    go false e false f true k = let q = eqb-true i 26 k in rw q (within-4 a 4 (omega arith) (rw q at l))
+    go false e false f false k =
+        let q : i ≡ 27 = omega (arith, eqb-false i 24 e, eqb-false i 25 f, eqb-false i 26 k) in rw q (width-le (shortest a))
+
 pub length-lead : (l : Lead) → length (leadBytes l) ≡ size l
 unfolding leadBytes
 length-lead l = ap suc (length-be (width (l .info)) (l .arg))
 
 -- What is written is read.
 pub sound-carries : {l : Lead} → Sound l → Carries (l .info) (l .arg)
-sound-carries {l} (counted h g e) = rw e (shortest-carries (l .arg) g)
+sound-carries {l} (counted h c) = c
 sound-carries {l} (a-simple e g h i) = itself (omega arith) (sym i)
 sound-carries {l} (a-float h g i a b) = after (omega arith) (omega arith) a
 
@@ -82,7 +116,7 @@ sound-64 s = carries-64 (sound-carries s)
 
 kind-back : {l : Lead} → Sound l → kindOf (majorOf (l .kind)) (l .info) ≡ l .kind
 unfolding kindOf majorOf
-kind-back {l} (counted h g e) = rw (le-leb (l .kind) 5 h) (rw (le-leb (l .kind) 5 h))
+kind-back {l} (counted h c) = rw (le-leb (l .kind) 5 h) (rw (le-leb (l .kind) 5 h))
 kind-back {l} (a-simple e g h i) = rw (lt-leb (l .kind) 5 (omega arith), lt-ltb (l .info) 24 (omega arith)) (sym e)
 kind-back {l} (a-float h g i a b) = rw (lt-leb (l .kind) 5 (omega arith), le-ltb (l .info) 24 (omega arith)) (omega arith)
 
@@ -91,7 +125,7 @@ unfolding unused majorOf
 used-back {l} s = go s (lt-leb 28 (l .info) (carries-lt (sound-carries s)))
   where
     go : Sound l → leb 28 (l .info) ≡ false → unused (majorOf (l .kind)) (l .info) ≡ false
-    go (counted h g e) c =
+    go (counted h d) c =
         rw (le-leb (l .kind) 5 h, c, ne-eqb (l .kind) 6 (λ e. omega arith), lt-leb 8 (l .kind) (omega arith), ne-eqb (l .kind) 7 (λ e. omega arith))
     go (a-simple e g h i) c = rw (lt-leb (l .kind) 5 (omega arith), c, le-ltb (l .info) 20 (omega arith), ne-eqb (l .info) 24 (λ e. omega arith))
     go (a-float h g i a b) c = rw (lt-leb (l .kind) 5 (omega arith), c, le-ltb (l .info) 20 (omega arith), ne-eqb (l .info) 24 (λ e. omega arith))
@@ -100,11 +134,10 @@ no-float : (k a : ℕ) → k ≤ 6 → badFloat k a ≡ false
 unfolding badFloat
 no-float k a h = rw (ne-eqb k 7 (λ e. omega arith), ne-eqb k 8 (λ e. omega arith), ne-eqb k 9 (λ e. omega arith))
 
-shortest-back : {l : Lead} → Sound l → notShortest (l .info) (l .kind) (l .arg) ≡ false
-unfolding notShortest
-shortest-back {l} (counted h g e) = rw (le-leb (l .kind) 5 h, eq-eqb (shortest (l .arg)) (l .info) (sym e), no-float (l .kind) (l .arg) (omega arith))
-shortest-back {l} (a-simple e g h i) = rw (lt-leb (l .kind) 5 (omega arith), no-float (l .kind) (l .arg) (omega arith))
-shortest-back {l} (a-float h g i a b) = rw (lt-leb (l .kind) 5 (omega arith), b)
+float-back : {l : Lead} → Sound l → badFloat (l .kind) (l .arg) ≡ false
+float-back {l} (counted h c) = no-float (l .kind) (l .arg) (omega arith)
+float-back {l} (a-simple e g h i) = no-float (l .kind) (l .arg) (omega arith)
+float-back {l} (a-float h g i a b) = b
 
 pub getHead-back : {l : Lead} (r : List ℕ) → Sound l → getHead (leadBytes l ++ r) ≡ got l
 unfolding getHead leadBytes getFrom
@@ -119,14 +152,14 @@ getHead-back {l} r s =
       used-back s,
       kind-back s,
       argument-be r c,
-      shortest-back s,
+      float-back s,
     )
 
 -- What is read was written.
 pub record Found (m i : ℕ) (bs : List ℕ) (l : Lead) : Type 0 where
   pub there : width i ≤ length bs
   pub used : unused m i ≡ false
-  pub short : notShortest i (kindOf m i) (argument i bs) ≡ false
+  pub floats : badFloat (kindOf m i) (argument i bs) ≡ false
   pub info-is : l .info ≡ i
   pub kind-is : l .kind ≡ kindOf m i
   pub arg-is : l .arg ≡ argument i bs
@@ -142,12 +175,12 @@ unfolding getFrom
 found m i bs e =
     let (t2, e2) = past (ltb (length bs) (width i)) _ _ not-got e in
     let (t3, e3) = past (unused m i) _ _ not-got e2 in
-    let (t4, e4) = past (notShortest i (kindOf m i) (argument i bs)) _ _ not-got e3 in
+    let (t4, e4) = past (badFloat (kindOf m i) (argument i bs)) _ _ not-got e3 in
     let q = got-same e4 in
     record {
       there = ltb-false (length bs) (width i) t2;
       used = t3;
-      short = t4;
+      floats = t4;
       info-is = ap (λ (l : Lead). l .info) q;
       kind-is = ap (λ (l : Lead). l .kind) q;
       arg-is = ap (λ (l : Lead). l .arg) q;
@@ -209,16 +242,11 @@ major-kind {m} {i} (floats e l h) = rw (lt-leb m 5 (omega arith), le-ltb i 24 (o
 abbrev leadBy : ℕ → ℕ → List ℕ → Lead
 leadBy m i bs = record { info = i; kind = kindOf m i; arg = argument i bs }
 
-short-parts : (i k a : ℕ) → notShortest i k a ≡ false → ((leb k 5 && not (eqb (shortest a) i)) ≡ false) × (badFloat k a ≡ false)
-unfolding notShortest
-short-parts i k a n = or-false (leb k 5 && not (eqb (shortest a) i)) (badFloat k a) n
-
-found-sound : {m i : ℕ} (bs : List ℕ) → Carries i (argument i bs) → Used m i → notShortest i (kindOf m i) (argument i bs) ≡ false → Sound (leadBy m i bs)
+found-sound : {m i : ℕ} (bs : List ℕ) → Carries i (argument i bs) → Used m i → badFloat (kindOf m i) (argument i bs) ≡ false → Sound (leadBy m i bs)
 unfolding kindOf argument
 found-sound {m} {i} bs c (counts p q) n =
     let k : kindOf m i ≡ m = rw (le-leb m 5 p) in
-    let t : not (eqb (shortest (argument i bs)) i) ≡ false = rw (k, le-leb m 5 p) at (short-parts i (kindOf m i) (argument i bs) n .0) in
-    counted (rw k p) (carries-64 c) (sym (eqb-true (shortest (argument i bs)) i (not-false _ t)))
+    counted (rw k p) c
 found-sound {m} {i} bs c (simples e p q) n =
     let k : kindOf m i ≡ 6 = rw (lt-leb m 5 (omega arith), lt-ltb i 24 (omega arith)) in
     let a : argument i bs ≡ i = rw (lt-ltb i 24 (omega arith)) in
@@ -226,7 +254,7 @@ found-sound {m} {i} bs c (simples e p q) n =
 found-sound {m} {i} bs (itself l d) (floats e p q) n = absurd (omega arith)
 found-sound {m} {i} bs (after l d x) (floats e p q) n =
     let k : kindOf m i ≡ i - 18 = rw (lt-leb m 5 (omega arith), le-ltb i 24 (omega arith)) in
-    a-float (omega arith) (omega arith) (omega arith) x (short-parts i (kindOf m i) (argument i bs) n .1)
+    a-float (omega arith) (omega arith) (omega arith) x n
 
 pub getHead-forth : (b : List ℕ) {l : Lead} → all isByte b ≡ true → getHead b ≡ got l → Sound l × (b ≡ leadBytes l ++ drop (size l) b)
 unfolding getHead leadBytes
@@ -238,27 +266,13 @@ getHead-forth (x ∷ bs) {l} e g =
     let u : Used m i = used-cases m i (f .used) in
     let (c, p) = argument-carries i bs (used-lt u) (and-true (isByte x) (all isByte bs) e .1) (f .there) in
     let q : l ≡ leadBy m i bs = λ j. record { info = f .info-is j; kind = f .kind-is j; arg = f .arg-is j } in
-    rw q (found-sound bs c u (f .short), rw (major-kind u, p, div-add-mod' x 32, take-append-drop (width i) bs))
+    rw q (found-sound bs c u (f .floats), rw (major-kind u, p, div-add-mod' x 32, take-append-drop (width i) bs))
 
--- Numbers, lengths and so keys stand in their shortest bytes.
-pub lead-short : {l : Lead} → Sound l → l .kind ≤ 5 → leadBytes l ≡ shortBytes (l .kind) (l .arg)
-unfolding leadBytes shortBytes
-lead-short {l} (counted h g e) k = rw e
-lead-short {l} (a-simple e g h i) k = absurd (omega arith)
-lead-short {l} (a-float h g i a b) k = absurd (omega arith)
-
--- The bytes of a key are those by which it is ordered.
-pub key-own : (b : List ℕ) → all isByte b ≡ true → keyOf b ≡ b
-unfolding keyOf
-key-own b e = go (getHead b) refl
-  where
-    counts : {l : Lead} → getHead b ≡ got l → (t : Bool) → leb (l .kind) 5 ≡ t → cond t (keyBytes l (drop (size l) b)) b ≡ b
-    counts {l} q true k = let (s, f) = getHead-forth b e q in rw (← lead-short s (leb-true (l .kind) 5 k)) (sym f)
-    counts {l} q false k = refl
-
-    go : (g : Got) → getHead b ≡ g → keyBy g b ≡ b
-    go (bad r) q = refl
-    go (got l) q = counts q (leb (l .kind) 5) refl
+-- The shortest form of a head: of a number or a length the shortest head with its argument; a simple value and a float have one form each.
+pub shorter : {l : Lead} → Sound l → l .kind ≤ 5 → width (shortest (l .arg)) ≤ width (l .info)
+shorter {l} (counted h c) k = shortest-least c
+shorter {l} (a-simple e g h i) k = absurd (omega arith)
+shorter {l} (a-float h g i a b) k = absurd (omega arith)
 
 -- A number, a length or a simple value has a head in its shortest form.
 pub head-bytes : {k a : ℕ} → k ≤ simple → (k ≡ simple → a < 24) → headBytes k a ≡ leadBytes (leadOf k a)

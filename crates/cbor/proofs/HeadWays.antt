@@ -12,81 +12,31 @@ use borrow.Author.Tests.{lt-ltb, le-ltb, le-leb, lt-leb, eq-eqb, ne-eqb, ltb-tru
 use Rattle.cbor.specs.declared.Head.{Head}
 use Rattle.cbor.specs.declared.Head.the-variants.{Bad, Good}
 use Rattle.buffer.specs.Bytes.{value, loadAt}
-use Rattle.cbor.specs.Head.{map, simple, double, Lead, width, shortest, kindOf, argument, size, badFloat, unused, notShortest, Got, bad, got, getFrom, getHead}
-use Rattle.cbor.specs.Answer.{answer, headAt, judged, counted, Passed}
+use Rattle.cbor.specs.Head.{map, simple, double, Lead, width, kindOf, argument, size, badFloat, unused, Got, bad, got, getFrom, getHead}
+use Rattle.cbor.specs.Answer.{answer, headAt, judged, Passed}
 use Rattle.buffer.proofs.Numbers.{one-byte, load-there}
 
--- An info with an argument of w bytes, of which l is the least that needs so many.
-pub record Sized (i w l : ℕ) : Type 0 where
+-- An info with an argument of w bytes.
+pub record Sized (i w : ℕ) : Type 0 where
   pub long : 24 ≤ i
   pub used : i < 28
   pub width-is : width i ≡ w
-  pub shorter : (a : ℕ) → a < l → shortest a < i
-  pub least : (a : ℕ) → l ≤ a → a < 256 ^ w → shortest a ≡ i
 
-cond-lt : (t : Bool) {x y n : ℕ} → (t ≡ true → x < n) → (t ≡ false → y < n) → cond t x y < n
-cond-lt true f g = f refl
-cond-lt false f g = g refl
+pub sized-1 : Sized 24 1
+unfolding width
+sized-1 = record { long = omega arith; used = omega arith; width-is = refl }
 
-pub sized-1 : Sized 24 1 24
-unfolding width shortest
-sized-1 =
-    record {
-      long = omega arith;
-      used = omega arith;
-      width-is = refl;
-      shorter = λ a h. rw (lt-ltb a 24 h) h;
-      least = λ a h k. rw (le-ltb a 24 h, lt-ltb a 256 k);
-    }
+pub sized-2 : Sized 25 2
+unfolding width
+sized-2 = record { long = omega arith; used = omega arith; width-is = refl }
 
-pub sized-2 : Sized 25 2 256
-unfolding width shortest
-sized-2 =
-    record {
-      long = omega arith;
-      used = omega arith;
-      width-is = refl;
-      shorter = λ a h. cond-lt (ltb a 24) (λ e. omega (arith, ltb-true a 24 e)) (λ e. rw (lt-ltb a 256 h) (omega arith));
-      least = λ a h k. rw (le-ltb a 24 (omega arith), le-ltb a 256 h, lt-ltb a 65536 k);
-    }
+pub sized-4 : Sized 26 4
+unfolding width
+sized-4 = record { long = omega arith; used = omega arith; width-is = refl }
 
-pub sized-4 : Sized 26 4 65536
-unfolding width shortest
-sized-4 =
-    record {
-      long = omega arith;
-      used = omega arith;
-      width-is = refl;
-      shorter =
-          λ a h.
-          cond-lt (ltb a 24) (λ e. omega (arith, ltb-true a 24 e))
-          (λ e. cond-lt (ltb a 256) (λ f. omega arith) (λ f. rw (lt-ltb a 65536 h) (omega arith)));
-      least = λ a h k. rw (le-ltb a 24 (omega arith), le-ltb a 256 (omega arith), le-ltb a 65536 h, lt-ltb a 4294967296 k);
-    }
-
-pub sized-8 : Sized 27 8 4294967296
-unfolding width shortest
-sized-8 =
-    record {
-      long = omega arith;
-      used = omega arith;
-      width-is = refl;
-      shorter =
-          λ a h.
-          cond-lt (ltb a 24) (λ e. omega (arith, ltb-true a 24 e))
-          (λ e. cond-lt (ltb a 256) (λ f. omega arith) (λ f. cond-lt (ltb a 65536) (λ g. omega arith) (λ g. rw (lt-ltb a 4294967296 h) (omega arith))));
-      least = λ a h k. rw (le-ltb a 24 (omega arith), le-ltb a 256 (omega arith), le-ltb a 65536 (omega arith), le-ltb a 4294967296 h);
-    }
-
--- Numbers and lengths.
-module _ (m a l n : ℕ) where
-  pub too-long : a < l → Bad 4 ≡ counted m a l n
-  unfolding counted
-  too-long h = simp (lt-ltb _ _ h)
-
-  pub well : l ≤ a → Good m a n ≡ counted m a l n
-  unfolding counted
-  well h = simp (le-ltb _ _ h)
+pub sized-8 : Sized 27 8
+unfolding width
+sized-8 = record { long = omega arith; used = omega arith; width-is = refl }
 
 no-float : (k a : ℕ) → k < 7 → badFloat k a ≡ false
 unfolding badFloat
@@ -101,22 +51,9 @@ module _ {m : ℕ} (c : m < 6) where
   unfolding unused
   counts-used i h = rw (lt-leb 28 i h, ne-eqb m 6 (λ e. omega arith), lt-leb 8 m (omega arith), ne-eqb m 7 (λ e. omega arith))
 
-  counts-shortest : (i a : ℕ) → notShortest i m a ≡ not (eqb (shortest a) i)
-  unfolding notShortest
-  counts-shortest i a = rw (le-leb m 5 (omega arith), no-float m a (omega arith)) (go (not (eqb (shortest a) i)))
-    where
-      go : (t : Bool) → t || false ≡ t
-      go true = refl
-      go false = refl
-
-  counted-judged : {i w l : ℕ} (a n : ℕ) → Sized i w l → a < 256 ^ w → counted m a l n ≡ judged m i a n
-  unfolding counted judged
-  counted-judged {i} {w} {l} a n z h =
-      rw (kind-counts i, counts-used i (z .used), counts-shortest i a) (go (ltb a l) refl)
-    where
-      go : (t : Bool) → ltb a l ≡ t → cond t (Bad 4) (Good m a n) ≡ cond (not (eqb (shortest a) i)) (Bad 4) (Good m a n)
-      go true e = rw (ne-eqb (shortest a) i (λ q. omega (arith, z .shorter a (ltb-true a l e))))
-      go false e = rw (eq-eqb (shortest a) i (z .least a (ltb-false a l e) h))
+  counts-judged : (i a n : ℕ) → i < 28 → Good m a n ≡ judged m i a n
+  unfolding judged
+  counts-judged i a n h = rw (kind-counts i, counts-used i h, no-float m a (omega arith))
 
 -- Major types 6 and 7 with an argument.
 module _ (m i a n : ℕ) (p : 25 ≤ i) (q : i < 28) where
@@ -126,10 +63,10 @@ module _ (m i a n : ℕ) (p : 25 ≤ i) (q : i < 28) where
 
   module _ (o : m ≡ 6 → ⊥) (h : 6 ≤ m) (k : m < 8) {t : Bool} (f : t ≡ badFloat (i - 18) a) where
     judged-float : judged m i a n ≡ cond t (Bad 4) (Good (i - 18) a n)
-    unfolding judged unused kindOf notShortest
+    unfolding judged unused kindOf
     judged-float =
         let e : m ≡ 7 = omega arith in
-        rw (e, lt-leb 28 i q, le-ltb i 20 (omega arith), ne-eqb i 24 (λ e. omega arith), le-ltb i 24 (omega arith), lt-leb (i - 18) 5 (omega arith), f)
+        rw (e, lt-leb 28 i q, le-ltb i 20 (omega arith), ne-eqb i 24 (λ e. omega arith), le-ltb i 24 (omega arith), f)
 
     pub bad-float : t ≡ true → Bad 4 ≡ judged m i a n
     bad-float e = rw (judged-float, e)
@@ -158,7 +95,7 @@ module _ (s : List ℕ) (at m j : ℕ) (b : at < length s) where
   behind : length (drop (at + 1) s) ≡ length s - (at + 1)
   behind = length-drop (at + 1) s
 
-  module _ {i w l : ℕ} (e : j ≡ i) (z : Sized i w l) where
+  module _ {i w : ℕ} (e : j ≡ i) (z : Sized i w) where
     pub cut : length s - at < suc w → Bad 2 ≡ answer at (getFrom m j (drop (at + 1) s))
     unfolding getFrom
     cut h = rw (e, z .width-is, lt-ltb (length (drop (at + 1) s)) w (rw behind (omega arith)))
@@ -169,10 +106,6 @@ module _ (s : List ℕ) (at m j : ℕ) (b : at < length s) where
       long-judged {a} {r} v q =
           q ∙ rw (e, z .width-is, le-ltb (length (drop (at + 1) s)) w (rw behind (omega arith)), le-ltb i 24 (z .long), ← v, answer-judged, z .width-is)
 
-      long-counted : {a : ℕ} {r : Head} → m < 6 → a ≡ value (take w (drop (at + 1) s)) → a < 256 ^ w → r ≡ counted m a l (at + suc w)
-          → r ≡ answer at (getFrom m j (drop (at + 1) s))
-      long-counted {a} {r} c v g q = long-judged v (q ∙ counted-judged c a (at + suc w) z g)
-
       -- of an argument that was loaded
       loaded : {a : ℕ} → a ≡ loadAt w s (at + 1) → a ≡ value (take w (drop (at + 1) s))
       loaded e = e ∙ load-there w s (at + 1) (omega arith)
@@ -180,13 +113,12 @@ module _ (s : List ℕ) (at m j : ℕ) (b : at < length s) where
       pub loaded-judged : {a : ℕ} {r : Head} → a ≡ loadAt w s (at + 1) → r ≡ judged m i a (at + suc w) → r ≡ answer at (getFrom m j (drop (at + 1) s))
       loaded-judged v q = long-judged (loaded v) q
 
-      pub loaded-counted : {a : ℕ} {r : Head} → m ≤ map → a ≡ loadAt w s (at + 1) → a < 256 ^ w → r ≡ counted m a l (at + suc w)
-          → r ≡ answer at (getFrom m j (drop (at + 1) s))
-      loaded-counted c v g q = long-counted (omega arith) (loaded v) g q
+      pub loaded-counted : {a n : ℕ} → m ≤ map → a ≡ loadAt w s (at + 1) → n ≡ at + suc w → Good m a n ≡ answer at (getFrom m j (drop (at + 1) s))
+      loaded-counted {a} c v e = long-judged (loaded v) (rw e (counts-judged (omega arith) i a (at + suc w) (z .used)))
 
-  pub byte-counted : {a : ℕ} {r : Head} → j ≡ 24 → 2 ≤ length s - at → m ≤ map → a ≡ getD s (at + 1) 0 → a < 256 → r ≡ counted m a 24 (at + 2)
-      → r ≡ answer at (getFrom m j (drop (at + 1) s))
-  byte-counted e h c v g q = long-counted e sized-1 h (omega arith) (v ∙ one-byte s (at + 1) (omega arith)) g q
+  pub byte-counted : {a : ℕ} → j ≡ 24 → 2 ≤ length s - at → m ≤ map → a ≡ getD s (at + 1) 0 → Good m a (at + 2) ≡ answer at (getFrom m j (drop (at + 1) s))
+  byte-counted {a} e h c v =
+      long-judged e sized-1 h (v ∙ one-byte s (at + 1) (omega arith)) (counts-judged (omega arith) 24 a (at + 2) (omega arith))
 
   pub one-byte-more : j ≡ 24 → 2 ≤ length s - at → map < m → m < 8 → Bad 3 ≡ answer at (getFrom m j (drop (at + 1) s))
   unfolding judged
@@ -221,10 +153,7 @@ module _ (s : List ℕ) (at : ℕ) where
 
 module _ (b n : ℕ) (h : b % 32 < 24) where
   pub small-count : b < 192 → Good (b / 32) (b % 32) n ≡ judged (b / 32) (b % 32) (b % 32) n
-  unfolding judged shortest
-  small-count k =
-      let c : b / 32 < 6 = omega arith in
-      rw (kind-counts c (b % 32), counts-used c (b % 32) (omega arith), counts-shortest c (b % 32) (b % 32), lt-ltb (b % 32) 24 h, eq-eqb (b % 32) (b % 32) refl)
+  small-count k = let c : b / 32 < 6 = omega arith in counts-judged c (b % 32) (b % 32) n (omega arith)
 
   pub small-unused : 192 ≤ b → b < 244 → Bad 3 ≡ judged (b / 32) (b % 32) (b % 32) n
   unfolding judged unused
@@ -238,7 +167,7 @@ module _ (b n : ℕ) (h : b % 32 < 24) where
           rw (m, lt-leb 28 (b % 32) (omega arith), lt-ltb (b % 32) 20 (omega arith))
 
   pub small-simple : 244 ≤ b → b < 256 → Good 6 (b % 32) n ≡ judged (b / 32) (b % 32) (b % 32) n
-  unfolding judged unused kindOf notShortest
+  unfolding judged unused kindOf
   small-simple k l =
       let m : b / 32 ≡ 7 = omega arith in
       rw (m, lt-leb 28 (b % 32) (omega arith), le-ltb (b % 32) 20 (omega arith), ne-eqb (b % 32) 24 (λ q. omega arith), lt-ltb (b % 32) 24 h, no-float 6 (b % 32) (omega arith))
@@ -271,7 +200,7 @@ found [] l e = absurd (let z : _≡_ {A = ℕ} 0 1 = cc in omega arith)
 found (x ∷ bs) l e =
     let (t2, e2) = skip (ltb (length bs) (width (x % 32))) _ _ e in
     let (t3, e3) = skip (unused (x / 32) (x % 32)) _ _ e2 in
-    let (t4, e4) = skip (notShortest (x % 32) (kindOf (x / 32) (x % 32)) (argument (x % 32) bs)) _ _ e3 in
+    let (t4, e4) = skip (badFloat (kindOf (x / 32) (x % 32)) (argument (x % 32) bs)) _ _ e3 in
     let w : width (l .info) ≡ width (x % 32) = cc in
     let k : l .kind ≡ kindOf (x / 32) (x % 32) = cc in
     (omega (arith, ltb-false (length bs) (width (x % 32)) t2), rw k (kind-le (x / 32) (x % 32) (used-info (x / 32) (x % 32) t3)))
@@ -332,4 +261,4 @@ module _ (b : List ℕ) (at : ℕ) {r : Head} {k a n : ℕ} (p : Passed b at r) 
 
 pub ruleset bounds = (advances, reaches, stays-inside, kind-known)
 
-pub ruleset heads = (sized-1, sized-2, sized-4, sized-8, too-long, well, tag, bad-float, good-float, cut, loaded-judged, loaded-counted, byte-counted, one-byte-more, not-in-use, at-end, by-long, by-small, small-count, small-unused, small-simple, passed)
+pub ruleset heads = (sized-1, sized-2, sized-4, sized-8, tag, bad-float, good-float, cut, loaded-judged, loaded-counted, byte-counted, one-byte-more, not-in-use, at-end, by-long, by-small, small-count, small-unused, small-simple, passed)

@@ -1,5 +1,4 @@
--- What the functions answer: the definitions at a place of the input, and their parts. Interface: headAt, Passed. Private to src/: answer, judged, counted,
--- follows, Tail, Sequence.
+-- What the functions answer: the definitions at a place of the input, and their parts. Interface: headAt, Passed. Private to src/: answer, judged, follows, Tail, Sequence.
 use Prim.Native.Nat.{ℕ, _+_, _-_, _<_, _≤_}
 use mathlib.Core.Bool.{Bool, _&&_, _||_, cond}
 use mathlib.Core.Path.{_≡_}
@@ -10,7 +9,7 @@ use Rattle.cbor.specs.declared.Head.{Head}
 use Rattle.cbor.specs.declared.Head.the-variants.{Bad, Good}
 use Rattle.buffer.specs.Bytes.{within}
 use Rattle.cbor.specs.Utf8.{utf8From, utf8}
-use Rattle.cbor.specs.Head.{double, kindOf, Lead, size, unused, notShortest, Got, bad, got, getHead}
+use Rattle.cbor.specs.Head.{double, kindOf, Lead, size, unused, badFloat, Got, bad, got, getHead}
 
 -- a head that starts at `at`
 abbrev pub answer : ℕ → Got → Head
@@ -22,11 +21,7 @@ headAt b at = answer at (getHead (drop at b))
 
 -- the tests 3 and 4, of the major type m and info i with the argument a, where n is the place behind
 unfoldable pub judged : ℕ → ℕ → ℕ → ℕ → Head
-judged m i a n = cond (unused m i) (Bad 3) (cond (notShortest i (kindOf m i) a) (Bad 4) (Good (kindOf m i) a n))
-
--- the same of a number or length, where l is the least argument of its size
-unfoldable pub counted : ℕ → ℕ → ℕ → ℕ → Head
-counted m a l n = cond (ltb a l) (Bad 4) (Good m a n)
+judged m i a n = cond (unused m i) (Bad 3) (cond (badFloat (kindOf m i) a) (Bad 4) (Good (kindOf m i) a n))
 
 -- what a head that was read has shown
 abbrev pub Passed : List ℕ → ℕ → Head → Type 0

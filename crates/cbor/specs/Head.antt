@@ -40,7 +40,7 @@ abbrev pub double : ℕ
 double = 9
 
 -- A head: its kind, its argument (a number, a length, a simple value, a float's bits) and its info, the low five bits of its first byte,
--- which say how many bytes the argument was given. Shortest heads alone are accepted now; a longer one would keep its own info.
+-- which say how many bytes the argument was given: a head that is longer than it had to be keeps its own.
 pub record Lead : Type 0 where
   pub info : ℕ
   pub kind : ℕ
@@ -50,7 +50,12 @@ pub record Lead : Type 0 where
 unfoldable pub width : ℕ → ℕ
 width i = cond (eqb i 24) 1 (cond (eqb i 25) 2 (cond (eqb i 26) 4 (cond (eqb i 27) 8 0)))
 
--- R13: the info of the shortest head
+-- R13: an info carries an argument: itself below 24, or in the bytes behind it, as many as there had to be or more
+pub data Carries (i a : ℕ) : Type 0 where
+  itself : i < 24 → a ≡ i → Carries i a
+  after : 24 ≤ i → i ≤ 27 → a < 256 ^ width i → Carries i a
+
+-- the info of the shortest head
 unfoldable pub shortest : ℕ → ℕ
 shortest a = cond (ltb a 24) a (cond (ltb a 256) 24 (cond (ltb a 65536) 25 (cond (ltb a 4294967296) 26 27)))
 
@@ -119,20 +124,16 @@ badFloat k a =
 unfoldable pub unused : ℕ → ℕ → Bool
 unused m i = leb 28 i || (eqb m 6 || (leb 8 m || (eqb m 7 && (ltb i 20 || eqb i 24))))
 
--- test 4: R54
-unfoldable pub notShortest : ℕ → ℕ → ℕ → Bool
-notShortest i k a = (leb k map && not (eqb (shortest a) i)) || badFloat k a
-
 pub data Got : Type 0 where
   bad : ℕ → Got
   got : Lead → Got
 
--- the tests 2, 3 and 4, of a first byte with major type m and info i before bs
+-- the tests 2, 3 and 4, of a first byte with major type m and info i before bs; 4 is for floats alone (R54)
 unfoldable pub getFrom : ℕ → ℕ → List ℕ → Got
 getFrom m i bs =
     cond (ltb (length bs) (width i)) (bad 2)
     (cond (unused m i) (bad 3)
-    (cond (notShortest i (kindOf m i) (argument i bs)) (bad 4)
+    (cond (badFloat (kindOf m i) (argument i bs)) (bad 4)
     (got (record { info = i; kind = kindOf m i; arg = argument i bs }))))
 
 -- test 2: R52
@@ -140,10 +141,10 @@ unfoldable pub getHead : List ℕ → Got
 getHead [] = bad 2
 getHead (b ∷ bs) = getFrom (b / 32) (b % 32) bs
 
--- the bytes by which a key is ordered, of its own bytes; what starts with no head of a number, a string or a container is ordered as it is
+-- the bytes by which a key is ordered, of its own bytes; what starts with no head of a number, a string or a container comes before all keys
 abbrev pub keyBy : Got → List ℕ → List ℕ
-keyBy (got l) b = cond (leb (l .kind) map) (keyBytes l (drop (size l) b)) b
-keyBy (bad r) b = b
+keyBy (got l) b = cond (leb (l .kind) map) (keyBytes l (drop (size l) b)) []
+keyBy (bad r) b = []
 
 unfoldable pub keyOf : List ℕ → List ℕ
 keyOf b = keyBy (getHead b) b
@@ -151,7 +152,7 @@ keyOf b = keyBy (getHead b) b
 -- the heads that may be written: R9 to R19, with no reading in it
 pub data Sound (l : Lead) : Type 0 where
   -- R10, R13, R14; the range of negative numbers is test 7's
-  counted : l .kind ≤ map → l .arg < 2 ^ 64 → l .info ≡ shortest (l .arg) → Sound l
+  counted : l .kind ≤ map → Carries (l .info) (l .arg) → Sound l
   -- R11
   a-simple : l .kind ≡ simple → 20 ≤ l .arg → l .arg ≤ 23 → l .info ≡ l .arg → Sound l
   -- R12, R16

@@ -2,3 +2,4 @@ pub mod Byte
 pub mod Head
 pub mod Utf8
 pub mod Answer
+pub mod Keys

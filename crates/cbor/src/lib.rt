@@ -7,7 +7,8 @@ ghost use Rattle.buffer.specs.Put.{Put};
 ghost use Rattle.buffer.specs.Runs.{RunTo};
 ghost use Rattle.cbor.specs.Byte.{below};
 ghost use Rattle.cbor.specs.Head.{divides, tooLong, badHalf, badFloat, getFrom, headBytes, keyOf};
-ghost use Rattle.cbor.specs.Answer.{answer, counted, headAt, judged, Passed, follows, Tail, Sequence};
+ghost use Rattle.cbor.specs.Keys.{KeyHead};
+ghost use Rattle.cbor.specs.Answer.{answer, headAt, judged, Passed, follows, Tail, Sequence};
 ghost use Rattle.cbor.specs.Utf8.{utf8, isAscii, AsciiTo};
 
 // The kinds of heads (specs/Head.antt).
@@ -125,20 +126,6 @@ fn float(major: u8, info: u8, arg: u64, next: usize) -> Head
     Head::Good { kind, arg, next }
 }
 
-// A number or length after the first byte: `least` is the least that needs so many bytes.
-fn number(major: u8, arg: u64, least: u64, next: usize) -> Head
-    ensures { λ r. ⌜ r ≡ counted major arg least next ⌝ }
-{
-    if arg < least {
-        return Head::Bad(4);
-    }
-    Head::Good {
-        kind: major,
-        arg,
-        next,
-    }
-}
-
 // A head with an argument after its first byte, or with an info that is not in use.
 fn long(s: &[u8], at: usize, major: u8, info: u64) -> Head
     requires { ⌜ (at < length (now s)) × (major < 8) × (24 ≤ info) ⌝ }
@@ -150,7 +137,11 @@ fn long(s: &[u8], at: usize, major: u8, info: u64) -> Head
             return Head::Bad(2);
         }
         if major <= MAP {
-            return number(major, wide(s[at + 1]), 24, at + 2);
+            return Head::Good {
+                kind: major,
+                arg: wide(s[at + 1]),
+                next: at + 2,
+            };
         }
         return Head::Bad(3);
     }
@@ -159,7 +150,11 @@ fn long(s: &[u8], at: usize, major: u8, info: u64) -> Head
             return Head::Bad(2);
         }
         if major <= MAP {
-            return number(major, buffer::load2(s, at + 1) as u64, 256, at + 3);
+            return Head::Good {
+                kind: major,
+                arg: buffer::load2(s, at + 1) as u64,
+                next: at + 3,
+            };
         }
         return float(major, 25, buffer::load2(s, at + 1) as u64, at + 3);
     }
@@ -168,7 +163,11 @@ fn long(s: &[u8], at: usize, major: u8, info: u64) -> Head
             return Head::Bad(2);
         }
         if major <= MAP {
-            return number(major, buffer::load4(s, at + 1) as u64, 65536, at + 5);
+            return Head::Good {
+                kind: major,
+                arg: buffer::load4(s, at + 1) as u64,
+                next: at + 5,
+            };
         }
         return float(major, 26, buffer::load4(s, at + 1) as u64, at + 5);
     }
@@ -177,7 +176,11 @@ fn long(s: &[u8], at: usize, major: u8, info: u64) -> Head
             return Head::Bad(2);
         }
         if major <= MAP {
-            return number(major, buffer::load8(s, at + 1), 4294967296, at + 9);
+            return Head::Good {
+                kind: major,
+                arg: buffer::load8(s, at + 1),
+                next: at + 9,
+            };
         }
         return float(major, 27, buffer::load8(s, at + 1), at + 9);
     }
@@ -429,11 +432,62 @@ pub fn is_below(a: &[u8], b: &[u8]) -> bool
     i < b.len()
 }
 
-// Whether a map's key comes before another's, each by its head and its string. The heads that are read are shortest ones, so the bytes decide as they are.
+// What orders a key: its kind, its argument, and its string, which stands from a place on. What has no head of a number, a string or a container comes
+// before all keys.
+struct Key {
+    is: bool,
+    kind: u8,
+    arg: u64,
+    next: usize,
+}
+
+const NO_KEY: Key = Key {
+    is: false,
+    kind: 0,
+    arg: 0,
+    next: 0,
+};
+
+fn key_of(s: &[u8]) -> Key
+    ensures { λ r. ⌜ KeyHead (now (s .entry)) r ⌝ }
+{
+    match head_again(s, 0) {
+        Head::Good { kind, arg, next } => {
+            if MAP < kind {
+                return NO_KEY;
+            }
+            Key {
+                is: true,
+                kind,
+                arg,
+                next,
+            }
+        }
+        Head::Bad(_) => NO_KEY,
+    }
+}
+
+// Whether a map's key comes before another's, each by its head and its string: heads in their shortest form are ordered as their kinds and arguments are.
 pub fn is_key_below(a: &[u8], b: &[u8]) -> bool
     ensures { λ r. ⌜ r ≡ below (keyOf (now (a .entry))) (keyOf (now (b .entry))) ⌝ }
 {
-    is_below(a, b)
+    let x = key_of(a);
+    let y = key_of(b);
+    if !y.is {
+        return false;
+    }
+    if !x.is {
+        return true;
+    }
+    if x.kind != y.kind {
+        return x.kind < y.kind;
+    }
+    if x.arg != y.arg {
+        return x.arg < y.arg;
+    }
+    let p = x.next;
+    let q = y.next;
+    is_below(&a[p..], &b[q..])
 }
 
 // The head of a number, a length or a simple value in its shortest form. A float, or a simple value past 23, puts nothing.

@@ -36,7 +36,7 @@ use Rattle.grammar.specs.Code.{slotNumber}
 use Rattle.item_table.specs.Entries.{packed, itemOf, entryOf, referenceBy, noSpot, spotNumber, Tabled}
 
 sound-kind : {l : Lead} → Sound l → l .kind ≤ 9
-sound-kind (counted k a i) = omega arith
+sound-kind (counted k c) = omega arith
 sound-kind (a-simple k a b i) = omega arith
 sound-kind (a-float k a b c d) = a
 

@@ -12,7 +12,7 @@ use mir.Syntax.{w64}
 use mir.Val.{Fits}
 use borrow.Author.Tests.{lt-ltb, le-ltb, ne-eqb, ltb-true, eqb-true, eqb-false}
 use Rattle.buffer.specs.Bytes.{all, isByte}
-use Rattle.cbor.specs.Head.{Lead, leadBytes, shortest, majorOf, width, got, getHead, keyOf, Sound, counted, stringSize, isContainer}
+use Rattle.cbor.specs.Head.{Lead, leadBytes, shortest, majorOf, width, got, getHead, keyOf, Sound, counted, itself, stringSize, isContainer}
 use Rattle.cbor.proofs.HeadLaws.{getHead-back}
 use Rattle.buffer.proofs.ByteLaws.{and-true, not-false, not-true}
 use Rattle.ari.specs.Table.{message, Slot, version, ari, due, rule, members}
@@ -77,11 +77,11 @@ pair = record { info = 2; kind = 4; arg = 2 }
 
 head-one : (r : List ℕ) → getHead (1 ∷ r) ≡ got one
 unfolding leadBytes shortest majorOf width
-head-one r = getHead-back {l = one} r (counted (omega arith) (omega arith) refl)
+head-one r = getHead-back {l = one} r (counted (omega arith) (itself (omega arith) refl))
 
 head-pair : (r : List ℕ) → getHead (130 ∷ r) ≡ got pair
 unfolding leadBytes shortest majorOf width
-head-pair r = getHead-back {l = pair} r (counted (omega arith) (omega arith) refl)
+head-pair r = getHead-back {l = pair} r (counted (omega arith) (itself (omega arith) refl))
 
 version-judged : (left d : ℕ) (r : List ℕ) → eqb left 0 ≡ false → judgeGot left d version [] (getHead (1 ∷ r)) (1 ∷ r) ≡ reader.yes one []
 unfolding judgeGot judge judgeContent stringSize isContainer rule width

@@ -26,7 +26,7 @@ use Rattle.reader.specs.declared.End.{End}
 use Rattle.reader.specs.declared.End.the-variants.{At, Short}
 use Rattle.buffer.specs.Bytes.{part}
 use Rattle.reader.specs.Steps.{stringEnd, keyAt, stepAnswer, stepAt, contentGot, contentAt, ContentShown, Bounded, noHead}
-use Rattle.reader.proofs.Keys.{ordered-kind, key-bytes, own-key, same-order, no-key, filled-other}
+use Rattle.reader.proofs.Keys.{ordered-kind, key-bytes, same-order, no-key, filled-other}
 
 -- a string's end
 module _ (b : List ℕ) (a q : ℕ) where
@@ -192,7 +192,7 @@ module _ (b : List ℕ) (p : ℕ) (s : Slot) (prev : List ℕ) {k a q : ℕ} (e 
           let st = stands b p k a q e in
           let i : p + (size l + stringSize l) ≡ x = omega (arith, st .next-is, en .end-is) in
           same-order (rule s .extra) prev (keyOf (part b p x)) (keyBytes l str)
-          (λ o. sym (own-key b bs p x) ∙ sym (key-bytes b p l bs (st .is-got) (ordered-kind s (l .kind) (l .arg) o (rw (st .kind-is, st .arg-is) fit)) (en .there) x i))
+          (λ o. sym (key-bytes b p l bs (st .is-got) (ordered-kind s (l .kind) (l .arg) o (rw (st .kind-is, st .arg-is) fit)) (en .there) x i))
 
       pub is-unordered : {u : Bool} → u ≡ notGreater (rule s .extra) prev (keyOf (part b p x)) → u ≡ true → Refused 11 p ≡ contentAt b p s prev
       unfolding judgeContent

@@ -6,7 +6,7 @@ use mathlib.Core.List.{List, [], _∷_, _++_, append-assoc}
 use mathlib.Core.Logic.{_⊎_, inl, inr}
 use native.Mathlib.Omega.{arith}
 use lib.ListN.{length, getD, take, drop, length-append, take-append-drop}
-use lib.Seq.{take-at, length-take-le}
+use lib.Seq.{take-at, drop-at, length-take-le}
 use lib.Dec.{eqb, leb}
 use borrow.Author.Tests.{eq-eqb, ne-eqb, eqb-true, leb-true}
 use Rattle.buffer.specs.Bytes.{all, isByte, within}
@@ -15,7 +15,8 @@ use Rattle.cbor.specs.Utf8.{utf8}
 use Rattle.ari.specs.Name.{identifier, namespaceName}
 use Rattle.cbor.specs.Head.{Lead, size, leadBytes, shortBytes, isContainer, Got, got, getHead, stringSize, keyOf}
 use Rattle.buffer.proofs.ByteLaws.{and-true, or-true, all-take, all-drop}
-use Rattle.cbor.proofs.HeadLaws.{length-lead, lead-short, getHead-forth, key-own}
+use Rattle.cbor.proofs.HeadLaws.{length-lead, getHead-back, getHead-forth}
+use Rattle.cbor.proofs.OrderWays.{key-got}
 use Rattle.ari.specs.Table.{Place, Slot, version, ari, type, value, namespace, objectNamespace, objectType, objectId, params, key, entry, nonce, setTime, target, report, reportTime, reportSource, ExtraTest, none, one, rising, filled, Rule, rule, fits, max64, max63}
 use Rattle.cbor.specs.Head.{keyBytes}
 use Rattle.ari.specs.Reader.{keyAfter, wrongVersion, notGreater, isEmpty}
@@ -111,10 +112,10 @@ ordered-kind report k a o e = absurd (unordered o refl)
 ordered-kind reportTime k a o e = absurd (unordered o refl)
 ordered-kind reportSource k a o e = absurd (unordered o refl)
 
--- the bytes of a key as they stand in the input: a head in shortest form and its string
+-- a key is ordered by its head and its string, as they stand in the input
 pub key-bytes : (b : List ℕ) (p : ℕ) (l : Lead) → all isByte b ≡ true → getHead (drop p b) ≡ got l → l .kind ≤ 5
     → stringSize l ≤ length (drop (size l) (drop p b)) → (q : ℕ) → p + (size l + stringSize l) ≡ q
-    → keyBytes l (take (stringSize l) (drop (size l) (drop p b))) ≡ part b p q
+    → keyBytes l (take (stringSize l) (drop (size l) (drop p b))) ≡ keyOf (part b p q)
 key-bytes b p l bs g k h q e =
     let f = getHead-forth (drop p b) (all-drop isByte p b bs) g in
     let str = take (stringSize l) (drop (size l) (drop p b)) in
@@ -123,11 +124,9 @@ key-bytes b p l bs g k h q e =
     let r = drop (stringSize l) (drop (size l) (drop p b)) in
     let w : drop p b ≡ (leadBytes l ++ str) ++ r
     = f .1 ∙ ap (λ (x : List ℕ). leadBytes l ++ x) (sym (take-append-drop (stringSize l) (drop (size l) (drop p b)))) ∙ sym (append-assoc (leadBytes l) str r) in
-    ap (λ (x : List ℕ). x ++ str) (sym (lead-short (f .0) k)) ∙ sym (ap (take (q - p)) w ∙ take-at (leadBytes l ++ str) r (q - p) m)
-
--- a key is ordered by its own bytes
-pub own-key : (b : List ℕ) → all isByte b ≡ true → (p q : ℕ) → part b p q ≡ keyOf (part b p q)
-own-key b bs p q = sym (key-own (part b p q) (all-take isByte (q - p) (drop p b) (all-drop isByte p b bs)))
+    let s : part b p q ≡ leadBytes l ++ str = ap (take (q - p)) w ∙ take-at (leadBytes l ++ str) r (q - p) m in
+    let o : keyOf (leadBytes l ++ str) ≡ shortBytes (l .kind) (l .arg) ++ drop (size l) (leadBytes l ++ str) = key-got (leadBytes l ++ str) l (getHead-back str (f .0)) k in
+    sym (ap keyOf s ∙ o ∙ ap (λ (x : List ℕ). shortBytes (l .kind) (l .arg) ++ x) (drop-at (leadBytes l) str (size l) (length-lead l)))
 
 -- only a key's bytes matter
 pub same-order : (o : ExtraTest) (prev k k′ : List ℕ) → (o ≡ rising → k ≡ k′) → notGreater o prev k ≡ notGreater o prev k′

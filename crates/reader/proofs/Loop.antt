@@ -31,7 +31,7 @@ use Rattle.buffer.specs.Bytes.{part}
 use Rattle.reader.specs.Steps.{stepAt, stoppedOf, Bounded, keySpan}
 use Rattle.reader.specs.Walks.{insideLevel, Walked, WalkedBy, headWalk}
 use Rattle.reader.proofs.Walking.{Took, took, ended, stopped, broken, onward}
-use Rattle.reader.proofs.Keys.{ordered-kind, key-bytes, own-key}
+use Rattle.reader.proofs.Keys.{ordered-kind, key-bytes}
 
 -- the members' level, by kind and argument
 inside-is : (s : Slot) (l : Lead) → insideLevel s (l .kind) (l .arg) ≡ members s l
@@ -56,7 +56,7 @@ key-part b bs left s prev d p k a q h kk =
     let r = drop (size l) (drop p b) in
     let z : length (h .str) ≡ stringSize l = rw (h .passed .string) (length-take-le (stringSize l) r (h .passed .there)) in
     let i : p + (size l + stringSize l) ≡ q = rw (← z) (h .after-is) in
-    rw (h .passed .string) (key-bytes b p l bs (h .head) kk (h .passed .there) q i) ∙ own-key b bs p q
+    rw (h .passed .string) (key-bytes b p l bs (h .head) kk (h .passed .there) q i)
 
 pub key-span : (b : List ℕ) (o : ExtraTest) (f t p q : ℕ) (kb : List ℕ) → (o ≡ rising → kb ≡ keyOf (part b p q))
     → keyAfter o (keyOf (part b f t)) kb ≡ keyOf (part b (keySpan o f p) (keySpan o t q))

@@ -9,6 +9,7 @@ use Rattle.buffer.specs.Runs.{past}
 use Rattle.buffer.specs.Bytes.{all, isByte}
 use Rattle.cbor.specs.Head.{array, simple, Lead, Sound, isContainer}
 use Rattle.ari.specs.Table.{Place, inner, ari, type, value, namespace, objectNamespace, params, done, due, ariLevel, rule, members}
+use Rattle.ari.specs.Shortened.{shortLead}
 use Rattle.ari.specs.Items.{Items, none, item}
 use Rattle.ari.specs.Decode.{Headed}
 use Rattle.ari.specs.Rules.{Holds, Ari, literal, namespace-ref, typed, object-ref, plain, with-params}
@@ -40,7 +41,7 @@ stop-not c n (x ∷ r) h = ne-eqb x c (λ e. let z : (eqb c 44 || eqb c 41) ≡ 
 
 -- a word is taken
 pub take-word : {f : List ℕ → Headed} {u : List ℕ} {l : Lead} {s : List ℕ} → Word f u l s → (r : List ℕ) → halts r ≡ true
-    → takeWord f (u ++ r) ≡ record { head = record { lead = l; str = s }; rest = r }
+    → takeWord f (u ++ r) ≡ record { head = record { lead = shortLead l; str = s }; rest = r }
 take-word {u = u} w r h = let (p, q) = word-at u r (w .letters) h in rw (p, q, w .back)
 
 -- The texts of references and typed literals, laid out from the left.
@@ -83,7 +84,7 @@ pub record Seen (h : Headed) (inside text : List ℕ) : Type 0 where
   pub key-not : starts 61 (past inWord text) ≡ false
 
 literal-seen : {l : Lead} {s : List ℕ} (r : List ℕ) → Literal (l .kind) (l .arg) s → Sound l → isFloat l ≡ false → all isByte s ≡ true → stops r ≡ true
-    → Seen (record { lead = l; str = s }) r (literalText l s ++ r)
+    → Seen (record { lead = shortLead l; str = s }) r (literalText l s ++ r)
 unfolding takeAri startsLiteral startsNumber
 literal-seen {l} {s} r n h f b z =
     let w = literal-spelled n h f b in
@@ -121,7 +122,7 @@ object-seen {l₁} {s₁} l₂ l₃ {s₂} {s₃} (from k m) n₂ n₃ z h =
     rw k (record { taken = rw (q, all-parts l₂ l₃ n₂ n₃ z h); end-not = refl; key-not = refl })
 
 -- the head of an array
-held-head : {n : ℕ} {l : Lead} {s : List ℕ} → Holds array n l s → headOf array n [] ≡ record { lead = l; str = s }
+held-head : {n : ℕ} {l : Lead} {s : List ℕ} → Holds array n l s → headOf array n [] ≡ record { lead = shortLead l; str = s }
 unfolding isFloat
 held-head {n} {l} {s} h =
     ap (λ (k : ℕ). headOf k n []) (sym (h .kind-is)) ∙ ap (λ (a : ℕ). headOf (l .kind) a []) (sym (h .arg-is))
@@ -140,7 +141,7 @@ unfolding spell startsBy halts ends
 params-seen l₂ l₃ x n₂ n₃ l₄ s₄ m₄ r = object-seen l₂ l₃ x n₂ n₃ (texts (item l₄ s₄ m₄ none) (due params 0) ++ r) refl
 
 pub ari-seen : {w : Place} {l : Lead} {s : List ℕ} {ms : Items} → Ari w l s ms → isFloat l ≡ false → all isByte s ≡ true → (r : List ℕ) → stops r ≡ true
-    → Seen (record { lead = l; str = s }) (texts ms (members (ari w) l) ++ r) (anAri .before l s ++ (texts ms (members (ari w) l) ++ r))
+    → Seen (record { lead = shortLead l; str = s }) (texts ms (members (ari w) l) ++ r) (anAri .before l s ++ (texts ms (members (ari w) l) ++ r))
 ari-seen {w} {l} {s} (literal {ms = ms} e p) f b r z =
     let c = literal-leaf p in
     let n : eqb (l .kind) array ≡ false = ne-eqb (l .kind) array (λ q. true≢false (unfold isContainer in (rw q at c))) in

@@ -13,6 +13,9 @@ use Rattle.buffer.specs.Runs.{past}
 use Rattle.cbor.specs.Head.{array, map, simple, Lead, Sound, isContainer}
 use Rattle.buffer.proofs.ByteLaws.{within-true}
 use Rattle.ari.specs.Table.{Place, param, outermost, Row, row, Slot, ari, type, value, namespace, objectNamespace, objectType, objectId, params, key, entry, Level, done, due, many, rule, members}
+use Rattle.ari.specs.Shortened.{shortLead, shortened}
+use Rattle.ari.proofs.Shortened.{short-arg, short-members}
+use Rattle.text.proofs.Short.{short-after}
 use Rattle.ari.specs.Items.{Items, none, item, heads, depth}
 use Rattle.ari.specs.Decode.{Headed}
 use Rattle.ari.specs.Due.{Good}
@@ -71,11 +74,11 @@ counted s c d (suc n) g r f q o = rw (o n f, tallied g (due s n) [] f q d 0 (41 
 
 -- a word without members; a group
 word-back : {f : List ℕ → Headed} {u : List ℕ} {l : Lead} {s : List ℕ} (ms : Items) (v : Level) (r : List ℕ) → Word f u l s × (ms ≡ none) → halts r ≡ true
-    → takeWord f (u ++ (texts ms v ++ r)) ≡ record { head = record { lead = l; str = s }; rest = texts ms v ++ r }
+    → takeWord f (u ++ (texts ms v ++ r)) ≡ record { head = record { lead = shortLead l; str = s }; rest = texts ms v ++ r }
 word-back ms v r (w, b) h = rw b (take-word w r h)
 
 group-back : {l : Lead} {s : List ℕ} (k : ℕ) (t : List ℕ) → Sound l → isFloat l ≡ false → s ≡ [] → l .kind ≡ k → count t ≡ l .arg
-    → takeGroup k (40 ∷ t) ≡ record { head = record { lead = l; str = s }; rest = t }
+    → takeGroup k (40 ∷ t) ≡ record { head = record { lead = shortLead l; str = s }; rest = t }
 group-back {l} {s} k t h f e z c =
     ap (λ (x : Headed). record { head = x; rest = t })
     (ap (λ (n : ℕ). headOf k n []) c ∙ ap (λ (n : ℕ). headOf n (l .arg) []) (sym z) ∙ ap (headOf (l .kind) (l .arg)) (sym e) ∙ head-is s h f)
@@ -195,7 +198,7 @@ tail t n l rs r = spell t .after l (rule t .next (l .arg) n) ++ (texts rs (rule 
 
 record Back (t : Slot) (n : ℕ) (l : Lead) (s : List ℕ) (ms rs : Items) (r : List ℕ) : Type 0 where
   taken : takeAt t (spell t .before l s ++ (texts ms (members t l) ++ tail t n l rs r))
-      ≡ record { head = record { lead = l; str = s }; rest = texts ms (members t l) ++ tail t n l rs r }
+      ≡ record { head = record { lead = shortLead l; str = s }; rest = texts ms (members t l) ++ tail t n l rs r }
   stopped : (ms ≡ none) ⊎ (stops (tail t n l rs r) ≡ true)
 
 module _ (n : ℕ) (prev : List ℕ) (l : Lead) (s : List ℕ) (ms rs : Items) (q : Spells (item l s ms rs)) (r : List ℕ) (z : stops r ≡ true) where
@@ -286,8 +289,8 @@ module _ (b : ℕ) (t : Slot) (l : Lead) (r : List ℕ) where
       go (due s n) f = absurd f
 
   inside : (ms : Items) (d : ℕ) (c : Bool) → isContainer (l .kind) ≡ c → cond c (suc (depth ms)) 0 ≤ d → Fit ms false (members t l) []
-      → ((e : ℕ) → depth ms ≤ e → level (parse b e) b (members t l) (texts ms (members t l) ++ r) ≡ ran ms r)
-      → parse b d (members t l) (texts ms (members t l) ++ r) ≡ ran ms r
+      → ((e : ℕ) → depth ms ≤ e → level (parse b e) b (members t l) (texts ms (members t l) ++ r) ≡ ran (shortened ms) r)
+      → parse b d (members t l) (texts ms (members t l) ++ r) ≡ ran (shortened ms) r
   unfolding parse
   inside ms zero true c m f ih = absurd (omega arith)
   inside ms (suc d) true c m f ih = ih d (omega arith)
@@ -295,25 +298,26 @@ module _ (b : ℕ) (t : Slot) (l : Lead) (r : List ℕ) where
   inside (item k s ms rs) d false c m f ih = absurd (rw (members-leaf t l c) at f)
 
 pub reads : (b : ℕ) (g : Items) (v : Level) (prev : List ℕ) → Fit g false v prev → Spells g → BelowLevel v → (d k : ℕ)
-    → depth g ≤ d → heads g ≤ k → heads g ≤ b → (r : List ℕ) → stops r ≡ true → level (parse b d) k v (texts g v ++ r) ≡ ran g r
+    → depth g ≤ d → heads g ≤ k → heads g ≤ b → (r : List ℕ) → stops r ≡ true → level (parse b d) k v (texts g v ++ r) ≡ ran (shortened g) r
 reads b none done prev f q o d k x y z r h = level-done (parse b d) k r
 reads b none (due t n) prev f q o d k x y z r h = absurd f
 reads b (item l s ms rs) done prev f q o d k x y z r h = absurd f
 reads b (item l s ms rs) (due t n) prev f q o d zero x y z r h = absurd (omega arith)
 reads b (item l s ms rs) (due t n) prev f q o d (suc k) x y z r h =
-    level-step (parse b d) k t n l s ms rs (texts (item l s ms rs) (due t n) ++ r)
+    level-step (parse b d) k t n (shortLead l) s (shortened ms) (shortened rs) (texts (item l s ms rs) (due t n) ++ r)
     (texts ms (members t l) ++ tail t n l rs r) (texts rs (rule t .next (l .arg) n) ++ r) r
     (ap (takeAt t) (layout l s ms rs t n r) ∙ back .taken)
-    (mem (back .stopped) (λ w e c. reads b ms (members t l) [] (f .1) (q .2) (members-below l o) e b c (omega arith) (omega arith) (tail t n l rs r) w))
-    (reads b rs (rule t .next (l .arg) n) (prevAfter t prev l s) (f .2) (q .3) (next-below (l .kind) (l .arg) n (f .0 .fitting) o) d k
-    (omega arith) (omega arith) (omega arith) r h)
+    (rw (short-members t l, short-arg l, short-after t l (rule t .next (l .arg) n))
+    (mem (back .stopped) (λ w e c. reads b ms (members t l) [] (f .1) (q .2) (members-below l o) e b c (omega arith) (omega arith) (tail t n l rs r) w)))
+    (rw (short-arg l) (reads b rs (rule t .next (l .arg) n) (prevAfter t prev l s) (f .2) (q .3) (next-below (l .kind) (l .arg) n (f .0 .fitting) o) d k
+    (omega arith) (omega arith) (omega arith) r h))
   where
     back : Back t n l s ms rs r
     back = head-back n prev l s ms rs q r h t f o
 
     mem : (ms ≡ none) ⊎ (stops (tail t n l rs r) ≡ true)
         → (stops (tail t n l rs r) ≡ true → (e : ℕ) → depth ms ≤ e
-        → level (parse b e) b (members t l) (texts ms (members t l) ++ tail t n l rs r) ≡ ran ms (tail t n l rs r))
-        → parse b d (members t l) (texts ms (members t l) ++ tail t n l rs r) ≡ ran ms (tail t n l rs r)
+        → level (parse b e) b (members t l) (texts ms (members t l) ++ tail t n l rs r) ≡ ran (shortened ms) (tail t n l rs r))
+        → parse b d (members t l) (texts ms (members t l) ++ tail t n l rs r) ≡ ran (shortened ms) (tail t n l rs r)
     mem (inl e) ih = rw e (none-inside b t l (tail t n l rs r) d (rw e at (f .1)))
     mem (inr w) ih = inside b t l (tail t n l rs r) ms d (isContainer (l .kind)) refl (omega arith) (f .1) (ih w)

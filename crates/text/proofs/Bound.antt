@@ -12,7 +12,8 @@ use Rattle.buffer.proofs.DecimalLaws.{length-digits, length-fuel}
 use Rattle.buffer.specs.Decimal.{digits, decimal}
 use Rattle.cbor.specs.Head.{negative, bytes, text, array, simple, Lead, Sound, width, leadBytes, isContainer}
 use Rattle.buffer.proofs.ByteLaws.{and-true}
-use Rattle.cbor.proofs.HeadLaws.{Carries, itself, after, sound-carries, length-lead}
+use Rattle.cbor.specs.Head.{Carries, itself, after}
+use Rattle.cbor.proofs.HeadLaws.{sound-carries, length-lead}
 use Rattle.ari.specs.Table.{Slot, version, ari, type, value, namespace, objectNamespace, objectType, objectId, params, key, entry, nonce, setTime, target, report, reportTime, reportSource, Level, done, due, rule, members}
 use Rattle.ari.specs.Items.{Items, none, item, encode, heads}
 use Rattle.ari.proofs.Well.{Well}

@@ -5,7 +5,7 @@ use mathlib.Core.Path.{_≡_, refl}
 use mathlib.Core.List.{List, [], _∷_}
 use Rattle.buffer.specs.Runs.{front, past}
 use Rattle.buffer.specs.Decimal.{digits, decimal, pushOf, digitsOf, unsignedOf}
-use Rattle.cbor.specs.Head.{width, shortest, majorOf, kindOf, argument, leadBytes, shortBytes, tooLong, badSingle, badDouble, badHalf, badFloat, unused, notShortest, getFrom, getHead, stringSize, isContainer, arity, leadOf}
+use Rattle.cbor.specs.Head.{width, shortest, majorOf, kindOf, argument, leadBytes, shortBytes, tooLong, badSingle, badDouble, badHalf, badFloat, unused, getFrom, getHead, stringSize, isContainer, arity, leadOf}
 use Rattle.cbor.specs.Utf8.{utf8From}
 use Rattle.ari.specs.Name.{startsName, continuesName, identifier, namespaceName}
 use Rattle.ari.specs.Table.{types, rule, members}
@@ -45,5 +45,5 @@ examples =
     ∷ []
 
 pub the-examples : Hold examples
-unfolding utf8From width shortest majorOf kindOf argument leadBytes shortBytes tooLong badSingle badDouble badHalf badFloat unused notShortest getFrom getHead stringSize isContainer arity startsName continuesName identifier namespaceName types rule members judge judgeContent judgeGot takeStep visit run read traceGot trace build decode digits decimal integer hex bare escape textString byteString simpleText literalText nameText names typeName spell isRelative textOf isFloat isSet form ends inWord front past startsBy pushOf digitsOf unsignedOf number unhex unescape unhexes inner leadOf integerOf literalOf startsNumber nameOf typeNumber typeOf opened commas count parts takeAri takeAt level parse candidate writeText readText
+unfolding utf8From width shortest majorOf kindOf argument leadBytes shortBytes tooLong badSingle badDouble badHalf badFloat unused getFrom getHead stringSize isContainer arity startsName continuesName identifier namespaceName types rule members judge judgeContent judgeGot takeStep visit run read traceGot trace build decode digits decimal integer hex bare escape textString byteString simpleText literalText nameText names typeName spell isRelative textOf isFloat isSet form ends inWord front past startsBy pushOf digitsOf unsignedOf number unhex unescape unhexes inner leadOf integerOf literalOf startsNumber nameOf typeNumber typeOf opened commas count parts takeAri takeAt level parse candidate writeText readText
 the-examples = (refl, refl, (refl, refl, (refl, refl, (refl, refl, (refl, refl, (refl, refl, (refl, refl, (refl, refl, (refl, (refl, (refl, (refl, tt))))))))))))

@@ -14,6 +14,7 @@ use Rattle.buffer.proofs.ByteLaws.{and-true, or-true, not-true, not-false}
 use Rattle.cbor.proofs.HeadLaws.{sound-64}
 use Rattle.ari.specs.Name.{identifier, namespaceName}
 use Rattle.ari.specs.Table.{Place, alone, message, inside, param, max63, outermost, Row, row, uintTo, nintTo, anyText, isNull, Entry, entryOf, types, typeRows, valueRows, valueSpelling, fits}
+use Rattle.ari.specs.Shortened.{shortLead}
 use Rattle.ari.specs.Items.{Items}
 use Rattle.ari.specs.Decode.{Headed}
 use Rattle.ari.specs.Rules.{Plain, Namespace, NamespaceOrNull, ObjectType, ObjectId}
@@ -23,18 +24,17 @@ use Rattle.text.specs.Chars.{literalText, nameText}
 use Rattle.text.specs.Parse.{ends, inWord, startsBy, headOf, literalOf, startsNumber, nameOf, valueOf, typeNumber}
 use Rattle.text.proofs.Words.{avoid, starts-weaken, Integer, plus, minus, Literal, whole, octets, chars, no-value, yes-value, null-value, undefined-value, literal-word, startsLiteral, literal-starts, literal-back, Named, numbered, lettered, named-word, named-starts, named-back}
 
--- a head in its shortest form is the one that is read back
-pub lead-is : {l : Lead} → Sound l → isFloat l ≡ false → leadOf (l .kind) (l .arg) ≡ l
+-- a head is read back in its shortest form
+pub lead-is : {l : Lead} → Sound l → isFloat l ≡ false → leadOf (l .kind) (l .arg) ≡ shortLead l
 unfolding leadOf isFloat
-lead-is {l} (counted h g e) f =
-    let i : cond (leb (l .kind) map) (shortest (l .arg)) (l .arg) ≡ l .info = rw (le-leb (l .kind) map h) (sym e) in
-    λ j. record { info = i j; kind = l .kind; arg = l .arg }
+lead-is {l} (counted h c) f = rw (le-leb (l .kind) map h)
 lead-is {l} (a-simple z g h e) f =
     let i : cond (leb (l .kind) map) (shortest (l .arg)) (l .arg) ≡ l .info = rw (lt-leb (l .kind) map (omega arith)) (sym e) in
-    λ j. record { info = i j; kind = l .kind; arg = l .arg }
+    let q : record { info = cond (leb (l .kind) map) (shortest (l .arg)) (l .arg); kind = l .kind; arg = l .arg } ≡ l = λ j. record { info = i j; kind = l .kind; arg = l .arg } in
+    q ∙ rw (lt-leb (l .kind) map (omega arith))
 lead-is {l} (a-float h g e b n) f = absurd (omega (arith, leb-false 7 (l .kind) f))
 
-pub head-is : {l : Lead} (s : List ℕ) → Sound l → isFloat l ≡ false → headOf (l .kind) (l .arg) s ≡ record { lead = l; str = s }
+pub head-is : {l : Lead} (s : List ℕ) → Sound l → isFloat l ≡ false → headOf (l .kind) (l .arg) s ≡ record { lead = shortLead l; str = s }
 head-is s h f = ap (λ (l : Lead). record { lead = l; str = s }) (lead-is h f)
 
 pub no-string : (s : List ℕ) → length s ≡ 0 → s ≡ []
@@ -101,7 +101,7 @@ module _ {rs : List Row} {spelled : List ℕ → Bool} {l : Lead} {s : List ℕ}
   literal-case c f = go (p .head)
     where
       go : Sound l → Literal (l .kind) (l .arg) s
-      go (counted h g e) = counted-case c h
+      go (counted h d) = counted-case c h
       go (a-simple z g h e) = rw (z, no-string s (sized-as p simple z)) (simple-case (l .arg) g h)
       go (a-float h g e b x) = absurd (omega (arith, leb-false 7 (l .kind) f))
 
@@ -170,7 +170,7 @@ space-case {l} {s} p = go (eqb (l .kind) simple) refl (f .holds)
 pub record Word (f : List ℕ → Headed) (u : List ℕ) (l : Lead) (s : List ℕ) : Type 0 where
   pub letters : all inWord u ≡ true
   pub begins : startsBy inWord u ≡ true
-  pub back : f u ≡ record { lead = l; str = s }
+  pub back : f u ≡ record { lead = shortLead l; str = s }
 
 pub literal-in-word : (x : ℕ) → startsLiteral x ≡ true → inWord x ≡ true
 unfolding startsLiteral startsNumber

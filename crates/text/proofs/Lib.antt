@@ -4,6 +4,7 @@ pub mod Below
 pub mod Slots
 pub mod Tally
 pub mod Ahead
+pub mod Short
 pub mod Back
 pub mod Bound
 pub mod Outer

@@ -17,7 +17,8 @@ use Rattle.buffer.specs.Decimal.{unsignedOf}
 use Rattle.buffer.proofs.RunLaws.{front-past}
 use Rattle.buffer.proofs.DecimalLaws.{Most, unsigned-most}
 use Rattle.buffer.proofs.ByteLaws.{and-true, within-true, pow-pos, all-take, all-drop, all-append, all-split}
-use Rattle.cbor.proofs.HeadLaws.{Carries, itself, after, carries-lt, width-small, shortest-carries}
+use Rattle.cbor.specs.Head.{Carries, itself, after}
+use Rattle.cbor.proofs.HeadLaws.{carries-lt, width-small, shortest-carries}
 use Rattle.ari.specs.Table.{max64, Slot, version, ari, type, value, namespace, objectNamespace, objectType, objectId, params, key, entry, nonce, setTime, target, report, reportTime, reportSource, Level, done, due, rule, members}
 use Rattle.ari.specs.declared.Limits.{Limits}
 use Rattle.ari.specs.Items.{none, encode}

@@ -13,6 +13,7 @@ use Rattle.buffer.proofs.ByteLaws.{and-true, all-split}
 use Rattle.ari.specs.Table.{Place, alone, inside, ari, Row, row, Level, done, due, types, typeRows, rule, fits, members}
 use Rattle.ari.specs.declared.Limits.{Limits}
 use Rattle.ari.specs.declared.Input.the-variants.{Single}
+use Rattle.ari.specs.Shortened.{shortened}
 use Rattle.ari.specs.Items.{Items, none, item, encode, heads, depth, Spot, insideAt, spots}
 use Rattle.ari.specs.Rules.{Ari, literal, namespace-ref, typed, object-ref, plain, with-params, Stands, an-ari}
 use Rattle.ari.proofs.Due.{Fit, prevAfter}
@@ -125,7 +126,7 @@ unfolding form
 texted g e = no-float (isSet g) 0 (floatIn (spots g false (due (ari alone) 0) 0 0)) e
 
 pub candidate-back : (m : Limits) {g : Items} → Stands Single g → form g ≡ spelled → all isByte (encode g) ≡ true → depth g ≤ m .containers → heads g ≤ m .items
-    → candidate m (textOf g) ≡ g
+    → candidate m (textOf g) ≡ shortened g
 unfolding candidate parse rule
 candidate-back m (an-ari {l = l} {s = s} {ms = ms} a) e b d k =
     let g : Items = item l s ms none in

@@ -1,7 +1,7 @@
 -- R110, R111: what is written is read again, what is read is written again, and nothing else is read.
 use Prim.Native.Nat.{ℕ, _+_, _*_, _≤_, _<_}
 use mathlib.Core.Logic.{_↔_}
-use mathlib.Core.Path.{_≡_, refl, sym, _∙_, ap}
+use mathlib.Core.Path.{_≡_, refl, sym, _∙_, ap, subst}
 use mathlib.Core.Bool.{Bool, true, false, cond, true≢false}
 use mathlib.Core.List.{List, []}
 use native.Mathlib.Omega.{arith}
@@ -14,17 +14,20 @@ use Rattle.ari.specs.Table.{max64, alone, ari, due}
 use Rattle.ari.specs.declared.Limits.{Limits}
 use Rattle.ari.specs.declared.Input.the-variants.{Single}
 use Rattle.ari.specs.Reader.{Answer, refuse, accept, read}
-use Rattle.ari.specs.Items.{encode, heads}
+use Rattle.ari.specs.Items.{Items, encode, heads}
 use Rattle.ari.specs.Decode.{decode}
 use Rattle.ari.specs.Rules.{Is}
 use Rattle.ari.specs.Limits.{firstLimits, capped}
-use Rattle.ari.proofs.Demand.{stands-fit, demand-two}
+use Rattle.ari.specs.Shortened.{shortened}
+use Rattle.ari.proofs.Shortened.{shortened-is}
+use Rattle.ari.proofs.Demand.{stands-fit, demand-two, unique, is-read}
 use Rattle.ari.proofs.Weight.{well-fit}
 use Rattle.ari.proofs.Decoded.{heads-encode}
 use Rattle.text.specs.Text.{textOf, Form, spelled, none-at, form}
 use Rattle.text.specs.Parse.{candidate}
 use Rattle.text.specs.Answer.{Output, refused, output, written, writeText, checked, readText, Spelled, longest}
 use Rattle.text.proofs.Bound.{text-most}
+use Rattle.text.proofs.Short.{short-text, short-form}
 use Rattle.text.proofs.Outer.{candidate-back}
 use Rattle.text.proofs.Octets.{candidate-bytes}
 
@@ -37,7 +40,27 @@ text-of e = cc
 count-of : {t u : List ℕ} {n k : ℕ} → output t n ≡ output u k → n ≡ k
 count-of e = cc
 
+-- an ARI's bytes with every head in its shortest form
+abbrev pub shortBytesOf : List ℕ → List ℕ
+shortBytesOf b = encode (shortened (decode b))
+
 module _ (m : Limits) where
+  module _ {t b : List ℕ} {n : ℕ} where
+    spelled-written : Spelled m t b n → writeText m b ≡ output t n
+    unfolding writeText
+    spelled-written c = rw (is-read m Single b (c .is), c .has-text, c .the-text)
+
+    -- its shortened form has the same text
+    spelled-short : Spelled m t b n → Spelled m t (shortBytesOf b) n
+    spelled-short c =
+        let i : Is m Single (shortBytesOf b) (shortened (decode b)) n = shortened-is (c .is) in
+        let u : shortened (decode b) ≡ decode (shortBytesOf b) = unique m Single (shortBytesOf b) i in
+        record {
+            is = subst (λ (g : Items). Is m Single (shortBytesOf b) g n) u i;
+            has-text = subst (λ (g : Items). form g ≡ spelled) u (short-form (decode b) (c .has-text));
+            the-text = subst (λ (g : Items). textOf g ≡ t) u (short-text (decode b) ∙ c .the-text)
+        }
+
   -- what is written
   module _ {t b : List ℕ} {n : ℕ} (o : all isByte b ≡ true) where
     written-spelled : writeText m b ≡ output t n → Spelled m t b n
@@ -54,20 +77,16 @@ module _ (m : Limits) where
             record { is = rw z at i; has-text = g; the-text = y }
         go (accept k) q (none-at p) g h = absurd (never (rw g at h))
 
-    spelled-written : Spelled m t b n → writeText m b ≡ output t n
-    unfolding writeText
-    spelled-written c = rw (demand-two m Single b n o .1 (c .is), c .has-text, c .the-text)
-
     pub write-exactly : (writeText m b ≡ output t n) ↔ Spelled m t b n
     write-exactly = (written-spelled, spelled-written)
 
-    -- an ARI's text leads back to it
-    spelled-back : Spelled m t b n → encode (candidate m t) ≡ b
+    -- an ARI's text leads back to it, in its shortened form
+    spelled-back : Spelled m t b n → encode (candidate m t) ≡ shortBytesOf b
     spelled-back c =
         let i = c .is in
         let e : all isByte (encode (decode b)) ≡ true = rw (i .bytes) o in
         let k : heads (decode b) ≤ m .items = omega (arith, i .count, i .few) in
-        ap encode (ap (candidate m) (sym (c .the-text)) ∙ candidate-back m (i .stands) (c .has-text) e (i .shallow) k) ∙ i .bytes
+        ap encode (ap (candidate m) (sym (c .the-text)) ∙ candidate-back m (i .stands) (c .has-text) e (i .shallow) k)
 
     -- R112
     pub text-length : Spelled m t b n → length t ≤ 4 + (3 * length b + 16 * n)
@@ -119,25 +138,26 @@ module _ (m : Limits) where
       go (no-text h x q) = absurd (never (sym q ∙ e))
       go (a-text h k x q) = let z = sym q ∙ e in rw (← text-of z, ← count-of z) x
 
-  -- R110: a text is read exactly if it is the text of an accepted ARI, and not too long.
+  -- R110: a text is read exactly if it is the text of an accepted ARI, and not too long; what it gives is in shortest heads.
   module _ {t : List ℕ} (o : all isByte t ≡ true) (f : length t < max64) where
-    pub read-exactly : (b : List ℕ) (n : ℕ) → (readText m t ≡ output b n) ↔ ((length t ≤ m .text) × (all isByte b ≡ true) × Spelled m t b n)
+    pub read-exactly : (b : List ℕ) (n : ℕ) → (readText m t ≡ output b n) ↔ ((length t ≤ m .text) × (all isByte b ≡ true) × Spelled m t b n × (b ≡ shortBytesOf b))
     read-exactly b n = (λ e. forth e (read-tried t), λ x. back x (read-tried t))
       where
-        forth : readText m t ≡ output b n → Tried t (readText m t) → (length t ≤ m .text) × (all isByte b ≡ true) × Spelled m t b n
+        forth : readText m t ≡ output b n → Tried t (readText m t) → (length t ≤ m .text) × (all isByte b ≡ true) × Spelled m t b n × (b ≡ shortBytesOf b)
         forth e (too-long h q) = absurd (never (sym q ∙ e))
         forth e (no-text h x q) = absurd (never (sym q ∙ e))
         forth e (a-text h k x q) =
             let z = sym q ∙ e in
             let c : all isByte b ≡ true = rw (← text-of z) (candidate-bytes m t (record { octets = o; short = f })) in
-            (h, c, written-spelled c (rw (← text-of z, ← count-of z) x))
+            let s = written-spelled {t = t} {b = b} {n = n} c (rw (← text-of z, ← count-of z) x) in
+            (h, c, s, sym (text-of z) ∙ spelled-back c s)
 
-        back : (length t ≤ m .text) × (all isByte b ≡ true) × Spelled m t b n → Tried t (readText m t) → readText m t ≡ output b n
-        back (h, c, s) (too-long l q) = absurd (omega arith)
-        back (h, c, s) (no-text l x q) = absurd (x n (rw (spelled-back c s) (spelled-written c s)))
-        back (h, c, s) (a-text l k x q) =
-            let y = spelled-back c s in
-            let z = sym (rw y at x) ∙ spelled-written c s in
+        back : (length t ≤ m .text) × (all isByte b ≡ true) × Spelled m t b n × (b ≡ shortBytesOf b) → Tried t (readText m t) → readText m t ≡ output b n
+        back (h, c, s, d) (too-long l q) = absurd (omega arith)
+        back (h, c, s, d) (no-text l x q) = absurd (x n (rw (spelled-back c s, ← d) (spelled-written s)))
+        back (h, c, s, d) (a-text l k x q) =
+            let y = spelled-back c s ∙ sym d in
+            let z = sym (rw y at x) ∙ spelled-written s in
             rw (q, y, count-of z)
 
     -- R65: what is the text of no accepted ARI is 15
@@ -146,7 +166,7 @@ module _ (m : Limits) where
       where
         forth : readText m t ≡ refused 15 0 → Tried t (readText m t) → (length t ≤ m .text) × ((b : List ℕ) (n : ℕ) → all isByte b ≡ true → Spelled m t b n → ⊥)
         forth e (too-long h q) = absurd (let z : _≡_ {A = ℕ} 1 15 = cc in omega arith)
-        forth e (no-text h x q) = (h, λ b n c s. x n (rw (spelled-back c s) (spelled-written c s)))
+        forth e (no-text h x q) = (h, λ b n c s. x n (rw (spelled-back c s) (spelled-written (spelled-short s))))
         forth e (a-text h k x q) = absurd (never (sym e ∙ q))
 
         back : (length t ≤ m .text) × ((b : List ℕ) (n : ℕ) → all isByte b ≡ true → Spelled m t b n → ⊥) → Tried t (readText m t) → readText m t ≡ refused 15 0
@@ -168,8 +188,8 @@ module _ (m : Limits) where
       back h (no-text l x q) = absurd (omega arith)
       back h (a-text l k x q) = absurd (omega arith)
 
-  -- No two accepted ARIs have the same text.
-  pub one-text-one-ari : (t b c : List ℕ) (n k : ℕ) → all isByte b ≡ true → all isByte c ≡ true → writeText m b ≡ output t n → writeText m c ≡ output t k → b ≡ c
+  -- Accepted ARIs with the same text have the same shortened form.
+  pub one-text-one-ari : (t b c : List ℕ) (n k : ℕ) → all isByte b ≡ true → all isByte c ≡ true → writeText m b ≡ output t n → writeText m c ≡ output t k → shortBytesOf b ≡ shortBytesOf c
   one-text-one-ari t b c n k o p e f = sym (spelled-back o (written-spelled o e)) ∙ spelled-back p (written-spelled p f)
 
   module _ (t b : List ℕ) (n : ℕ) (o : all isByte b ≡ true) (e : writeText m b ≡ output t n) where
@@ -181,19 +201,22 @@ module _ (m : Limits) where
         let i = written-spelled o e .is in
         omega (arith, text-bound, i .short, i .few, i .count, heads-encode (decode b), ap length (i .bytes))
 
-    -- Written and read again, the same bytes.
-    pub write-read : longest m (m .bytes) ≤ m .text → readText m t ≡ output b n
+    -- Written and read again, the shortened bytes.
+    pub write-read : longest m (m .bytes) ≤ m .text → readText m t ≡ output (shortBytesOf b) n
     write-read h = go (read-tried t)
       where
         c : Spelled m t b n
         c = written-spelled o e
 
-        go : Tried t (readText m t) → readText m t ≡ output b n
+        again : writeText m (shortBytesOf b) ≡ output t n
+        again = spelled-written (spelled-short c)
+
+        go : Tried t (readText m t) → readText m t ≡ output (shortBytesOf b) n
         go (too-long l q) = absurd (omega (arith, text-short, c .is .short))
-        go (no-text l x q) = absurd (x n (rw (spelled-back o c) e))
+        go (no-text l x q) = absurd (x n (rw (spelled-back o c) again))
         go (a-text l k x q) =
             let y = spelled-back o c in
-            let z = sym (rw y at x) ∙ e in
+            let z = sym (rw y at x) ∙ again in
             rw (q, y, count-of z)
 
 -- Within limits that are none above the gate's own, no text is longer than the gate's own limit.
@@ -205,5 +228,5 @@ module _ (t b : List ℕ) (n : ℕ) (o : all isByte b ≡ true) (e : writeText f
   pub first-short : length t ≤ firstLimits .text
   first-short = omega (arith, text-short firstLimits t b n o e)
 
-  pub first-write-read : readText firstLimits t ≡ output b n
+  pub first-write-read : readText firstLimits t ≡ output (shortBytesOf b) n
   first-write-read = write-read firstLimits t b n o e (omega arith)

@@ -7,6 +7,7 @@ use mathlib.Core.List.{List, []}
 use Rattle.buffer.specs.Bytes.{all, isByte}
 use Rattle.cbor.specs.Head.{unsigned, array, Lead, Sound, isContainer}
 use Rattle.ari.specs.Table.{Place, Slot, ari, type, value, namespace, objectNamespace, objectType, objectId, key, entry, literals, types, valueRows, valueSpelling, done, rule}
+use Rattle.ari.specs.Shortened.{shortLead}
 use Rattle.ari.specs.Items.{Items, none, item}
 use Rattle.ari.specs.Rules
 use Rattle.ari.specs.Rules.{Plain, Holds, Ari, literal, namespace-ref, typed, object-ref, plain, with-params}
@@ -63,7 +64,7 @@ module _ {prev : List ℕ} {l : Lead} {s : List ℕ} {ms : Items} where
         let q = of-plain h (type-leaf w) in
         let (z, t) = type-word w (l .kind) (l .arg) (q .fitting) in
         let y = no-string s (sized-as q unsigned z) in
-        let e : headOf unsigned (l .arg) [] ≡ record { lead = l; str = s }
+        let e : headOf unsigned (l .arg) [] ≡ record { lead = shortLead l; str = s }
         = ap (λ (k : ℕ). headOf k (l .arg) []) (sym z) ∙ ap (headOf (l .kind) (l .arg)) (sym y) ∙ head-is s (q .head) f in
         (record { letters = t .letters; begins = t .begins; back = rw (t .known) e }, q .bare)
 

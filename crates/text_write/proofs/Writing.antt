@@ -70,7 +70,7 @@ pub behind : (b : List ℕ) (p : ℕ) (u z : List ℕ) → drop p b ≡ u ++ z �
 behind b p u z e = sym (drop-drop (length u) p b) ∙ rw e (drop-append-seam u z)
 
 sound-kind : {l : Lead} → Sound l → l .kind ≤ 9
-sound-kind (counted h g e) = omega arith
+sound-kind (counted h c) = omega arith
 sound-kind (a-simple e g h i) = omega arith
 sound-kind (a-float h g i a b) = omega arith
 

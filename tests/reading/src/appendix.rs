@@ -8,7 +8,7 @@
 //! or `nan`. Chunks are joined, indefinite lengths counted.
 
 use crate::vectors::to_hex;
-use crate::{Kind, Record};
+use crate::{head, Kind, Record};
 
 pub struct Example {
     /// The bytes, in hex.
@@ -29,6 +29,26 @@ pub fn examples() -> Vec<Example> {
             Example { hex, diagnostic, by_hand }
         })
         .collect()
+}
+
+/// Each head of `input` in turn at each larger width, as long as heads are in use.
+pub fn widened(input: &[u8]) -> Vec<Vec<u8>> {
+    let (mut found, mut at) = (Vec::new(), 0);
+    while let Ok((kind, rest)) = head::read(&input[at..]) {
+        let after = input.len() - rest.len();
+        if let Some((major, argument)) = head::major(kind) {
+            for width in [1, 2, 4, 8].into_iter().filter(|width| 1 + width > after - at) {
+                let mut wide = input[..at].to_vec();
+                head::put_wide_head(&mut wide, major, argument, width);
+                found.push([&wide, rest].concat());
+            }
+        }
+        at = match kind {
+            Kind::Bytes(length) | Kind::Text(length) => after + length as usize,
+            _ => after,
+        };
+    }
+    found
 }
 
 fn float(value: f64) -> String {
@@ -200,7 +220,7 @@ fn quoted(rest: &mut &str) -> String {
 mod tests {
     use super::*;
     use crate::vectors::hex;
-    use crate::{check_single, items_single};
+    use crate::{check_single, items_single, shortened, Answer};
 
     #[test]
     fn answers_and_values() {
@@ -214,5 +234,32 @@ mod tests {
                 assert_eq!(notation_of_records(&input, &records), diagnostic, "{}", example.hex);
             }
         }
+    }
+
+    /// A longer head is the same number or length; what is refused is refused by the same test.
+    #[test]
+    fn at_each_larger_width() {
+        let (mut accepted, mut refused) = (0, 0);
+        for example in examples() {
+            let input = hex(example.hex);
+            for wide in widened(&input) {
+                match check_single(&wide) {
+                    Answer::Accepted(_) => {
+                        accepted += 1;
+                        assert_eq!(check_single(&wide).to_string(), example.by_hand);
+                        let records = items_single(&wide).unwrap();
+                        let diagnostic = notation_of_diagnostic(example.diagnostic);
+                        assert_eq!(notation_of_records(&wide, &records), diagnostic);
+                        assert_eq!(shortened(&wide), input);
+                    }
+                    Answer::Refused { number, .. } => {
+                        refused += 1;
+                        let by_hand = example.by_hand.split(' ').nth(1).unwrap();
+                        assert_eq!(number.to_string(), by_hand, "{}", to_hex(&wide));
+                    }
+                }
+            }
+        }
+        assert!(accepted > 50 && refused > 100, "{accepted} {refused}");
     }
 }

@@ -8,7 +8,8 @@ pub mod nests;
 pub mod tables;
 pub mod texts;
 
-pub use crate::head::{put_head, put_wide_head};
+use crate::head::{self, major};
+pub use crate::head::{put_head, put_wide_head, width};
 use crate::{Kind, Record, LIMITS};
 
 /// SplitMix64: small, seeded, the same on every machine.
@@ -82,6 +83,9 @@ pub struct Settings {
     pub floats: bool,
     /// Whether namespaces are few, and all of them numbers.
     pub few_namespaces: bool,
+    /// In a hundred: how often a head is longer than it has to be; at 100 every
+    /// one is 9 bytes long.
+    pub wide: usize,
 }
 
 /// The namespaces where they are few.
@@ -103,7 +107,22 @@ impl<'r> Writer<'r> {
 
     fn head(&mut self, major: u8, argument: u64) {
         self.items += 1;
-        put_head(&mut self.out, major, argument);
+        let width = self.width(argument);
+        put_wide_head(&mut self.out, major, argument, width);
+    }
+
+    /// The bytes for an argument behind a head's first.
+    fn width(&mut self, argument: u64) -> usize {
+        match self.settings.wide {
+            0 => width(argument),
+            100 => 8,
+            wide if self.random.chance(wide) => {
+                let widths = [0, 1, 2, 4, 8];
+                let least = widths.iter().position(|w| *w == width(argument)).unwrap();
+                self.random.pick(&widths[least..])
+            }
+            _ => width(argument),
+        }
     }
 
     fn simple(&mut self, initial: u8) {
@@ -191,12 +210,16 @@ impl<'r> Writer<'r> {
 
     /// A string that takes `left` bytes with its head, or one fewer.
     fn fill(&mut self, major: u8, left: usize) {
+        let full = self.settings.wide == 100;
         let length = match left {
+            _ if full => left.saturating_sub(9),
             0..=24 => left.saturating_sub(1),
             25..=257 => left - 2,
             _ => left - 3,
         };
-        self.head(major, length as u64);
+        let width = if full { 8 } else { width(length as u64) };
+        self.items += 1;
+        put_wide_head(&mut self.out, major, length as u64, width);
         self.out.resize(self.out.len() + length, 0x5a);
     }
 
@@ -336,11 +359,11 @@ impl<'r> Writer<'r> {
         });
     }
 
-    /// Keys for a map, at most `most` and at least one unless `most` is 0.
+    /// Keys for a map in shortest heads, at most `most` and at least one unless `most` is 0.
     fn keys(&mut self, most: usize) -> Vec<Vec<u8>> {
         let mut keys = Vec::new();
         for _ in 0..most {
-            let mut key = Writer::new(self.random, self.settings);
+            let mut key = Writer::new(self.random, Settings { wide: 0, ..self.settings });
             match key.random.below(3) {
                 0 => key.text(),
                 _ => key.integer(u64::MAX, i64::MAX as u64),
@@ -357,8 +380,10 @@ impl<'r> Writer<'r> {
         let keys = self.keys(most);
         self.container(5, keys.len(), |m| {
             for key in keys {
-                m.items += 1;
-                m.out.extend(key);
+                let (kind, string) = head::read(&key).expect("a key");
+                let (major, argument) = major(kind).expect("a key");
+                m.head(major, argument);
+                m.out.extend(string);
                 m.ari(in_parameters);
             }
         });
@@ -455,6 +480,7 @@ pub fn settings(random: &mut Random) -> Settings {
         small_numbers: random.chance(50),
         floats: true,
         few_namespaces: false,
+        wide: random.pick(&[0, 0, 0, 10, 50, 100]),
     }
 }
 
@@ -487,7 +513,9 @@ pub fn full_message(random: &mut Random, mut settings: Settings, bytes: usize) -
     while writer.has_room() {
         writer.set();
     }
-    writer.out.extend([0x82, 0x14, 0x81]);
+    writer.head(4, 2);
+    writer.head(0, 20);
+    writer.head(4, 1);
     let left = bytes.saturating_sub(writer.out.len());
     writer.fill(2, left);
     writer.out
@@ -629,19 +657,6 @@ pub fn boundary_literal(random: &mut Random) -> Vec<u8> {
     }
 }
 
-/// The major type and argument of a head, none for simple values and floats.
-fn major(kind: Kind) -> Option<(u8, u64)> {
-    match kind {
-        Kind::Unsigned(n) => Some((0, n)),
-        Kind::Negative(n) => Some((1, n)),
-        Kind::Bytes(n) => Some((2, n)),
-        Kind::Text(n) => Some((3, n)),
-        Kind::Array(n) => Some((4, n)),
-        Kind::Map(n) => Some((5, n)),
-        _ => None,
-    }
-}
-
 /// One place damaged: bytes anywhere, or, where the whole was accepted and its
 /// `records` are known, a head, an item or a map's keys. `other` is any other
 /// input, to splice with.
@@ -664,16 +679,10 @@ pub fn damage(random: &mut Random, whole: &mut Vec<u8>, records: &[Record], othe
     }
     let record = records[random.below(records.len())];
     let item = whole[record.first..record.after].to_vec();
-    // The size of the head as it stands, which is the shortest.
+    // The size of the head as it stands.
+    let after = head::read(&item).expect("accepted").1;
+    let head_size = item.len() - after.len();
     let mut put = Vec::new();
-    let head_size = match major(record.kind) {
-        Some((major, argument)) => {
-            put_head(&mut put, major, argument);
-            put.len()
-        }
-        None => item.len(),
-    };
-    put.clear();
     let head = record.first..record.first + head_size;
     match (random.below(10), major(record.kind)) {
         (0, Some((major, argument))) => {

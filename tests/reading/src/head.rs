@@ -50,19 +50,18 @@ pub(crate) fn read(bytes: &[u8]) -> Result<(Kind, &[u8]), Test> {
     // the head is not in use; infos 28 to 31 bring none.
     let (&initial, rest) = bytes.split_first().ok_or(Test::EndOfInput)?;
     let info = initial & 31;
-    let ((value, rest), least) = match info {
-        0..=23 => ((u64::from(info), rest), 0),
-        24 => (argument::<1>(rest)?, 24),
-        25 => (argument::<2>(rest)?, 1 << 8),
-        26 => (argument::<4>(rest)?, 1 << 16),
-        27 => (argument::<8>(rest)?, 1 << 32),
+    let (value, rest) = match info {
+        0..=23 => (u64::from(info), rest),
+        24 => argument::<1>(rest)?,
+        25 => argument::<2>(rest)?,
+        26 => argument::<4>(rest)?,
+        27 => argument::<8>(rest)?,
         _ => return Err(Test::NotInUse),
     };
-    // Tests 3 and 4. "A length or number uses the shortest head that holds it."
+    // Tests 3 and 4. "Accept number and length heads that are longer than needed."
     let kind = match initial >> 5 {
         6 => return Err(Test::NotInUse),
         7 => simple_or_float(info, value)?,
-        _ if value < least => return Err(Test::NotShortest),
         0 => Kind::Unsigned(value),
         1 => Kind::Negative(value),
         2 => Kind::Bytes(value),
@@ -137,28 +136,90 @@ fn double_is_shortest(bits: u64) -> bool {
     }
 }
 
-/// Appends the shortest head.
-pub fn put_head(out: &mut Vec<u8>, major: u8, argument: u64) {
-    let width = match argument {
+/// The bytes that an argument needs behind the first: 0, 1, 2, 4 or 8.
+pub fn width(argument: u64) -> usize {
+    match argument {
         0..=23 => 0,
         24..=0xff => 1,
         0x100..=0xffff => 2,
         0x1_0000..=0xffff_ffff => 4,
         _ => 8,
-    };
-    put_wide_head(out, major, argument, width);
+    }
 }
 
-/// Appends a head whose argument has 0 (in the first byte), 1, 2, 4 or 8 bytes.
-pub fn put_wide_head(out: &mut Vec<u8>, major: u8, argument: u64, width: usize) {
-    let info = match width {
+/// The major type and argument of a head, none for simple values and floats.
+pub fn major(kind: Kind) -> Option<(u8, u64)> {
+    match kind {
+        Kind::Unsigned(n) => Some((0, n)),
+        Kind::Negative(n) => Some((1, n)),
+        Kind::Bytes(n) => Some((2, n)),
+        Kind::Text(n) => Some((3, n)),
+        Kind::Array(n) => Some((4, n)),
+        Kind::Map(n) => Some((5, n)),
+        _ => None,
+    }
+}
+
+/// Appends the shortest head.
+pub fn put_head(out: &mut Vec<u8>, major: u8, argument: u64) {
+    put_wide_head(out, major, argument, width(argument));
+}
+
+/// The bytes of a number's or a length's shortest head.
+#[derive(Clone, Copy)]
+pub struct Shortest {
+    bytes: [u8; 9],
+    size: usize,
+}
+
+impl Shortest {
+    pub fn iter(&self) -> std::slice::Iter<'_, u8> {
+        self.bytes[..self.size].iter()
+    }
+}
+
+pub fn shortest(kind: Kind) -> Shortest {
+    let (major, argument) = major(kind).expect("a number or a length");
+    let width = width(argument);
+    let mut bytes = [0; 9];
+    bytes[0] = major << 5 | info(argument, width);
+    bytes[1..=width].copy_from_slice(&argument.to_be_bytes()[8 - width..]);
+    Shortest { bytes, size: 1 + width }
+}
+
+/// An accepted input with every number and length in its shortest head.
+pub fn shortened(input: &[u8]) -> Vec<u8> {
+    let (mut out, mut rest) = (Vec::new(), input);
+    while !rest.is_empty() {
+        let (kind, after) = read(rest).expect("accepted");
+        let head = &rest[..rest.len() - after.len()];
+        match major(kind) {
+            Some((major, argument)) => put_head(&mut out, major, argument),
+            None => out.extend(head),
+        }
+        let length = match kind {
+            Kind::Bytes(length) | Kind::Text(length) => length as usize,
+            _ => 0,
+        };
+        out.extend(&after[..length]);
+        rest = &after[length..];
+    }
+    out
+}
+
+fn info(argument: u64, width: usize) -> u8 {
+    match width {
         0 => argument as u8 & 31,
         1 => 24,
         2 => 25,
         4 => 26,
         _ => 27,
-    };
-    out.push(major << 5 | info);
+    }
+}
+
+/// Appends a head whose argument has 0 (in the first byte), 1, 2, 4 or 8 bytes.
+pub fn put_wide_head(out: &mut Vec<u8>, major: u8, argument: u64, width: usize) {
+    out.push(major << 5 | info(argument, width));
     out.extend(&argument.to_be_bytes()[8 - width..]);
 }
 

@@ -34,7 +34,7 @@ pub mod printed;
 pub mod vectors;
 
 pub use grants::{check_table, release, rows, table_bytes, Release, Row, ROW};
-pub use head::Kind;
+pub use head::{shortened, Kind};
 pub use listing::{list, listing, listing_within, Entry, Listing, Namespace, ENTRY};
 pub use spelling::{is_identifier, is_namespace_name, is_utf8};
 pub use stream::{closing, standing, Stream};
@@ -66,7 +66,7 @@ pub enum Test {
     EndOfInput = 2,
     /// "head not in use: info 28 to 31, a tag, another simple value (f8 too)"
     NotInUse = 3,
-    /// "head or float not shortest, or another NaN"
+    /// "Refusal 4 is now given for floats only": not the shortest, or another NaN
     NotShortest = 4,
     /// "this would be item 1,025"
     TooManyItems = 5,

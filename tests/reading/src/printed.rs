@@ -4,7 +4,9 @@ use std::fmt::Write as _;
 
 use crate::names::name_number;
 use crate::why::{Link, Meaning, Reason, Why};
-use crate::{key_text, listing, text_of, Entry, Listing, Namespace, Record, Refusal, LIMITS};
+use crate::{
+    head, key_text, listing, text_of, Entry, Kind, Listing, Namespace, Record, Refusal, LIMITS,
+};
 
 /// A line for each item: its number, its columns, and its kind, two places further in for
 /// each container around it; or the refusal's line.
@@ -108,10 +110,8 @@ fn words(message: &[u8], meaning: Meaning) -> String {
 
 /// The text string at a place of an accepted message.
 fn name(message: &[u8], place: usize) -> String {
-    let (start, size) = match message[place] & 31 {
-        24 => (place + 2, message[place + 1] as usize),
-        25 => (place + 3, usize::from(message[place + 1]) << 8 | usize::from(message[place + 2])),
-        info => (place + 1, info as usize),
+    let Ok((Kind::Text(size), rest)) = head::read(&message[place..]) else {
+        unreachable!("an accepted name")
     };
-    String::from_utf8(message[start..start + size].to_vec()).expect("an accepted name")
+    String::from_utf8(rest[..size as usize].to_vec()).expect("an accepted name")
 }

@@ -61,8 +61,9 @@ pub fn text_of(ari: &[u8], limits: &Limits) -> Result<(String, usize), Refusal> 
     let items = walk_single(ari, limits, &mut float)?;
     // "outermost type 20 or 21, place 0; otherwise a float, place is the first
     // float's head"
-    let place = match ari {
-        [0x82, 20 | 21, ..] => Some(0),
+    let outer = outermost(ari);
+    let place = match outer {
+        (Kind::Array(2), Some(Kind::Unsigned(20 | 21))) => Some(0),
         _ => float.0,
     };
     if let Some(place) = place {
@@ -70,11 +71,17 @@ pub fn text_of(ari: &[u8], limits: &Limits) -> Result<(String, usize), Refusal> 
     }
     let mut writer = Writer { rest: ari, out: String::new() };
     // "Outermost `ari:`, except before a relative reference."
-    if !matches!(ari, [0x83 | 0x84, 0xf6, ..]) {
+    if !matches!(outer, (Kind::Array(3 | 4), Some(Kind::Null))) {
         writer.out += "ari:";
     }
     writer.ari();
     Ok((writer.out, items))
+}
+
+/// The first head of an accepted ARI, and the one behind it.
+fn outermost(ari: &[u8]) -> (Kind, Option<Kind>) {
+    let (kind, rest) = head::read(ari).expect("accepted");
+    (kind, head::read(rest).ok().map(|(kind, _)| kind))
 }
 
 pub fn write_text(ari: &[u8], room: &mut [u8]) -> Result<Written, Refusal> {

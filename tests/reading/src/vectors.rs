@@ -2,6 +2,7 @@
 //! 01 gives, written by hand; a test compares these with the reading. The
 //! answers in the file of fixed answers come from the reading alone.
 
+use crate::appendix::{examples, widened};
 use crate::generate::{put_head, put_wide_head};
 use crate::{
     check_message, check_single, items_message, items_single, read_text, text_of, Answer, LIMITS,
@@ -180,7 +181,9 @@ pub fn lines() -> Vec<Line> {
     length(&mut f);
     cut(&mut f);
     not_in_use(&mut f);
-    shortest(&mut f);
+    longer_heads(&mut f);
+    full_widths(&mut f);
+    examples_widened(&mut f);
     floats(&mut f);
     item_limit(&mut f);
     depth_limit(&mut f);
@@ -430,18 +433,25 @@ fn not_in_use(f: &mut Fixed) {
     f.message("01 82 14 81 f3", "refused 3 4");
 }
 
-fn shortest(f: &mut Fixed) {
-    f.group("test 4: each width at its least value, and one below");
+fn longer_heads(f: &mut Fixed) {
+    f.group("longer heads: each width at its least value, one below, and at 0");
     for (width, least) in [(1, 24), (2, 1 << 8), (4, 1 << 16), (8, 1u64 << 32)] {
         for below in [0, least - 1] {
-            for major in 0..6 {
-                f.single(&wide_head(major, below, width), "refused 4 0");
+            let wide = |major| wide_head(major, below, width);
+            for major in [0, 1] {
+                f.single(&wide(major), "accepted 1");
             }
-            let places = [("82 06", 0, 2), ("81", 1, 1), ("84 00 20 00", 4, 4)];
-            for (before, major, place) in places {
-                let wide = wide_head(major, below, width);
-                f.single(&format!("{before} {wide}"), &format!("refused 4 {place}"));
+            for major in [2, 3] {
+                f.single(&wide(major), if below == 0 { "accepted 1" } else { "refused 9 0" });
             }
+            for major in [4, 5] {
+                f.single(&wide(major), "refused 7 0");
+            }
+            f.single(&format!("82 06 {}", wide(0)), "accepted 3");
+            f.single(&format!("81 {}", wide(1)), "accepted 2");
+            let cut = format!("refused 2 {}", 5 + width);
+            let parameters = if below == 0 { "refused 12 4" } else { &cut };
+            f.single(&format!("84 00 20 00 {}", wide(4)), parameters);
         }
         f.single(&wide_head(0, least, width), "accepted 1");
         f.single(&wide_head(1, least, width), "accepted 1");
@@ -468,12 +478,90 @@ fn shortest(f: &mut Fixed) {
     }
     for (short, wide) in [("17", "1817"), ("18ff", "1900ff"), ("19ffff", "1a0000ffff")] {
         f.single(&format!("82 05 {short}"), "accepted 3");
-        f.single(&format!("82 05 {wide}"), "refused 4 2");
+        f.single(&format!("82 05 {wide}"), "accepted 3");
     }
-    f.message("18 01", "refused 4 0");
-    f.message("1b 0000000000000001", "refused 4 0");
-    f.message("01 98 02", "refused 4 1");
-    f.message("01 82 18 14 81 f6", "refused 4 2");
+    f.group("longer heads: in each place of a message");
+    for (width, version) in
+        [(1, "1801"), (2, "190001"), (4, "1a00000001"), (8, "1b0000000000000001")]
+    {
+        f.message(version, "accepted 1");
+        f.message(&wide_head(0, 0, width), "refused 8 0");
+        f.message(&wide_head(1, 1, width), "refused 7 0");
+        let w = |major, argument| wide_head(major, argument, width);
+        let reference = [w(4, 3), w(0, 5), w(1, 2), w(0, 7)].concat();
+        let set =
+            [w(4, 2), w(0, 20), w(4, 2), w(2, 1), "00".to_string(), reference.clone()].concat();
+        f.message(&format!("{version} {set}"), "accepted 9");
+        let report =
+            [w(4, 2), w(0, 21), w(4, 3), w(0, 9), w(1, 9), w(4, 3), w(1, 4), reference, w(3, 0)];
+        f.message(&format!("{version} {}", report.concat()), "accepted 13");
+        f.single(&report.concat(), "accepted 12");
+        f.single(&[w(4, 1), w(3, 2), "2161".to_string()].concat(), "accepted 2");
+        f.single(
+            &[w(4, 1), w(3, 2), "2131".to_string()].concat(),
+            &format!("refused 10 {}", 1 + width),
+        );
+        f.single(&[w(4, 2), w(0, 2), w(0, 255)].concat(), "accepted 3");
+    }
+    f.message("01 98 02", "refused 2 3");
+    f.message("01 82 18 14 81 f6", "accepted 5");
+    f.message("01 82 18 13 81 f6", "refused 7 2");
+    f.single("82 02 1a00000100", "refused 7 2");
+    f.group("longer heads of tags, simple values and floats");
+    f.single("d800 00", "refused 3 0");
+    f.single("f814", "refused 3 0");
+    f.single("f816", "refused 3 0");
+    f.single("fa47c35000", "accepted 1");
+    f.single("fb40f86a0000000000", "refused 4 0");
+}
+
+/// A message of `bytes` bytes, which is 11 and more, with every head in 9 bytes: the version,
+/// and sets whose nonce is a byte string.
+fn full_width(bytes: usize) -> String {
+    let w = |major, argument| wide_head(major, argument, 8);
+    let set = |length: usize| {
+        [w(4, 2), w(0, 20), w(4, 1), w(2, length as u64), "5a".repeat(length)].concat()
+    };
+    let mut message = w(0, 1);
+    let mut left = bytes - 9;
+    while left >= 2 * 36 {
+        message += &set(0);
+        left -= 36;
+    }
+    message + &set(left - 36)
+}
+
+fn full_widths(f: &mut Fixed) {
+    f.group("every head in 9 bytes: 4,096 bytes, and one more or fewer");
+    // 113 sets of four items each, the last with a longer string.
+    for (bytes, answer) in
+        [(4_095, "accepted 453"), (4_096, "accepted 453"), (4_097, "refused 1 0")]
+    {
+        f.message(&full_width(bytes), answer);
+    }
+    // A list of nulls, 9 + 9 + 9 bytes and one each.
+    for (members, answer) in
+        [(997, "accepted 1000"), (1_021, "accepted 1024"), (1_022, "refused 5 1048")]
+    {
+        let list = [wide_head(4, 2, 8), wide_head(0, 17, 8), wide_head(4, members, 8)].concat();
+        f.single(&format!("{list} {}", "f6".repeat(members as usize)), answer);
+    }
+    let nested = |depth: usize| {
+        [wide_head(4, 2, 8), wide_head(0, 17, 8), wide_head(4, 1, 8)].concat().repeat(depth)
+    };
+    f.single(&format!("{} 00", nested(6)), "accepted 19");
+    f.single(&format!("{} 9b0000000000000001 00", nested(6)), "refused 6 162");
+}
+
+fn examples_widened(f: &mut Fixed) {
+    f.group("RFC 8949's examples: each head at each larger width");
+    for example in examples() {
+        // By the accepted ones' own answers; a refusal's place may move.
+        let by_hand = if example.by_hand.starts_with("accepted") { example.by_hand } else { "" };
+        for wide in widened(&hex(example.hex)) {
+            f.single(&to_hex(&wide), by_hand);
+        }
+    }
 }
 
 fn floats(f: &mut Fixed) {
@@ -553,7 +641,7 @@ fn item_limit(f: &mut Fixed) {
     f.single(&last(""), "refused 2 1026");
     f.single(&last("18"), "refused 2 1026");
     f.single(&last("c0"), "refused 3 1026");
-    f.single(&last("1800"), "refused 4 1026");
+    f.single(&last("1800"), "refused 5 1026");
     f.single(&last("fa00000000"), "refused 4 1026");
     f.single(&last("3bffffffffffffffff"), "refused 5 1026");
     f.single(&last("80"), "refused 5 1026");
@@ -570,7 +658,7 @@ fn item_limit(f: &mut Fixed) {
     f.message(&report(1_013, ""), "refused 5 1026");
     f.message(&report(1_012, "00"), "refused 5 1026");
     f.message(&report(1_012, "82"), "refused 5 1026");
-    f.message(&report(1_012, "9802"), "refused 4 1026");
+    f.message(&report(1_012, "9802"), "refused 5 1026");
     f.message(&report(1_012, "ff"), "refused 3 1026");
     f.message(&report(1_011, "82"), "refused 2 1026");
     // A map's key as item 1,025, which would not be greater; then its value.
@@ -589,7 +677,7 @@ fn depth_limit(f: &mut Fixed) {
     for thirteenth in ["81 00", "80", "a0", "82 11 80", "84 00 20 00 80", "9b1000000000000000"] {
         f.single(&format!("{lists} {thirteenth}"), "refused 6 18");
     }
-    f.single(&format!("{lists} 9800"), "refused 4 18");
+    f.single(&format!("{lists} 9800"), "refused 6 18");
     f.single(&format!("{lists} 9f"), "refused 3 18");
     f.single(&format!("{lists} 98"), "refused 2 18");
     f.single(&format!("{lists} 41"), "refused 9 18");
@@ -626,7 +714,7 @@ fn depth_limit(f: &mut Fixed) {
     let filled = format!("{lists} {}", "00".repeat(1_006));
     f.single(&format!("{filled} 80"), "refused 5 1026");
     f.single(&format!("{lists} {} 80 00", "00".repeat(1_005)), "refused 6 1025");
-    f.single(&format!("{filled} 9800"), "refused 4 1026");
+    f.single(&format!("{filled} 9800"), "refused 5 1026");
 }
 
 fn kinds(f: &mut Fixed) {
@@ -933,7 +1021,8 @@ fn versions(f: &mut Fixed) {
         f.message(version, "refused 8 0");
     }
     f.message("02 ff", "refused 8 0");
-    f.message("1801", "refused 4 0");
+    f.message("1801", "accepted 1");
+    f.message("1802", "refused 8 0");
     f.message("20", "refused 7 0");
     f.message("f5", "refused 7 0");
     f.message("6131", "refused 7 0");
@@ -1126,6 +1215,27 @@ fn keys(f: &mut Fixed) {
         ("00", "6130", true),
         ("6141", "6161", true), // letters of both cases are two keys
         ("6161", "6141", false),
+        // by the bytes of the shortest heads
+        ("1800", "00", false),
+        ("00", "1800", false),
+        ("01", "1801", false),
+        ("1b0000000000000001", "1801", false),
+        ("1800", "01", true),
+        ("1b0000000000000000", "01", true),
+        ("01", "1800", false),
+        ("1900ff", "190100", true),
+        ("1b00000000000000ff", "190100", true),
+        ("190100", "1b00000000000000ff", false),
+        ("1b0000000000000005", "20", true),
+        ("20", "1b0000000000000005", false),
+        ("3800", "21", true),
+        ("21", "3800", false),
+        ("780161", "6161", false),
+        ("6161", "780161", false),
+        ("780161", "6162", true),
+        ("6162", "780161", false),
+        ("7b000000000000000162", "626161", true),
+        ("626161", "7b000000000000000162", false),
     ];
     for (one, two, rises) in pairs {
         let place = 4 + hex(one).len();
@@ -1150,7 +1260,7 @@ fn keys(f: &mut Fixed) {
     f.single("82 12 a2 63616161 f6 62 61", "refused 9 8");
     f.single("82 12 a2 6361ff61 f6 61ff f6", "refused 10 3");
     f.single("82 12 a2 63616161 f6 61ff f6", "refused 10 8");
-    f.single("82 12 a2 05 f6 1804 f6", "refused 4 5");
+    f.single("82 12 a2 05 f6 fa00000000 f6", "refused 4 5");
 }
 
 fn parameters(f: &mut Fixed) {
@@ -1163,7 +1273,7 @@ fn parameters(f: &mut Fixed) {
         f.message(&format!("01 82 14 82 f6 84 00 20 00 {empty}"), "refused 12 9");
         f.message(&format!("01 82 15 83 f6 00 82 00 84 00 20 00 {empty}"), "refused 12 12");
     }
-    f.single("84 00 20 00 9800", "refused 4 4");
+    f.single("84 00 20 00 9800", "refused 12 4");
     f.single("84 00 20 00 f6", "refused 7 4");
     f.single("82 11 80", "accepted 3");
     f.single("82 12 a0", "accepted 3");
@@ -1233,6 +1343,10 @@ fn records(f: &mut Fixed) {
          accepted 13",
     );
     f.items_single("f7", "0 0 1 0 - undefined\naccepted 1");
+    f.items_single(
+        "9802 190011 9a00000001 7b000000000000000161",
+        "0 0 20 0 - array 2\n1 2 5 1 - unsigned 17\n2 5 20 1 - array 1\n3 10 20 2 - text 1\naccepted 4",
+    );
     f.items_single(
         "82 11 88 f4 f5 f6 f7 f97e00 fa47c35000 fb3ff199999999999a 41ff",
         "0 0 26 0 - array 2\n1 1 2 1 - unsigned 17\n2 2 26 1 - array 8\n3 3 4 2 - false\n\

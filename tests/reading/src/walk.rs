@@ -68,6 +68,8 @@ fn refusal(test: Test, place: usize) -> Refusal {
 
 type Read = Result<(), Refusal>;
 
+type Key<'a> = (head::Shortest, &'a [u8]);
+
 /// "n is at most 2^63 - 1" in a negative head; also the greatest VAST.
 const MAX: u64 = i64::MAX as u64;
 
@@ -306,22 +308,30 @@ impl<'a, V: Visitor> Reader<'a, V> {
     }
 
     /// "Map keys are integers or text strings; each key's bytes are greater, in
-    /// byte order, than those of the key before [...]. Map values are ARIs."
+    /// byte order, than those of the key before [...]. Map values are ARIs." "Key
+    /// order [...] judged on the shortened bytes."
     fn pairs(&mut self, count: u64, within: Within) -> Read {
-        let mut before: &[u8] = &[];
+        let mut before = None;
         for _ in 0..count {
             let head = self.head()?;
             let first = head.first;
-            match head.kind {
-                Kind::Unsigned(_) | Kind::Negative(0..=MAX) => self.leaf(head)?,
-                Kind::Text(length) => self.string(head, length, is_utf8)?,
+            let kind = head.kind;
+            let length = match kind {
+                Kind::Unsigned(_) | Kind::Negative(0..=MAX) => {
+                    self.leaf(head)?;
+                    0
+                }
+                Kind::Text(length) => {
+                    self.string(head, length, is_utf8)?;
+                    length as usize
+                }
                 _ => return head.refuse(Test::NotAllowed),
-            }
-            let key = &self.input[first..self.at()];
-            if key <= before {
+            };
+            let key = (head::shortest(kind), &self.input[self.at() - length..self.at()]);
+            if before.is_some_and(|before| !is_below(before, key)) {
                 return Err(refusal(Test::KeyOrder, first));
             }
-            before = key;
+            before = Some(key);
             self.ari(within)?;
         }
         Ok(())
@@ -427,6 +437,14 @@ impl<'a, V: Visitor> Reader<'a, V> {
             _ => head.refuse(Test::NotAllowed),
         }
     }
+}
+
+/// Byte order of two keys, each the bytes of its shortest head and of its string.
+fn is_below(one: Key, other: Key) -> bool {
+    fn bytes<'a>(key: &'a Key) -> impl Iterator<Item = &'a u8> {
+        key.0.iter().chain(key.1)
+    }
+    bytes(&one).lt(bytes(&other))
 }
 
 /// A byte string may hold anything ("byte string, never opened").

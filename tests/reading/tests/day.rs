@@ -210,7 +210,8 @@ fn damaged_tables() {
 
 #[test]
 fn refused_messages() {
-    let wrong = ["02", "0182", "01821481", "0180", "01c1", "0182148118 00", "82", "01 00", "01 01"];
+    let wrong =
+        ["02", "0182", "01821481", "0180", "01c1", "01821481 fa00000000", "82", "01 00", "01 01"];
     for wrong in wrong {
         assert!(matches!(check_message(&hex(wrong)), Answer::Refused { .. }), "{wrong}");
         let with = |messages: &[&str]| checked(&file(messages));
@@ -313,7 +314,7 @@ fn order_of_refusals() {
         ("", "refused 2 0"),
         ("02", "refused 8 0"),
         ("01c1", "refused 3 1"),
-        ("0182148118 00", "refused 4 4"),
+        ("01821481 fa00000000", "refused 4 4"),
         ("0182148144", "refused 9 4"),
         ("01821482f6836120 2000", "refused 10 6"),
         ("01821482f684f62000a200f600f6", "refused 11 12"),

@@ -516,8 +516,11 @@ fn names_are_as_good_as_their_numbers() {
                 true => generate::put_head(&mut put, 1, !number as u64),
                 false => generate::put_head(&mut put, 0, number as u64),
             }
-            let after = place + name.len() + if name.len() < 24 { 1 } else { 2 };
-            translated.splice(place..after, put);
+            let head = match message[place] & 31 {
+                info @ 24..=27 => 1 + (1 << (info - 24)),
+                _ => 1,
+            };
+            translated.splice(place..place + head + name.len(), put);
             named += 1;
         }
         if translated.len() > LIMITS.bytes {

@@ -170,13 +170,10 @@ fn records_agree_with_the_check() {
                     ends.pop();
                 }
                 assert_eq!((record.first, record.around), (at, ends.len()));
-                let mut head = Vec::new();
-                match record.kind {
-                    Kind::Array(n) => generate::put_head(&mut head, 4, n),
-                    Kind::Map(n) => generate::put_head(&mut head, 5, n),
-                    _ => head.resize(record.after - record.first, 0),
-                }
-                at += head.len();
+                at = match record.kind {
+                    Kind::Array(_) | Kind::Map(_) => at + head_size(&input[at..]),
+                    _ => record.after,
+                };
                 if matches!(record.kind, Kind::Array(1..) | Kind::Map(1..)) {
                     ends.push(record.after);
                 } else {
@@ -185,6 +182,14 @@ fn records_agree_with_the_check() {
             }
             assert_eq!(at, input.len());
         }
+    }
+}
+
+/// The bytes of a head, by the info in its first byte.
+fn head_size(bytes: &[u8]) -> usize {
+    match bytes[0] & 31 {
+        info @ 24..=27 => 1 + (1 << (info - 24)),
+        _ => 1,
     }
 }
 
@@ -197,7 +202,15 @@ fn items_belong_to_targets() {
         for (is_message, records) in [(true, items_message(&input)), (false, items_single(&input))]
         {
             let Ok(records) = records else { continue };
-            let is_set = is_message || matches!(input[..], [0x82, 0x14 | 0x15, ..]);
+            let is_set = is_message
+                || matches!(
+                    records[..],
+                    [
+                        Record { kind: Kind::Array(2), .. },
+                        Record { kind: Kind::Unsigned(20 | 21), .. },
+                        ..
+                    ]
+                );
             let targets: Vec<_> = records
                 .iter()
                 .filter(|r| is_set && r.around == 2 && matches!(r.kind, Kind::Array(_)))

@@ -52,7 +52,8 @@ fn small_messages() {
 fn missing_bytes_may_come() {
     assert_eq!(fed_hex(&["0182148119"]), "on; refused 2 4");
     assert_eq!(fed_hex(&["0182148119", "04", "d2"]), "on; on; on; items 5, entries 0");
-    assert_eq!(fed_hex(&["0182148119", "00d2"]), "on; refused 4 4; refused 4 4");
+    assert_eq!(fed_hex(&["0182148119", "00", "d2"]), "on; on; on; items 5, entries 0");
+    assert_eq!(fed_hex(&["01821481fa", "0000", "0000"]), "on; on; refused 4 4; refused 4 4");
     assert_eq!(fed_hex(&["0182148144"]), "on; refused 9 4");
     assert_eq!(fed_hex(&["0182148144", "000000", "00"]), "on; on; on; items 5, entries 0");
     let object = "01821482f683";
@@ -67,7 +68,7 @@ fn a_refusal_stands() {
     let twelve_open = "01821482f6".to_string() + &"84f6200081".repeat(5);
     for (start, byte, refusal) in [
         ("01", "c1", "refused 3 1"),
-        ("0182148118", "00", "refused 4 4"),
+        ("01821481fa000000", "00", "refused 4 4"),
         (&thousand_items[..2 * 1_024], "f6", "refused 5 1024"),
         (&twelve_open, "81", "refused 6 30"),
         ("01", "80", "refused 7 1"),

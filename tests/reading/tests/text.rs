@@ -85,19 +85,23 @@ fn aris(count: usize, seed: u64) -> impl Iterator<Item = Vec<u8>> {
     })
 }
 
-/// Binary to text and back, and "A text has at most 4 bytes, and 3 for each binary
+/// "binary to text and back gives" the shortened form, and "A text has at most 4 bytes, and 3 for each binary
 /// byte and 16 for each item."
 #[test]
 fn every_text_is_read_back() {
-    let mut texts = 0;
+    let (mut texts, mut longer) = (0, 0);
     for ari in aris(4_000, 5) {
         let Ok((text, items)) = text_of(&ari, &LIMITS) else { continue };
         texts += 1;
         assert_eq!(check_single(&ari), Answer::Accepted(items));
         assert!(text.len() <= 4 + 3 * ari.len() + 16 * items);
-        assert_eq!(read(&text), to_hex(&ari));
+        let short = shortened(&ari);
+        longer += usize::from(short != ari);
+        assert_eq!(read(&text), to_hex(&short));
+        assert_eq!(check_single(&short), Answer::Accepted(items));
+        assert_eq!(shortened(&short), short);
     }
-    assert!(texts > 2_000, "{texts}");
+    assert!(texts > 2_000 && longer > 800, "{texts} {longer}");
 }
 
 /// What is read is the text of what it gives: every text one byte from a good one.

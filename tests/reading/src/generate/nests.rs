@@ -58,6 +58,7 @@ pub fn nest(random: &mut Random, containers: usize) -> Nest {
         small_numbers: random.chance(50),
         floats: random.chance(20),
         few_namespaces: true,
+        wide: random.pick(&[0, 0, 50]),
     };
     let mut down = Down { w: Writer::new(random, settings), space };
     down.message(containers);
