@@ -76,9 +76,9 @@ enum surfbodkin_test {
   SURFBODKIN_TOO_LONG = 1,            /* more bytes than the limit; place 0 */
   SURFBODKIN_CUT = 2,                 /* ends where a head is due, or inside one */
   SURFBODKIN_NOT_IN_USE = 3,          /* a head that is not used here, as a tag */
-  SURFBODKIN_NOT_SHORTEST = 4,        /* a shorter float would do, or another NaN; of
-                                         numbers and lengths any head that holds them
-                                         is taken since request (ix) */
+  SURFBODKIN_NOT_SHORTEST = 4,        /* a shorter float would do, or another NaN;
+                                         numbers and lengths may stand in longer heads,
+                                         which earlier versions refused with this */
   SURFBODKIN_TOO_MANY_ITEMS = 5,
   SURFBODKIN_TOO_MANY_CONTAINERS = 6,
   SURFBODKIN_NOT_ALLOWED = 7,         /* kind, range or length not allowed here */

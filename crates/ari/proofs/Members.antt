@@ -59,8 +59,7 @@ module _ (s : Slot) (p d : ℕ) (l : Lead) (str : List ℕ) (ms : Items) where
       → Pairs Inside inner → Pairs Inside (spots rs more v e d) → Pairs Inside (x ∷ (inner ++ spots rs more v e d))
   inside-item more v rs prev prev′ f g a b =
       let here : All (Between q e) inner = between (forest ms false (members s l) prev q (suc d) f) in
-      let there : All (Between e (e + length (encode rs))) (spots rs more v e d) = between (forest rs more v prev′ e d g) in
-      (
+      let there : All (Between e (e + length (encode rs))) (spots rs more v e d) = between (forest rs more v prev′ e d g) in (
         all-append (all-map (λ y m k. m) (all-mems inner)) (all-map (λ y z k. absurd (omega arith)) there),
         pairs-append inner a b (all-map (λ u w. all-map (λ y z k. absurd (omega arith)) there) here),
       )

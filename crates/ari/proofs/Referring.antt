@@ -2,7 +2,7 @@
 use Prim.Native.Nat.{ℕ, suc}
 use mathlib.Core.Path.{_≡_, refl, _∙_, ap}
 use mathlib.Core.Bool.{Bool, true, false, not, cond, and-false, true≢false}
-use mathlib.Core.List.{List, [], _∷_, _++_, append-nil, append-assoc, map}
+use mathlib.Core.List.{List, [], _∷_, _++_, append-nil, append-assoc, map, map-append}
 use lib.Dec.{eqb}
 use borrow.Author.Tests.{ne-eqb}
 use Rattle.cbor.specs.Head.{array, Lead, isContainer}
@@ -23,14 +23,17 @@ placeOf x = placed (x .first) (x .lead) (x .str) (x .inside)
 abbrev pub found : List Spot → List Placed
 found xs = map placeOf (referring xs)
 
-found-append : (xs ys : List Spot) → found (xs ++ ys) ≡ found xs ++ found ys
-found-append [] ys = refl
-found-append (x ∷ xs) ys = go (isReference (x .slot) (x .lead)) (found-append xs ys)
+pub referring-append : (xs ys : List Spot) → referring (xs ++ ys) ≡ referring xs ++ referring ys
+referring-append [] ys = refl
+referring-append (x ∷ xs) ys = go (isReference (x .slot) (x .lead)) (referring-append xs ys)
   where
-    go : (t : Bool) → found (xs ++ ys) ≡ found xs ++ found ys
-        → map placeOf (cond t (x ∷ referring (xs ++ ys)) (referring (xs ++ ys))) ≡ map placeOf (cond t (x ∷ referring xs) (referring xs)) ++ found ys
-    go true e = ap (λ r. placeOf x ∷ r) e
+    go : (t : Bool) → referring (xs ++ ys) ≡ referring xs ++ referring ys
+        → cond t (x ∷ referring (xs ++ ys)) (referring (xs ++ ys)) ≡ cond t (x ∷ referring xs) (referring xs) ++ referring ys
+    go true e = ap (λ (r : List Spot). x ∷ r) e
     go false e = e
+
+found-append : (xs ys : List Spot) → found (xs ++ ys) ≡ found xs ++ found ys
+found-append xs ys = ap (map placeOf) (referring-append xs ys) ∙ map-append placeOf (referring xs) (referring ys)
 
 -- the level inside an array or a map
 inside-held : (s : Slot) {k n : ℕ} {l : Lead} {str : List ℕ} → isContainer k ≡ true → Holds k n l str → members s l ≡ memberLevel s k n

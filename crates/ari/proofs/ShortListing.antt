@@ -2,7 +2,7 @@
 use Prim.Native.Nat.{ℕ, suc, _+_}
 use mathlib.Core.Path.{_≡_, refl, sym, _∙_, ap}
 use mathlib.Core.Bool.{Bool, true, false, cond}
-use mathlib.Core.List.{List, [], _∷_, _++_, map}
+use mathlib.Core.List.{List, [], _∷_, _++_, map, map-append}
 use lib.ListN.{length}
 use lib.IntN.{pos, negsuc}
 use lib.Dec.{eqb}
@@ -13,22 +13,18 @@ use Rattle.ari.specs.declared.Input.the-variants.{Message}
 use Rattle.ari.specs.Items.{Items, none, item, encode, Spot, insideAt, spotAt, spots}
 use Rattle.ari.specs.Decode.{decode}
 use Rattle.ari.specs.Rules.{Is}
-use Rattle.ari.specs.Listing.{Space, number, name, relative, spaceAt, spaceIn, entryOf, referring, listing}
-use Rattle.ari.specs.Shortened.{shortLead, shortened, unplaced, namespaces}
+use Rattle.ari.specs.Listing.{Space, number, name, relative, Entry, spaceAt, spaceIn, entryOf, referring, listing}
+use Rattle.ari.specs.Shortened.{shortLead, shortened, shortForm, unplaced, namespaces}
 use Rattle.ari.proofs.Shortened.{short-kind, short-arg, short-members, shortened-is}
 use Rattle.ari.proofs.Demand.{unique}
+use Rattle.ari.proofs.Referring.{referring-append}
 
 -- of items with their places, what they say without
 abbrev spacesOf : List Spot → List Space
 spacesOf xs = namespaces (map entryOf (referring xs))
 
 spaces-append : (xs ys : List Spot) → spacesOf (xs ++ ys) ≡ spacesOf xs ++ spacesOf ys
-spaces-append [] ys = refl
-spaces-append (x ∷ xs) ys = go (spaces-append xs ys) (isReference (x .slot) (x .lead))
-  where
-    go : spacesOf (xs ++ ys) ≡ spacesOf xs ++ spacesOf ys → (t : Bool) → namespaces (map entryOf (cond t (x ∷ referring (xs ++ ys)) (referring (xs ++ ys)))) ≡ namespaces (map entryOf (cond t (x ∷ referring xs) (referring xs))) ++ spacesOf ys
-    go h true = ap (λ (z : List Space). unplaced (entryOf x .space) ∷ z) h
-    go h false = h
+spaces-append xs ys = rw (referring-append xs ys, map-append entryOf (referring xs) (referring ys), map-append (λ (e : Entry). unplaced (e .space)) (map entryOf (referring xs)) (map entryOf (referring ys)))
 
 short-space-at : (p q : ℕ) (l : Lead) (s : List ℕ) → unplaced (spaceAt q (shortLead l) s) ≡ unplaced (spaceAt p l s)
 short-space-at p q l s = rw (short-kind l, short-arg l) (go (eqb (l .kind) unsigned) (eqb (l .kind) negative) (eqb (l .kind) text))
@@ -95,8 +91,8 @@ short-spaces (item l s ms rs) more (due t n) p q d e =
     rw (short-members t l, short-arg l) (short-one t p q d e l s ms (xs ++ xr) (ys ++ yr) (short-both xs xr ys yr h k))
 
 -- The listings of an accepted message and of its shortened form have the same namespaces, one entry each.
-pub same-namespaces : (m : Limits) (b : List ℕ) (n : ℕ) → Is m Message b (decode b) n → namespaces (listing (encode (shortened (decode b)))) ≡ namespaces (listing b)
+pub same-namespaces : (m : Limits) (b : List ℕ) (n : ℕ) → Is m Message b (decode b) n → namespaces (listing (shortForm b)) ≡ namespaces (listing b)
 unfolding listing
 same-namespaces m b n c =
-    let u : shortened (decode b) ≡ decode (encode (shortened (decode b))) = unique m Message (encode (shortened (decode b))) (shortened-is c) in
+    let u : shortened (decode b) ≡ decode (shortForm b) = unique m Message (shortForm b) (shortened-is c) in
     ap (λ (g : Items). spacesOf (spots g true (due version 0) 0 0)) (sym u) ∙ short-spaces (decode b) true (due version 0) 0 0 0 0

@@ -86,18 +86,16 @@ pub short-fit : (g : Items) (more : Bool) (v : Level) (prev : List ℕ) → Fit 
 short-fit none more v prev f = f
 short-fit (item l str ms rs) false done prev f = f
 short-fit (item l str ms rs) true done prev f =
-    let s : Slot = ari message in
-    (
+    let s : Slot = ari message in (
       short-good (f .0),
       rw (short-members s l) (short-fit ms false (members s l) [] (f .1)),
       rw (short-kind l, short-arg l) (short-fit rs true (rule s .next (l .arg) 0) (prevAfter s [] l str) (f .2)),
     )
-short-fit (item l str ms rs) more (due s n) prev f =
-    (
-      short-good (f .0),
-      rw (short-members s l) (short-fit ms false (members s l) [] (f .1)),
-      rw (short-kind l, short-arg l) (short-fit rs more (rule s .next (l .arg) n) (prevAfter s prev l str) (f .2)),
-    )
+short-fit (item l str ms rs) more (due s n) prev f = (
+  short-good (f .0),
+  rw (short-members s l) (short-fit ms false (members s l) [] (f .1)),
+  rw (short-kind l, short-arg l) (short-fit rs more (rule s .next (l .arg) n) (prevAfter s prev l str) (f .2)),
+)
 
 pub short-heads : (g : Items) → heads (shortened g) ≡ heads g
 short-heads none = refl

@@ -34,9 +34,13 @@ abbrev pub targets : List Spot → List Spot
 targets [] = []
 targets (x ∷ xs) = let r = targets xs in cond (isTarget (x .slot)) (x ∷ r) r
 
--- an item's bytes hold those of another, or are the same
+-- an item's bytes hold those from one byte to another
+abbrev pub around : Spot → ℕ → ℕ → Bool
+around y first after = leb (y .first) first && leb after (y .after)
+
+-- those of another, or are the same
 abbrev pub holds : Spot → Spot → Bool
-holds y x = leb (y .first) (x .first) && leb (x .after) (y .after)
+holds y x = around y (x .first) (x .after)
 
 -- R169: the number, from n on, of the one that holds an item
 abbrev pub numberFrom : ℕ → List Spot → Spot → Target

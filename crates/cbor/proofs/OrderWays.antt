@@ -15,12 +15,13 @@ use borrow.Author.Tests.{lt-ltb, le-ltb, eq-eqb, ne-eqb, ltb-true, ltb-false, eq
 use Rattle.buffer.specs.Bytes.{be, part}
 use Rattle.buffer.proofs.RunLaws.{part-all}
 use Rattle.cbor.specs.Byte.{below}
-use Rattle.cbor.specs.Head.{width, shortest, majorOf, shortBytes, keyOf, size, Lead, Got, bad, got, getHead}
+use Rattle.cbor.specs.Head.{width, shortest, majorOf, leadBytes, shortBytes, keyOf, size, Lead, Got, bad, got, getHead, counted, itself}
 use Rattle.cbor.specs.declared.Key.{Key}
-use Rattle.cbor.specs.Keys.{KeyAt, KeyHead}
+use Rattle.cbor.specs.Keys.{OwnKey, KeyAt, KeyHead}
 use Rattle.cbor.specs.declared.Head.{Head}
 use Rattle.cbor.specs.declared.Head.the-variants.{Bad, Good}
 use Rattle.cbor.specs.Answer.{headAt}
+use Rattle.cbor.proofs.HeadLaws.{width-small, getHead-back}
 use Rattle.cbor.proofs.HeadWays.{Read, read, refused}
 
 module _ (a b : List ℕ) (i : ℕ) (e : below a b ≡ below (drop i a) (drop i b)) where
@@ -276,4 +277,30 @@ module _ {a b : List ℕ} {x y : Key} (p : KeyHead a x) (q : KeyHead b y) where
     pub second-inside : y .next ≤ length b
     second-inside = second .inside
 
-pub ruleset keys = (no-head, no-count, key-at, second-none, first-none, kinds-differ, arguments-differ, strings-decide, first-inside, second-inside)
+-- A key with a head of one byte.
+own-key : (x : ℕ) (xs : List ℕ) → x < 192 → x % 32 < 24 → keyOf (x ∷ xs) ≡ x ∷ xs
+unfolding shortBytes shortest majorOf leadBytes
+own-key x xs h q =
+    let k : x / 32 ≤ 5 = omega (arith, div-add-mod' x 32) in
+    let l : Lead = record { info = x % 32; kind = x / 32; arg = x % 32 } in
+    let w : width (x % 32) ≡ 0 = width-small (x % 32) q in
+    let f : x / 32 * 32 + x % 32 ≡ x = omega (arith, div-add-mod' x 32) in
+    let b : leadBytes l ++ xs ≡ x ∷ xs = rw (le-leb (x / 32) 5 k, w, f) in
+    let g : getHead (x ∷ xs) ≡ got l = rw (← b) (getHead-back {l = l} xs (counted k (itself q refl))) in
+    key-got (x ∷ xs) l g k ∙ rw (lt-ltb (x % 32) 24 q, le-leb (x / 32) 5 k, w, f)
+
+module _ {s : List ℕ} where
+  pub own-none : OwnKey s false
+  own-none = record { own = λ e. absurd (true≢false (sym e)) }
+
+  pub own-short : (length s ≡ 0 → ⊥) → getD s 0 0 < 192 → OwnKey s (ltb (getD s 0 0 % 32) 24)
+  own-short n h = record { own = λ t. go s n h (ltb-true (getD s 0 0 % 32) 24 t) }
+    where
+      go : (u : List ℕ) → (length u ≡ 0 → ⊥) → getD u 0 0 < 192 → getD u 0 0 % 32 < 24 → keyOf u ≡ u
+      go [] z h q = absurd (z refl)
+      go (y ∷ ys) z h q = own-key y ys h q
+
+pub own-order : {a b : List ℕ} {r t w : Bool} → OwnKey a r → OwnKey b t → r ≡ true → t ≡ true → w ≡ below a b → w ≡ below (keyOf a) (keyOf b)
+own-order p q e f o = rw (p .own e, q .own f) o
+
+pub ruleset keys = (own-none, own-short, own-order, no-head, no-count, key-at, second-none, first-none, kinds-differ, arguments-differ, strings-decide, first-inside, second-inside)

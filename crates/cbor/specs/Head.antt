@@ -50,12 +50,12 @@ pub record Lead : Type 0 where
 unfoldable pub width : ℕ → ℕ
 width i = cond (eqb i 24) 1 (cond (eqb i 25) 2 (cond (eqb i 26) 4 (cond (eqb i 27) 8 0)))
 
--- R13: an info carries an argument: itself below 24, or in the bytes behind it, as many as there had to be or more
+-- R9, R180: an info carries an argument: itself below 24, or in the bytes behind it, as many as there had to be or more
 pub data Carries (i a : ℕ) : Type 0 where
   itself : i < 24 → a ≡ i → Carries i a
   after : 24 ≤ i → i ≤ 27 → a < 256 ^ width i → Carries i a
 
--- the info of the shortest head
+-- R13: the info of the shortest head
 unfoldable pub shortest : ℕ → ℕ
 shortest a = cond (ltb a 24) a (cond (ltb a 256) 24 (cond (ltb a 65536) 25 (cond (ltb a 4294967296) 26 27)))
 
@@ -151,7 +151,7 @@ keyOf b = keyBy (getHead b) b
 
 -- the heads that may be written: R9 to R19, with no reading in it
 pub data Sound (l : Lead) : Type 0 where
-  -- R10, R13, R14; the range of negative numbers is test 7's
+  -- R10, R14, R180; the range of negative numbers is test 7's
   counted : l .kind ≤ map → Carries (l .info) (l .arg) → Sound l
   -- R11
   a-simple : l .kind ≡ simple → 20 ≤ l .arg → l .arg ≤ 23 → l .info ≡ l .arg → Sound l

@@ -20,3 +20,7 @@ KeyBy s kind arg next false = keyOf s ≡ []
 
 pub record KeyHead (s : List ℕ) (x : Key) : Type 0 where
   pub by : KeyBy s (x .kind) (x .arg) (x .next) (x .is)
+
+-- where the answer is yes, a key's own bytes order it
+pub record OwnKey (s : List ℕ) (r : Bool) : Type 0 where
+  pub own : r ≡ true → keyOf s ≡ s

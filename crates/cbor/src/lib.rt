@@ -7,7 +7,7 @@ ghost use Rattle.buffer.specs.Put.{Put};
 ghost use Rattle.buffer.specs.Runs.{RunTo};
 ghost use Rattle.cbor.specs.Byte.{below};
 ghost use Rattle.cbor.specs.Head.{divides, tooLong, badHalf, badFloat, getFrom, headBytes, keyOf};
-ghost use Rattle.cbor.specs.Keys.{KeyHead};
+ghost use Rattle.cbor.specs.Keys.{OwnKey, KeyHead};
 ghost use Rattle.cbor.specs.Answer.{answer, headAt, judged, Passed, follows, Tail, Sequence};
 ghost use Rattle.cbor.specs.Utf8.{utf8, isAscii, AsciiTo};
 
@@ -467,10 +467,29 @@ fn key_of(s: &[u8]) -> Key
     }
 }
 
+// A key whose head is one byte is ordered by its own bytes. Most are.
+fn is_own_key(s: &[u8]) -> bool
+    ensures { λ r. ⌜ OwnKey (now (s .entry)) r ⌝ }
+{
+    if s.len() == 0 {
+        return false;
+    }
+    let x = s[0];
+    if 192 <= x {
+        return false;
+    }
+    x % 32 < 24
+}
+
 // Whether a map's key comes before another's, each by its head and its string: heads in their shortest form are ordered as their kinds and arguments are.
 pub fn is_key_below(a: &[u8], b: &[u8]) -> bool
     ensures { λ r. ⌜ r ≡ below (keyOf (now (a .entry))) (keyOf (now (b .entry))) ⌝ }
 {
+    if is_own_key(a) {
+        if is_own_key(b) {
+            return is_below(a, b);
+        }
+    }
     let x = key_of(a);
     let y = key_of(b);
     if !y.is {

@@ -3,7 +3,7 @@ use Prim.Native.Nat.{ℕ, zero, suc, pred, _+_, _<_}
 use mathlib.Core.Path.{_≡_, refl, sym, _∙_, ap}
 use mathlib.Core.Logic.{_≢_}
 use mathlib.Core.Bool.{true, false}
-use mathlib.Core.List.{List, [], _∷_, _++_, map}
+use mathlib.Core.List.{List, [], _∷_, _++_, map, map-append}
 use native.Mathlib.Omega.{arith}
 use lib.ListN.{length, set, length-append, length-map}
 use lib.Seq.{sets, set-comm}
@@ -20,10 +20,6 @@ set-sets l i a j [] h = refl
 set-sets l i a j (v ∷ vs) h =
     let n : j ≢ i = λ e. omega arith in
     rw (set-comm l j i v a n) at (set-sets (set l j v) i a (suc j) vs (omega arith))
-
-pub map-append : (f : Spot → ℕ) (xs ys : List Spot) → map f (xs ++ ys) ≡ map f xs ++ map f ys
-map-append f [] ys = refl
-map-append f (x ∷ xs) ys = ap (λ (l : List ℕ). f x ∷ l) (map-append f xs ys)
 
 -- a level has an item for each head
 pub spots-heads : (g : Items) (v : Level) (prev : List ℕ) (d p around : ℕ) → Due g (push v prev d end) → length (spots g false v p around) ≡ heads g

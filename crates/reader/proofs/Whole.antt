@@ -2,7 +2,7 @@
 use Prim.Native.Nat.{ℕ, zero, suc, _+_, _-_, _≤_, _<_}
 use mathlib.Core.Path.{_≡_, refl, sym, _∙_, ap}
 use mathlib.Core.Bool.{Bool, true, false, cond}
-use mathlib.Core.List.{List, [], _∷_, _++_, map, append-nil, append-assoc}
+use mathlib.Core.List.{List, [], _∷_, _++_, map, map-append, append-nil, append-assoc}
 use native.Mathlib.Omega.{arith}
 use native.Mathlib.Nat.{sub-zero}
 use lib.ListN.{length, getD, drop, length-append, length-map, length-drop, drop-of-length-le}
@@ -35,7 +35,7 @@ use Rattle.reader.specs.declared.Answer.the-variants.{Accepted}
 use Rattle.reader.specs.declared.Answer.the-variants as answers
 use Rattle.reader.specs.Walks.{entries, Held, Walked, SetsHeld, SetsWalked, afterWalk, afterSets}
 use Rattle.reader.specs.Answers.{answerOf, refusalOf, Kept}
-use Rattle.reader.proofs.Tables.{spots-heads, map-append}
+use Rattle.reader.proofs.Tables.{spots-heads}
 
 -- a level and the sets behind it
 spots-join : (g h : Items) (v : Level) (prev : List ℕ) (d p around : ℕ) → Due g (push v prev d end)

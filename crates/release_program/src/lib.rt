@@ -124,7 +124,14 @@ fn put_not_granted(out: &mut [u8], at: usize, words: &[u8], subscriber: u64) -> 
 }
 
 // Why a name's namespace is not granted: the number that it stands for, or the list that does not have it.
-fn put_named<'a>(out: &mut [u8], at: usize, name: &[u8], published: &'a [u8], own: &'a [u8], subscriber: u64) -> usize {
+fn put_named<'a>(
+    out: &mut [u8],
+    at: usize,
+    name: &[u8],
+    published: &'a [u8],
+    own: &'a [u8],
+    subscriber: u64,
+) -> usize {
     let a = buffer::put_all(out, at, b"namespace ");
     let b = buffer::put_all(out, a, name);
     match names::number_for(published, own, name) {
@@ -200,7 +207,7 @@ fn less(a: u64, b: u64) -> u64 {
 }
 
 fn put_parameters(s: &[u8], first: usize, out: &mut [u8], at: usize) -> usize {
-    match cbor::head_at(s, first) {
+    match cbor::head_again(s, first) {
         cbor::Head::Good {
             kind,
             arg: _,
@@ -417,7 +424,13 @@ fn explain<'a>(
 }
 
 // At most one byte past the limit is read.
-fn judge_input<'a>(asked: Asked, grants: &[u8], published: &'a [u8], own: &'a [u8], subscriber: u64) {
+fn judge_input<'a>(
+    asked: Asked,
+    grants: &[u8],
+    published: &'a [u8],
+    own: &'a [u8],
+    subscriber: u64,
+) {
     let mut input = [0u8; ari::BYTES + 1];
     let n = io::read_full(0, &mut input);
     let mut room = [0u8; listing::ROOM];
@@ -531,4 +544,3 @@ pub fn run(asked: Asked, usage: &[u8]) {
         }
     }
 }
-

@@ -27,21 +27,9 @@ use Rattle.text.proofs.Leads.{isSetType, namespace-named, type-word}
 use Rattle.text.proofs.Below.{Spells, an-ari}
 use Rattle.text.proofs.Ahead.{stops, held-text}
 use Rattle.text.proofs.Back.{reads}
+use Rattle.text.proofs.Short.{float-split, no-float}
 
 -- no float among the spots, and bytes alone: no float among the items
-float-split : (xs ys : List Spot) → floatIn (xs ++ ys) ≡ spelled → (floatIn xs ≡ spelled) × (floatIn ys ≡ spelled)
-float-split [] ys e = (refl, e)
-float-split (x ∷ xs) ys e = go (isFloat (x .lead)) e (float-split xs ys)
-  where
-    go : (t : Bool) → cond t (none-at (x .first)) (floatIn (xs ++ ys)) ≡ spelled → (floatIn (xs ++ ys) ≡ spelled → (floatIn xs ≡ spelled) × (floatIn ys ≡ spelled))
-        → (cond t (none-at (x .first)) (floatIn xs) ≡ spelled) × (floatIn ys ≡ spelled)
-    go true f ih = (f, cc)
-    go false f ih = ih f
-
-no-float : (t : Bool) (p : ℕ) (r : Form) → cond t (none-at p) r ≡ spelled → (t ≡ false) × (r ≡ spelled)
-no-float true p r e = (cc, cc)
-no-float false p r e = (refl, e)
-
 spells : (g : Items) (v : Level) (prev : List ℕ) (p d : ℕ) → Fit g false v prev → floatIn (spots g false v p d) ≡ spelled → all isByte (encode g) ≡ true → Spells g
 spells none v prev p d f e b = tt
 spells (item l s ms rs) done prev p d f e b = absurd f

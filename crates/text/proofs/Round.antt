@@ -18,7 +18,7 @@ use Rattle.ari.specs.Items.{Items, encode, heads}
 use Rattle.ari.specs.Decode.{decode}
 use Rattle.ari.specs.Rules.{Is}
 use Rattle.ari.specs.Limits.{firstLimits, capped}
-use Rattle.ari.specs.Shortened.{shortened}
+use Rattle.ari.specs.Shortened.{shortened, shortForm}
 use Rattle.ari.proofs.Shortened.{shortened-is}
 use Rattle.ari.proofs.Demand.{stands-fit, demand-two, unique, is-read}
 use Rattle.ari.proofs.Weight.{well-fit}
@@ -40,10 +40,6 @@ text-of e = cc
 count-of : {t u : List ℕ} {n k : ℕ} → output t n ≡ output u k → n ≡ k
 count-of e = cc
 
--- an ARI's bytes with every head in its shortest form
-abbrev pub shortBytesOf : List ℕ → List ℕ
-shortBytesOf b = encode (shortened (decode b))
-
 module _ (m : Limits) where
   module _ {t b : List ℕ} {n : ℕ} where
     spelled-written : Spelled m t b n → writeText m b ≡ output t n
@@ -51,14 +47,14 @@ module _ (m : Limits) where
     spelled-written c = rw (is-read m Single b (c .is), c .has-text, c .the-text)
 
     -- its shortened form has the same text
-    spelled-short : Spelled m t b n → Spelled m t (shortBytesOf b) n
+    spelled-short : Spelled m t b n → Spelled m t (shortForm b) n
     spelled-short c =
-        let i : Is m Single (shortBytesOf b) (shortened (decode b)) n = shortened-is (c .is) in
-        let u : shortened (decode b) ≡ decode (shortBytesOf b) = unique m Single (shortBytesOf b) i in
+        let i : Is m Single (shortForm b) (shortened (decode b)) n = shortened-is (c .is) in
+        let u : shortened (decode b) ≡ decode (shortForm b) = unique m Single (shortForm b) i in
         record {
-            is = subst (λ (g : Items). Is m Single (shortBytesOf b) g n) u i;
-            has-text = subst (λ (g : Items). form g ≡ spelled) u (short-form (decode b) (c .has-text));
-            the-text = subst (λ (g : Items). textOf g ≡ t) u (short-text (decode b) ∙ c .the-text)
+          is = subst (λ (g : Items). Is m Single (shortForm b) g n) u i;
+          has-text = subst (λ (g : Items). form g ≡ spelled) u (short-form (decode b) (c .has-text));
+          the-text = subst (λ (g : Items). textOf g ≡ t) u (short-text (decode b) ∙ c .the-text);
         }
 
   -- what is written
@@ -81,7 +77,7 @@ module _ (m : Limits) where
     write-exactly = (written-spelled, spelled-written)
 
     -- an ARI's text leads back to it, in its shortened form
-    spelled-back : Spelled m t b n → encode (candidate m t) ≡ shortBytesOf b
+    spelled-back : Spelled m t b n → encode (candidate m t) ≡ shortForm b
     spelled-back c =
         let i = c .is in
         let e : all isByte (encode (decode b)) ≡ true = rw (i .bytes) o in
@@ -140,10 +136,10 @@ module _ (m : Limits) where
 
   -- R110: a text is read exactly if it is the text of an accepted ARI, and not too long; what it gives is in shortest heads.
   module _ {t : List ℕ} (o : all isByte t ≡ true) (f : length t < max64) where
-    pub read-exactly : (b : List ℕ) (n : ℕ) → (readText m t ≡ output b n) ↔ ((length t ≤ m .text) × (all isByte b ≡ true) × Spelled m t b n × (b ≡ shortBytesOf b))
+    pub read-exactly : (b : List ℕ) (n : ℕ) → (readText m t ≡ output b n) ↔ ((length t ≤ m .text) × (all isByte b ≡ true) × Spelled m t b n × (b ≡ shortForm b))
     read-exactly b n = (λ e. forth e (read-tried t), λ x. back x (read-tried t))
       where
-        forth : readText m t ≡ output b n → Tried t (readText m t) → (length t ≤ m .text) × (all isByte b ≡ true) × Spelled m t b n × (b ≡ shortBytesOf b)
+        forth : readText m t ≡ output b n → Tried t (readText m t) → (length t ≤ m .text) × (all isByte b ≡ true) × Spelled m t b n × (b ≡ shortForm b)
         forth e (too-long h q) = absurd (never (sym q ∙ e))
         forth e (no-text h x q) = absurd (never (sym q ∙ e))
         forth e (a-text h k x q) =
@@ -152,7 +148,7 @@ module _ (m : Limits) where
             let s = written-spelled {t = t} {b = b} {n = n} c (rw (← text-of z, ← count-of z) x) in
             (h, c, s, sym (text-of z) ∙ spelled-back c s)
 
-        back : (length t ≤ m .text) × (all isByte b ≡ true) × Spelled m t b n × (b ≡ shortBytesOf b) → Tried t (readText m t) → readText m t ≡ output b n
+        back : (length t ≤ m .text) × (all isByte b ≡ true) × Spelled m t b n × (b ≡ shortForm b) → Tried t (readText m t) → readText m t ≡ output b n
         back (h, c, s, d) (too-long l q) = absurd (omega arith)
         back (h, c, s, d) (no-text l x q) = absurd (x n (rw (spelled-back c s, ← d) (spelled-written s)))
         back (h, c, s, d) (a-text l k x q) =
@@ -189,7 +185,7 @@ module _ (m : Limits) where
       back h (a-text l k x q) = absurd (omega arith)
 
   -- Accepted ARIs with the same text have the same shortened form.
-  pub one-text-one-ari : (t b c : List ℕ) (n k : ℕ) → all isByte b ≡ true → all isByte c ≡ true → writeText m b ≡ output t n → writeText m c ≡ output t k → shortBytesOf b ≡ shortBytesOf c
+  pub one-text-one-ari : (t b c : List ℕ) (n k : ℕ) → all isByte b ≡ true → all isByte c ≡ true → writeText m b ≡ output t n → writeText m c ≡ output t k → shortForm b ≡ shortForm c
   one-text-one-ari t b c n k o p e f = sym (spelled-back o (written-spelled o e)) ∙ spelled-back p (written-spelled p f)
 
   module _ (t b : List ℕ) (n : ℕ) (o : all isByte b ≡ true) (e : writeText m b ≡ output t n) where
@@ -202,16 +198,16 @@ module _ (m : Limits) where
         omega (arith, text-bound, i .short, i .few, i .count, heads-encode (decode b), ap length (i .bytes))
 
     -- Written and read again, the shortened bytes.
-    pub write-read : longest m (m .bytes) ≤ m .text → readText m t ≡ output (shortBytesOf b) n
+    pub write-read : longest m (m .bytes) ≤ m .text → readText m t ≡ output (shortForm b) n
     write-read h = go (read-tried t)
       where
         c : Spelled m t b n
         c = written-spelled o e
 
-        again : writeText m (shortBytesOf b) ≡ output t n
+        again : writeText m (shortForm b) ≡ output t n
         again = spelled-written (spelled-short c)
 
-        go : Tried t (readText m t) → readText m t ≡ output (shortBytesOf b) n
+        go : Tried t (readText m t) → readText m t ≡ output (shortForm b) n
         go (too-long l q) = absurd (omega (arith, text-short, c .is .short))
         go (no-text l x q) = absurd (x n (rw (spelled-back o c) again))
         go (a-text l k x q) =
@@ -228,5 +224,5 @@ module _ (t b : List ℕ) (n : ℕ) (o : all isByte b ≡ true) (e : writeText f
   pub first-short : length t ≤ firstLimits .text
   first-short = omega (arith, text-short firstLimits t b n o e)
 
-  pub first-write-read : readText firstLimits t ≡ output (shortBytesOf b) n
+  pub first-write-read : readText firstLimits t ≡ output (shortForm b) n
   first-write-read = write-read firstLimits t b n o e (omega arith)

@@ -89,14 +89,18 @@ short-float : (l : Lead) → isFloat (shortLead l) ≡ isFloat l
 unfolding isFloat
 short-float l = rw (short-kind l)
 
-float-split : (xs ys : List Spot) → floatIn (xs ++ ys) ≡ spelled → (floatIn xs ≡ spelled) × (floatIn ys ≡ spelled)
+pub float-split : (xs ys : List Spot) → floatIn (xs ++ ys) ≡ spelled → (floatIn xs ≡ spelled) × (floatIn ys ≡ spelled)
 float-split [] ys e = (refl, e)
-float-split (x ∷ xs) ys e = go (isFloat (x .lead)) e (λ q. float-split xs ys q)
+float-split (x ∷ xs) ys e = go (isFloat (x .lead)) e (float-split xs ys)
   where
     go : (t : Bool) → cond t (none-at (x .first)) (floatIn (xs ++ ys)) ≡ spelled → (floatIn (xs ++ ys) ≡ spelled → (floatIn xs ≡ spelled) × (floatIn ys ≡ spelled))
         → (cond t (none-at (x .first)) (floatIn xs) ≡ spelled) × (floatIn ys ≡ spelled)
-    go true q r = absurd (let z : _≡_ {A = ℕ} 0 1 = cc in omega arith)
-    go false q r = r q
+    go true f ih = (f, cc)
+    go false f ih = ih f
+
+pub no-float : (t : Bool) (p : ℕ) (r : Form) → cond t (none-at p) r ≡ spelled → (t ≡ false) × (r ≡ spelled)
+no-float true p r e = (cc, cc)
+no-float false p r e = (refl, e)
 
 float-join : (xs ys : List Spot) → floatIn xs ≡ spelled → floatIn ys ≡ spelled → floatIn (xs ++ ys) ≡ spelled
 float-join [] ys e f = f
@@ -115,15 +119,11 @@ short-floats (item l s ms rs) (due t n) p q d e =
     let ip : ℕ = insideAt p l s in
     let iq : ℕ = insideAt q (shortLead l) s in
     let jq : ℕ = iq + length (encode (shortened ms)) in
-    let (c, x) = cut (isFloat l) (floatIn (spots ms false (members t l) ip (suc d) ++ spots rs false v (ip + length (encode ms)) d)) e in
+    let (c, x) = no-float (isFloat l) p (floatIn (spots ms false (members t l) ip (suc d) ++ spots rs false v (ip + length (encode ms)) d)) e in
     let (y, z) = float-split (spots ms false (members t l) ip (suc d)) (spots rs false v (ip + length (encode ms)) d) x in
     let fm : floatIn (spots (shortened ms) false (members t l) iq (suc d)) ≡ spelled = short-floats ms (members t l) ip iq (suc d) y in
     let fr : floatIn (spots (shortened rs) false v jq d) ≡ spelled = short-floats rs v (ip + length (encode ms)) jq d z in
     rw (short-float l, c, short-members t l, short-arg l) (float-join (spots (shortened ms) false (members t l) iq (suc d)) (spots (shortened rs) false v jq d) fm fr)
-  where
-    cut : (u : Bool) (x : Form) → cond u (none-at p) x ≡ spelled → (u ≡ false) × (x ≡ spelled)
-    cut true x q = absurd (let z : _≡_ {A = ℕ} 0 1 = cc in omega arith)
-    cut false x q = (refl, q)
 
 pub short-form : (g : Items) → form g ≡ spelled → form (shortened g) ≡ spelled
 unfolding form

@@ -22,6 +22,7 @@ use Rattle.ari.specs.Decode.{decode}
 use Rattle.ari.specs.Rules.{Is}
 use Rattle.ari.specs.Listing.{Entry, referring, listing}
 use Rattle.ari.specs.Listing as ari
+use Rattle.ari.specs.Targets.{around}
 use Rattle.ari.proofs.Spots.{spot-count}
 use Rattle.grammar.specs.Code.{slotNumber}
 use Rattle.grammar.proofs.Right.{number-slot}
@@ -30,9 +31,9 @@ use Rattle.item_table.specs.Entries.{noSpot, itemOf, spotNumber, Tabled}
 use Rattle.item_table.proofs.Entries.{there, fine-at, item-at}
 use Rattle.why_held.specs.declared.Link.{Link}
 use Rattle.why_held.specs.declared.Chain.{Chain}
-use Rattle.why_held.specs.Chain.{aSet, memberOf, meaningOf, linkOf, around, chainFrom, chain}
+use Rattle.why_held.specs.Chain.{aSet, memberOf, meaningOf, linkBy, linkOf, chainFrom, chain}
 use Rattle.why_held.specs.Why.{noLink, inRoom}
-use Rattle.why_held.specs.Code.{slotMeaningBy, meaningBy, linkBy, chainBy, IsListed}
+use Rattle.why_held.specs.Code.{slotMeaningBy, meaningBy, chainBy, IsListed}
 use Rattle.why_held.proofs.Paths.{holders, few-holders}
 
 -- what an ARI inside another means

@@ -193,19 +193,17 @@ in-turn (item l str ms rs) false done prev p d f z r = tt
 in-turn (item l str ms rs) true done prev p d f z r =
     let s : Slot = ari message in
     let q : ℕ = insideAt p l str in
-    let y : Spot = spotAt s p d l str ms in
-    (
+    let y : Spot = spotAt s p d l str ms in (
       λ e. absurd (true≢false (sym e)),
       turn-append y (spots ms false (members s l) q (suc d)) _ (in-turn ms false (members s l) [] q (suc d) (f .1) y (unready y (members s l) q (no-inside s l)))
-      (in-turn rs true (rule s .next (l .arg) 0) _ (q + length (encode ms)) d (f .2) _ (next-ready s p d l str ms (rule s .next (l .arg) 0) (behind s (l .arg) 0) (f .1))),
+          (in-turn rs true (rule s .next (l .arg) 0) _ (q + length (encode ms)) d (f .2) _ (next-ready s p d l str ms (rule s .next (l .arg) 0) (behind s (l .arg) 0) (f .1))),
     )
 in-turn (item l str ms rs) more (due s n) prev p d f z r =
     let q : ℕ = insideAt p l str in
-    let y : Spot = spotAt s p d l str ms in
-    (
+    let y : Spot = spotAt s p d l str ms in (
       r,
       turn-append y (spots ms false (members s l) q (suc d)) _ (in-turn ms false (members s l) [] q (suc d) (f .1) y (unready y (members s l) q (no-inside s l)))
-      (in-turn rs more (rule s .next (l .arg) n) _ (q + length (encode ms)) d (f .2) _ (next-ready s p d l str ms (rule s .next (l .arg) n) (behind s (l .arg) n) (f .1))),
+          (in-turn rs more (rule s .next (l .arg) n) _ (q + length (encode ms)) d (f .2) _ (next-ready s p d l str ms (rule s .next (l .arg) n) (behind s (l .arg) n) (f .1))),
     )
 
 -- of an accepted message, whatever stands before its version

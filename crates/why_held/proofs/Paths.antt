@@ -15,11 +15,11 @@ use Rattle.ari.specs.Items.{Items, none, item, encode, depth, Spot, insideAt, s
 use Rattle.ari.specs.declared.Limits.{Limits}
 use Rattle.ari.specs.declared.Input.the-variants.{Message}
 use Rattle.ari.specs.Rules.{Is}
+use Rattle.ari.specs.Targets.{around}
 use Rattle.ari.proofs.Demand.{stands-fit}
 use Rattle.ari.proofs.Due.{Fit, members-leaf}
 use Rattle.ari.proofs.Spots.{All, no-spot, spot-too, all-append, all-map, Between, forest, between}
 use Rattle.ari.proofs.Members.{all-of}
-use Rattle.why_held.specs.Chain.{around}
 
 -- the items of a level, without what stands inside them
 abbrev pub tops : Items → Bool → Level → ℕ → ℕ → List Spot

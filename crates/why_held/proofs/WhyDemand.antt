@@ -15,6 +15,7 @@ use Rattle.ari.specs.Decode.{decode}
 use Rattle.ari.specs.Rules.{Is}
 use Rattle.ari.specs.Listing.{Entry, referring, listing}
 use Rattle.ari.specs.Listing as ari
+use Rattle.ari.specs.Targets.{around}
 use Rattle.ari.proofs.Spots.{All, spot-too}
 use Rattle.ari.proofs.Members.{all-mems}
 use Rattle.item_table.specs.Entries.{noSpot}
@@ -22,7 +23,7 @@ use Rattle.release.specs.Release.{Release, refused, yes, no, releaseBytes}
 use Rattle.why_held.specs.declared.Link.{Link}
 use Rattle.why_held.specs.declared.Outcome.{Outcome}
 use Rattle.why_held.specs.declared.Outcome.the-variants.{Released, Held, Refused}
-use Rattle.why_held.specs.Chain.{aSet, mapValue, memberOf, slotMeaning, meaningOf, linkOf, around, chainFrom, chain}
+use Rattle.why_held.specs.Chain.{aSet, mapValue, memberOf, slotMeaning, meaningOf, linkOf, chainFrom, chain}
 use Rattle.why_held.specs.Why.{noEntry, outcomeOf, why}
 use Rattle.why_held.proofs.Paths.{Path, tops, holders, way-down}
 use Rattle.why_held.proofs.Keys.{isKey, isValue, InTurn, spot-turns}

@@ -1,12 +1,13 @@
 -- The chain of containers from the outermost down to a listed reference: R171 to R174. Interface: all of it.
 use Prim.Native.Nat.{ℕ}
-use mathlib.Core.Bool.{Bool, _&&_, cond}
+use mathlib.Core.Bool.{cond}
 use mathlib.Core.List.{List, [], _∷_}
-use lib.Dec.{eqb, leb}
+use lib.Dec.{eqb}
 use Rattle.ari.specs.Table.{Place, alone, message, inside, param, Slot, version, ari, type, value, namespace, objectNamespace, objectType, objectId, params, key, entry, nonce, setTime, target, report, reportTime, reportSource, max64}
 use Rattle.ari.specs.declared.Input.the-variants.{Message}
 use Rattle.ari.specs.Items.{Spot, spotsOf}
 use Rattle.ari.specs.Decode.{decode}
+use Rattle.ari.specs.Targets.{around}
 use Rattle.why_held.specs.declared.Link.{Link}
 
 -- R172: the meanings by number
@@ -78,12 +79,11 @@ abbrev pub meaningOf : ℕ → Slot → ℕ
 meaningOf around s = let k = slotMeaning s in cond (eqb k byAround) (memberOf around) k
 
 -- R173: a link; of a map value the place of its key's head, which is the item just before it
-abbrev pub linkOf : ℕ → ℕ → Spot → Link
-linkOf meaning before y = record { first = y .first; after = y .after; meaning = meaning; key = cond (eqb meaning mapValue) before max64 }
+abbrev pub linkBy : ℕ → ℕ → ℕ → ℕ → Link
+linkBy first after meaning before = record { first = first; after = after; meaning = meaning; key = cond (eqb meaning mapValue) before max64 }
 
--- an item's bytes hold those from one byte to another
-abbrev pub around : Spot → ℕ → ℕ → Bool
-around y first after = leb (y .first) first && leb after (y .after)
+abbrev pub linkOf : ℕ → ℕ → Spot → Link
+linkOf meaning before y = linkBy (y .first) (y .after) meaning before
 
 -- R171: the items whose bytes hold an entry's, in their order; the meaning of the container around, and the first byte of the item before
 abbrev pub chainFrom : ℕ → ℕ → List Spot → ℕ → ℕ → List Link

@@ -1,12 +1,9 @@
 -- Private to src/: the same in the code's terms.
 use Prim.Native.Nat.{ℕ, _*_, _<_}
 use mathlib.Core.Path.{_≡_}
-use mathlib.Core.Bool.{cond}
 use mathlib.Core.List.{List, _++_, List·Memᴰ}
 use lib.ListN.{length, take, drop}
-use lib.Dec.{eqb}
 use Rattle.grammar.specs.Code.{slotOf}
-use Rattle.ari.specs.Table.{max64}
 use Rattle.ari.specs.declared.Limits.{Limits}
 use Rattle.ari.specs.declared.Input.the-variants.{Message}
 use Rattle.ari.specs.Reader.{accept, read}
@@ -18,7 +15,7 @@ use Rattle.why_held.specs.declared.Chain.{Chain}
 use Rattle.why_held.specs.declared.Place.{Place}
 use Rattle.why_held.specs.declared.Outcome.{Outcome}
 use Rattle.why_held.specs.declared.Outcome.the-variants.{Released, Held, Refused}
-use Rattle.why_held.specs.Chain.{mapValue, slotMeaning, meaningOf, chain}
+use Rattle.why_held.specs.Chain.{slotMeaning, meaningOf, chain}
 use Rattle.why_held.specs.Why.{reasonOf, inRoom, linksBytes}
 
 abbrev pub slotMeaningBy : ℕ → ℕ
@@ -26,9 +23,6 @@ slotMeaningBy i = slotMeaning (slotOf i)
 
 unfoldable pub meaningBy : ℕ → ℕ → ℕ
 meaningBy around i = meaningOf around (slotOf i)
-
-abbrev pub linkBy : ℕ → ℕ → ℕ → ℕ → Link
-linkBy first after meaning before = record { first = first; after = after; meaning = meaning; key = cond (eqb meaning mapValue) before max64 }
 
 abbrev pub chainBy : List ℕ → ℕ → ℕ → Chain
 chainBy b first after = record { links = inRoom (chain b first after); count = length (chain b first after) }

@@ -5,7 +5,6 @@ use mathlib.Core.Bool.{cond}
 use mathlib.Core.List.{List, [], _∷_, _++_}
 use lib.ListN.{length, getD, drop, replicate}
 use lib.Dec.{ltb}
-
 use Rattle.buffer.specs.Bytes.{be}
 use Rattle.ari.specs.Table.{max64}
 use Rattle.ari.specs.Limits.{firstLimits}

@@ -10,9 +10,9 @@ ghost use Rattle.ari.specs.Listing.{listing};
 ghost use Rattle.item_table.specs.Entries.{Tabled};
 ghost use Rattle.names.specs.Translated.{translated};
 ghost use Rattle.release.specs.Release.{no};
-ghost use Rattle.why_held.specs.Chain.{memberOf, chain};
+ghost use Rattle.why_held.specs.Chain.{memberOf, linkBy, chain};
 ghost use Rattle.why_held.specs.Why.{noEntry, inRoom, whyBy, why, Few, linkBytes, linksBytes, outcomeIn, whyRoom};
-ghost use Rattle.why_held.specs.Code.{slotMeaningBy, meaningBy, linkBy, chainBy, reasonBy, placeOf, IsListed, IsHeld, writtenBy};
+ghost use Rattle.why_held.specs.Code.{slotMeaningBy, meaningBy, chainBy, reasonBy, placeOf, IsListed, IsHeld, writtenBy};
 use ari::Input;
 use ari::Limits;
 use listing::Namespace;
@@ -120,8 +120,50 @@ fn slot_meaning(slot: u64) -> u64
         24 => TARGET,
         25 => REPORT,
         27 => REPORT_SOURCE,
-        28 | 30 | 32 | 34 | 36 | 38 | 40 | 42 | 44 | 46 | 48 | 50 | 52 | 54 | 56 | 58 | 60 | 62 | 64 | 66 | 68 | 70 => TYPED_VALUE,
-        29 | 31 | 33 | 35 | 37 | 39 | 41 | 43 | 45 | 47 | 49 | 51 | 53 | 55 | 57 | 59 | 61 | 63 | 65 | 67 | 69 | 71 => TYPED_VALUE,
+        28
+        | 30
+        | 32
+        | 34
+        | 36
+        | 38
+        | 40
+        | 42
+        | 44
+        | 46
+        | 48
+        | 50
+        | 52
+        | 54
+        | 56
+        | 58
+        | 60
+        | 62
+        | 64
+        | 66
+        | 68
+        | 70 => TYPED_VALUE,
+        29
+        | 31
+        | 33
+        | 35
+        | 37
+        | 39
+        | 41
+        | 43
+        | 45
+        | 47
+        | 49
+        | 51
+        | 53
+        | 55
+        | 57
+        | 59
+        | 61
+        | 63
+        | 65
+        | 67
+        | 69
+        | 71 => TYPED_VALUE,
         _ => COLLECTION_MEMBER,
     }
 }
@@ -164,7 +206,14 @@ struct Chain {
 }
 
 // The chain down to a listed entry, by the item table.
-fn chain_to(s: &[u8], limits: Limits, count: usize, entries: &[u64], first: usize, after: usize) -> Chain
+fn chain_to(
+    s: &[u8],
+    limits: Limits,
+    count: usize,
+    entries: &[u64],
+    first: usize,
+    after: usize,
+) -> Chain
     requires { ⌜ Tabled limits input.Message (now s) count (now entries) ⌝ }
     requires { ⌜ limits .containers ≤ firstLimits .containers ⌝ }
     requires { ⌜ IsListed (now s) first after ⌝ }
@@ -314,13 +363,7 @@ fn held_in<'a>(
 }
 
 // A message has no more items than bytes: a table of 128 serves a small one, and is cleared in a fraction of the time.
-fn held_small<'a>(
-    s: &[u8],
-    limits: Limits,
-    published: &'a [u8],
-    own: &'a [u8],
-    entry: usize,
-) -> Why
+fn held_small<'a>(s: &[u8], limits: Limits, published: &'a [u8], own: &'a [u8], entry: usize) -> Why
     requires { ⌜ (length (now s) ≤ 128) × (limits .bytes < 65536) × (limits .containers < 256) ⌝ }
     requires { ⌜ limits .containers ≤ firstLimits .containers ⌝ }
     requires { ⌜ IsHeld limits (now s) entry ⌝ }

@@ -72,6 +72,14 @@ pub(crate) fn read(bytes: &[u8]) -> Result<(Kind, &[u8]), Test> {
     Ok((kind, rest))
 }
 
+/// The bytes of a head that is in use, by its first.
+pub fn head_size(initial: u8) -> usize {
+    match initial & 31 {
+        info @ 24..=27 => 1 + (1 << (info - 24)),
+        _ => 1,
+    }
+}
+
 /// A big-endian argument of N bytes, and the bytes after it.
 #[inline(always)]
 fn argument<const N: usize>(bytes: &[u8]) -> Result<(u64, &[u8]), Test> {

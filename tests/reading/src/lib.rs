@@ -34,7 +34,7 @@ pub mod printed;
 pub mod vectors;
 
 pub use grants::{check_table, release, rows, table_bytes, Release, Row, ROW};
-pub use head::{shortened, Kind};
+pub use head::{head_size, shortened, Kind};
 pub use listing::{list, listing, listing_within, Entry, Listing, Namespace, ENTRY};
 pub use spelling::{is_identifier, is_namespace_name, is_utf8};
 pub use stream::{closing, standing, Stream};

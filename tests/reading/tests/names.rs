@@ -516,10 +516,7 @@ fn names_are_as_good_as_their_numbers() {
                 true => generate::put_head(&mut put, 1, !number as u64),
                 false => generate::put_head(&mut put, 0, number as u64),
             }
-            let head = match message[place] & 31 {
-                info @ 24..=27 => 1 + (1 << (info - 24)),
-                _ => 1,
-            };
+            let head = head_size(message[place]);
             translated.splice(place..place + head + name.len(), put);
             named += 1;
         }

@@ -171,7 +171,7 @@ fn records_agree_with_the_check() {
                 }
                 assert_eq!((record.first, record.around), (at, ends.len()));
                 at = match record.kind {
-                    Kind::Array(_) | Kind::Map(_) => at + head_size(&input[at..]),
+                    Kind::Array(_) | Kind::Map(_) => at + head_size(input[at]),
                     _ => record.after,
                 };
                 if matches!(record.kind, Kind::Array(1..) | Kind::Map(1..)) {
@@ -182,14 +182,6 @@ fn records_agree_with_the_check() {
             }
             assert_eq!(at, input.len());
         }
-    }
-}
-
-/// The bytes of a head, by the info in its first byte.
-fn head_size(bytes: &[u8]) -> usize {
-    match bytes[0] & 31 {
-        info @ 24..=27 => 1 + (1 << (info - 24)),
-        _ => 1,
     }
 }
 
