@@ -507,7 +507,8 @@ pub fn message(random: &mut Random, settings: Settings) -> Vec<u8> {
 /// A message of `bytes` bytes or a few fewer: sets by the grammar, then one
 /// whose nonce fills what is left.
 pub fn full_message(random: &mut Random, mut settings: Settings, bytes: usize) -> Vec<u8> {
-    settings.bytes = bytes;
+    // What is open when the room runs out is still closed, which takes more in wide heads.
+    settings.bytes = if settings.wide == 100 { bytes - bytes / 4 } else { bytes };
     let mut writer = Writer::new(random, settings);
     writer.head(0, 1);
     while writer.has_room() {
