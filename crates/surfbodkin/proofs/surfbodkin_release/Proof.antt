@@ -6,7 +6,7 @@ use Rattle.release.specs.declared.Released.{Released}
 use Rattle.release.specs.Release.{answerOf}
 use Rattle.release.specs.Compared.{countAfter}
 use Rattle.release.proofs.Compared.{bytes-without-count}
-use Rattle.surfbodkin.specs.Code.{releaseCode}
+use Rattle.answer_codes.specs.Code.{releaseCode}
 use Rattle.surfbodkin.proofs.surfbodkin_release.Statement.{statement}
 use Rattle.surfbodkin.proofs.surfbodkin_release.Tie as tie
 

@@ -1,7 +1,7 @@
--- `surfbodkin::day_code` meets its contract: by the answer.
+-- `answer_codes::day_code` meets its contract: by the answer.
 use borrow.Author.Needs.{needs}
-use Rattle.surfbodkin.proofs.day_code.Statement.{statement}
-use Rattle.surfbodkin.proofs.day_code.Tie as tie
+use Rattle.answer_codes.proofs.day_code.Statement.{statement}
+use Rattle.answer_codes.proofs.day_code.Tie as tie
 
 pub day-code-spec : {M : Type 1} → statement M
 day-code-spec =

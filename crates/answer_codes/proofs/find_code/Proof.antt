@@ -1,7 +1,7 @@
--- `surfbodkin::find_code` meets its contract: by the answer.
+-- `answer_codes::find_code` meets its contract: by the answer.
 use borrow.Author.Needs.{needs}
-use Rattle.surfbodkin.proofs.find_code.Statement.{statement}
-use Rattle.surfbodkin.proofs.find_code.Tie as tie
+use Rattle.answer_codes.proofs.find_code.Statement.{statement}
+use Rattle.answer_codes.proofs.find_code.Tie as tie
 
 pub find-code-spec : {M : Type 1} → statement M
 find-code-spec =

@@ -1,7 +1,7 @@
--- `surfbodkin::why_code` meets its contract: by the outcome.
+-- `answer_codes::why_code` meets its contract: by the outcome.
 use borrow.Author.Needs.{needs}
-use Rattle.surfbodkin.proofs.why_code.Statement.{statement}
-use Rattle.surfbodkin.proofs.why_code.Tie as tie
+use Rattle.answer_codes.proofs.why_code.Statement.{statement}
+use Rattle.answer_codes.proofs.why_code.Tie as tie
 
 pub why-code-spec : {M : Type 1} → statement M
 why-code-spec =

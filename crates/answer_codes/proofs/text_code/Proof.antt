@@ -1,7 +1,7 @@
--- `surfbodkin::text_code` meets its contract: by the answer.
+-- `answer_codes::text_code` meets its contract: by the answer.
 use borrow.Author.Needs.{needs}
-use Rattle.surfbodkin.proofs.text_code.Statement.{statement}
-use Rattle.surfbodkin.proofs.text_code.Tie as tie
+use Rattle.answer_codes.proofs.text_code.Statement.{statement}
+use Rattle.answer_codes.proofs.text_code.Tie as tie
 
 pub text-code-spec : {M : Type 1} → statement M
 text-code-spec =

@@ -1,7 +1,7 @@
--- `surfbodkin::release_code` meets its contract: by the answer.
+-- `answer_codes::release_code` meets its contract: by the answer.
 use borrow.Author.Needs.{needs}
-use Rattle.surfbodkin.proofs.release_code.Statement.{statement}
-use Rattle.surfbodkin.proofs.release_code.Tie as tie
+use Rattle.answer_codes.proofs.release_code.Statement.{statement}
+use Rattle.answer_codes.proofs.release_code.Tie as tie
 
 pub release-code-spec : {M : Type 1} → statement M
 release-code-spec =

@@ -1,7 +1,7 @@
--- `surfbodkin::add_code` meets its contract: by the answer.
+-- `answer_codes::add_code` meets its contract: by the answer.
 use borrow.Author.Needs.{needs}
-use Rattle.surfbodkin.proofs.add_code.Statement.{statement}
-use Rattle.surfbodkin.proofs.add_code.Tie as tie
+use Rattle.answer_codes.proofs.add_code.Statement.{statement}
+use Rattle.answer_codes.proofs.add_code.Tie as tie
 
 pub add-code-spec : {M : Type 1} → statement M
 add-code-spec =

@@ -1,8 +1,8 @@
--- `surfbodkin::held_code` meets its contract: number beside number.
+-- `answer_codes::held_code` meets its contract: number beside number.
 use borrow.Author.Needs.{needs}
-use Rattle.surfbodkin.specs.Code.{heldCode}
-use Rattle.surfbodkin.proofs.held_code.Statement.{statement}
-use Rattle.surfbodkin.proofs.held_code.Tie as tie
+use Rattle.answer_codes.specs.Code.{heldCode}
+use Rattle.answer_codes.proofs.held_code.Statement.{statement}
+use Rattle.answer_codes.proofs.held_code.Tie as tie
 
 pub held-code-spec : {M : Type 1} → statement M
 unfolding heldCode

@@ -1,7 +1,7 @@
--- `surfbodkin::check_code` meets its contract: by the answer.
+-- `answer_codes::check_code` meets its contract: by the answer.
 use borrow.Author.Needs.{needs}
-use Rattle.surfbodkin.proofs.check_code.Statement.{statement}
-use Rattle.surfbodkin.proofs.check_code.Tie as tie
+use Rattle.answer_codes.proofs.check_code.Statement.{statement}
+use Rattle.answer_codes.proofs.check_code.Tie as tie
 
 pub check-code-spec : {M : Type 1} → statement M
 check-code-spec =

@@ -1,7 +1,7 @@
--- `surfbodkin::search_code` meets its contract: by the answer.
+-- `answer_codes::search_code` meets its contract: by the answer.
 use borrow.Author.Needs.{needs}
-use Rattle.surfbodkin.proofs.search_code.Statement.{statement}
-use Rattle.surfbodkin.proofs.search_code.Tie as tie
+use Rattle.answer_codes.proofs.search_code.Statement.{statement}
+use Rattle.answer_codes.proofs.search_code.Tie as tie
 
 pub search-code-spec : {M : Type 1} → statement M
 search-code-spec =

@@ -1,7 +1,7 @@
--- `surfbodkin::fed_code` meets its contract: by the answer.
+-- `answer_codes::fed_code` meets its contract: by the answer.
 use borrow.Author.Needs.{needs}
-use Rattle.surfbodkin.proofs.fed_code.Statement.{statement}
-use Rattle.surfbodkin.proofs.fed_code.Tie as tie
+use Rattle.answer_codes.proofs.fed_code.Statement.{statement}
+use Rattle.answer_codes.proofs.fed_code.Tie as tie
 
 pub fed-code-spec : {M : Type 1} → statement M
 fed-code-spec =

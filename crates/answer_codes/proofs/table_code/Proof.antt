@@ -1,7 +1,7 @@
--- `surfbodkin::table_code` meets its contract: by the verdict.
+-- `answer_codes::table_code` meets its contract: by the verdict.
 use borrow.Author.Needs.{needs}
-use Rattle.surfbodkin.proofs.table_code.Statement.{statement}
-use Rattle.surfbodkin.proofs.table_code.Tie as tie
+use Rattle.answer_codes.proofs.table_code.Statement.{statement}
+use Rattle.answer_codes.proofs.table_code.Tie as tie
 
 pub table-code-spec : {M : Type 1} → statement M
 table-code-spec =

@@ -1,7 +1,7 @@
--- `surfbodkin::names_code` meets its contract: by the answer.
+-- `answer_codes::names_code` meets its contract: by the answer.
 use borrow.Author.Needs.{needs}
-use Rattle.surfbodkin.proofs.names_code.Statement.{statement}
-use Rattle.surfbodkin.proofs.names_code.Tie as tie
+use Rattle.answer_codes.proofs.names_code.Statement.{statement}
+use Rattle.answer_codes.proofs.names_code.Tie as tie
 
 pub names-code-spec : {M : Type 1} → statement M
 names-code-spec =

@@ -1,7 +1,7 @@
--- `surfbodkin::list_code` meets its contract: by the answer.
+-- `answer_codes::list_code` meets its contract: by the answer.
 use borrow.Author.Needs.{needs}
-use Rattle.surfbodkin.proofs.list_code.Statement.{statement}
-use Rattle.surfbodkin.proofs.list_code.Tie as tie
+use Rattle.answer_codes.proofs.list_code.Statement.{statement}
+use Rattle.answer_codes.proofs.list_code.Tie as tie
 
 pub list-code-spec : {M : Type 1} → statement M
 list-code-spec =
