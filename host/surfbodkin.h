@@ -168,6 +168,15 @@ uint64_t surfbodkin_stream_close(uint64_t *state, size_t words,
                                  uint8_t *message, size_t room,
                                  uint8_t *out, size_t out_length);
 
+/* Whether two single ARIs are the same: their items, one by one, are the same numbers,
+   strings and containers. How long a head is does not matter, nor the case of letters
+   in namespace names, object types and object ids; in strings, labels and map keys it
+   does.
+     accepted   low: 1 the same, 0 not
+     refused    1 to 7, 9 to 13, of the first, or else of the second */
+uint64_t surfbodkin_same(const uint8_t *first, size_t first_length,
+                         const uint8_t *second, size_t second_length);
+
 /* Checks two lists of names, the published one and a subscriber's own; either may be
    empty. Each is a run of lines: a namespace name, "=", a number in plain decimal from
    -2^63 to 2^63 - 1, and a line feed.
@@ -189,7 +198,7 @@ uint64_t surfbodkin_check_table(const uint8_t *table, size_t table_length);
 /* Says whether a message may go to a subscriber: whether each listed reference has a
    namespace number, or a name that stands for one, and for each some row of the table
    grants that number to that subscriber. A name stands for the number of the first
-   line that has it, exactly as spelled: a name with "!" in the subscriber's own list,
+   line that has it, its letters in whatever case: a name with "!" in the subscriber's own list,
    any other in the published one. Names without a line and relative references are
    never granted. The rows of others don't matter, nor whether the table passes its
    check. With both lists empty only numbers are granted.

@@ -694,6 +694,15 @@ fn main() {
     time_call("g  C's target from its text", &read, &target.each_ref().map(text));
     time_call("g  4,096 bytes from text, repeated", &read, &texts[..1]);
     time_call("g  500 like it", &read, &texts);
+    // Beside itself, so that every item is compared.
+    let same = Call {
+        function: "surfbodkin_same",
+        archive: &|ari, _| archive::same(ari, ari),
+        reading: &|ari, _| packed_low(reading::same(ari, ari, &LIMITS).map(usize::from)),
+    };
+    time_call("g  C's target, the same as itself", &same, &target);
+    time_call("g  4,096 bytes, repeated", &same, &aris[..1]);
+    time_call("g  500 like it", &same, &aris);
 
     time_days(&large, &few, &published, &own);
 

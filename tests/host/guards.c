@@ -21,17 +21,18 @@
 #pragma weak surfbodkin_day_search
 #pragma weak surfbodkin_name_number
 #pragma weak surfbodkin_why
+#pragma weak surfbodkin_same
 
 enum call {
   SINGLE, MESSAGE, LIST, TABLE, RELEASE, WRITE, READ, LISTS, STREAM,
-  DAY_CHECK, DAY_FIND, DAY_ADD, DAY_SEARCH, NAME, WHY, CALLS
+  DAY_CHECK, DAY_FIND, DAY_ADD, DAY_SEARCH, NAME, WHY, SAME, CALLS
 };
 static int there[CALLS];
 static unsigned long calls_made;
 
 struct arguments {
   enum call call;
-  struct bytes input, table; /* of day_add the file and the message */
+  struct bytes input, table; /* of day_add the file and the message, of same the two ARIs */
   uint64_t subscriber;       /* of a day's file the message's number or the namespace */
   size_t room;
   struct bytes published, own;
@@ -96,7 +97,7 @@ static uint64_t make(const struct arguments *a, enum way way, const uint8_t *out
   struct bytes in = input.lent, rows = table.lent, to = answer_room.lent;
   struct bytes first = published.lent, second = own.lent;
   const uint64_t unset = 0xa5a5a5a5a5a5a5a5;
-  uint64_t answer = 0, compared = unset, number = unset;
+  uint64_t answer = 0, compared = unset, number = unset, itself;
   switch (a->call) {
     case SINGLE: answer = surfbodkin_check_single(in.at, in.length); break;
     case MESSAGE: answer = surfbodkin_check_message(in.at, in.length); break;
@@ -132,6 +133,14 @@ static uint64_t make(const struct arguments *a, enum way way, const uint8_t *out
     case WHY:
       answer = surfbodkin_why(in.at, in.length, rows.at, rows.length, first.at, first.length,
                               second.at, second.length, a->subscriber, to.at, to.length);
+      break;
+    case SAME:
+      answer = surfbodkin_same(in.at, in.length, rows.at, rows.length);
+      /* What is only read may be lent twice. */
+      itself = surfbodkin_same(in.at, in.length, in.at, in.length);
+      if (itself != 1 && (surfbodkin_number(itself) == SURFBODKIN_ACCEPTED || itself != answer)) {
+        fail("not the same as itself, or refused otherwise");
+      }
       break;
     default: fail("no such call");
   }
@@ -178,7 +187,8 @@ static const char *const NAMES[CALLS] = {"check_single", "check_message", "list"
                                          "check_table",  "release",       "write_text",
                                          "read_text",    "check_names",   "stream_close",
                                          "day_check",    "day_find",      "day_add",
-                                         "day_search",   "name_number",   "why"};
+                                         "day_search",   "name_number",   "why",
+                                         "same"};
 
 /* A check, and each beginning of its input with whatever answer. */
 static void check(enum call call, const char *input, uint64_t answer) {
@@ -255,6 +265,26 @@ static void with_lists(enum call call, const char *input, const char *table, con
   free(a.table.at);
   free(a.published.at);
   free(a.own.at);
+}
+
+/* Two ARIs, either of them the first, and each at each of its lengths too. */
+static void pair(const char *one, const char *two, uint64_t answer) {
+  if (!there[SAME]) return;
+  for (int turned = 0; turned < 2; turned++) {
+    struct arguments a = {.call = SAME, .input = bytes(turned ? two : one),
+                          .table = bytes(turned ? one : two)};
+    expect(a, NAMES[SAME], turned ? two : one, answer, NULL);
+    struct bytes *const inputs[] = {&a.input, &a.table};
+    for (int k = 0; k < 2; k++) {
+      size_t whole = inputs[k]->length;
+      for (size_t length = 0; length < whole && whole < 100; length++) {
+        inputs[k]->length = length;
+        attempt(a, NAMES[SAME], turned ? two : one);
+      }
+      inputs[k]->length = whole;
+    }
+    for (int k = 0; k < 2; k++) free(inputs[k]->at);
+  }
 }
 
 /* With a day file, another message or a number, and lists, or all that a release is given:
@@ -339,6 +369,7 @@ int main(void) {
   there[DAY_SEARCH] = surfbodkin_day_search != NULL;
   there[NAME] = surfbodkin_name_number != NULL;
   there[WHY] = surfbodkin_why != NULL;
+  there[SAME] = surfbodkin_same != NULL;
   const char *before = "guards: skipped, not in the archive:";
   for (int call = 0; call < CALLS; call++) {
     if (there[call]) continue;
@@ -471,6 +502,8 @@ int main(void) {
   with_day(NAME, ":!a", "", (uint64_t)-20, ":!a=1\n", ":!a=-20\n", 1, "");
   with_day(NAME, ":!b", "", 0, ":!b=1\n", ":!a=-20\n", 0, "");
   with_day(NAME, ":", "", 0, ":=1\n", ":", 0, "");
+  with_day(NAME, ":A-z", "", 65536, ":a\rz=1\na-Z=65536\nA-z=1\n", ":a-z=2\n", 1, "");
+  with_day(NAME, ":!B_", "", (uint64_t)-20, ":!B_=1\n", ":!b\x7f=1\n!b_=-20\n", 1, "");
   with_day(WHY, C, ROW_65536, 7, "", "", held(SURFBODKIN_NOT_GRANTED, 5, 1), CHAIN_C);
   with_day(WHY, C, ROW_65536 ROW_20, 7, "", "", 0, "");
   with_day(WHY, NAMED, "", 7, "", "", held(SURFBODKIN_NAME_UNKNOWN, 3, 0), CHAIN_NAMED);
@@ -479,6 +512,27 @@ int main(void) {
   with_day(WHY, "02", ROW_0, 7, "", "", refused(8, 0), "");
   with_day(WHY, C, "00", 7, "61", "", refused(19, 0), "");
   with_day(WHY, C, "00", 7, "", "", refused(18, 0), "");
+
+  pair("00", "1b 0000000000000000", 1);
+  pair("01", "21", 0);
+  pair("6161", "6141", 0);
+  pair("81 622161", "9801 7802 2141", 1);
+  pair("81 622161", "81 6161", 0);
+  pair("83 64 42756f79 64 4354524c 6178", "9803 7804 62756f79 64 6374726c 6158", 1);
+  pair("84 6161 6162 6163 82 81 6164 82 0e 6165", "84 6141 6142 6143 82 81 6144 82 0e 6165", 1);
+  pair("84 6161 6162 6163 82 81 6164 82 0e 6165", "84 6161 6162 6163 82 81 6164 82 0e 6145", 0);
+  pair("82 12 a1 6161 00", "82 12 a1 6141 00", 0);
+  pair("82 15 83 f6 00 83 00 83 6161 20 00 6162", "82 15 83 f6 00 83 00 83 6141 20 00 6162", 1);
+  pair("82 15 83 f6 00 83 00 83 6161 20 00 6162", "82 15 83 f6 00 83 00 83 6161 20 00 6142", 0);
+  pair("", "00", refused(2, 0));
+  pair("82 05 0a 00", "82 05 0a", refused(13, 3));
+  pair("8212a202000100", "00", refused(11, 5));
+  pair("81 6140", "81 6141", refused(10, 1));
+  with_table(SAME, "81 6140", "82 05 0a 00", 0, refused(10, 1));
+  with_table(SAME, "82 05 0a 00", "81 6140", 0, refused(13, 3));
+  pair(repeated("59 0ffd", "ff", 4093, ""), repeated("59 0ffd", "ff", 4093, ""), 1);
+  pair(repeated("79 0ffd", "61", 4093, ""), repeated("79 0ffd", "61", 4092, "41"), 0);
+  pair(repeated("59 0ffe", "ff", 4094, ""), "00", refused(1, 0));
 
   printf("guards: %lu calls, all as the header says\n", calls_made);
   return 0;

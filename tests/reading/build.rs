@@ -8,9 +8,9 @@ use std::env;
 use std::path::{Path, PathBuf};
 use std::process::Command;
 
-const FUNCTIONS: [&str; 17] = [
+const FUNCTIONS: [&str; 18] = [
     "check_single", "check_message", "list", "check_table", "release", "write_text", "read_text",
-    "check_names", "day_check", "day_find", "day_add", "day_search", "name_number", "why",
+    "check_names", "day_check", "day_find", "day_add", "day_search", "name_number", "why", "same",
     "stream_open", "stream_feed", "stream_close",
 ];
 

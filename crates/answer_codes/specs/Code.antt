@@ -1,4 +1,4 @@
--- Answers as one number: R114 to R119; of the day file, R154 to R164; of a name, R142. Interface: all of it.
+-- Answers as one number: R114 to R119; of the day file, R154 to R164; of a name, R142; of two ARIs, R188. Interface: all of it.
 use Prim.Native.Nat.{ℕ, _+_, _-_, _*_, _^_, min}
 use mathlib.Core.Path.{_≡_}
 use mathlib.Core.Bool.{false}
@@ -12,6 +12,8 @@ use Rattle.grants.specs.Grants.{Check, passes}
 use Rattle.release.specs.Release.{Release, yes, no}
 use Rattle.listing.specs.declared.Listed.{Listed}
 use Rattle.listing.specs.declared.Listed.the-variants as listed
+use Rattle.sameness.specs.declared.Sameness.{Sameness}
+use Rattle.sameness.specs.declared.Sameness.the-variants as sameness
 use Rattle.names.specs.declared.Names.{Names}
 use Rattle.names.specs.declared.Names.the-variants.{Passes}
 use Rattle.names.specs.declared.Names.the-variants as names
@@ -71,6 +73,12 @@ pub record ClosesAs (m : Limits) (ws room out : List ℕ) (r : ℕ) (ws′ out�
   pub answer : Listed
   pub code : r ≡ listCode answer
   pub closes : Closes m ws room out answer ws′ out′
+
+-- R188: 1 if two ARIs are the same
+abbrev pub sameCode : Sameness → ℕ
+sameCode sameness.Same = countCode 0 1
+sameCode sameness.Different = countCode 0 0
+sameCode (sameness.Refused r p) = refusalCode r p
 
 -- 19 with the first byte of the first wrong line
 abbrev pub namesCode : Names → ℕ

@@ -4,7 +4,7 @@ ghost use Prim.Native.Nat.{_-_};
 ghost use Rattle.grants.specs.Verdict.{checkOf};
 ghost use Rattle.release.specs.Release.{answerOf as releasedOf};
 ghost use Rattle.release.specs.Compared.{countAfter};
-ghost use Rattle.answer_codes.specs.Code.{refusalCode, countCode, checkCode, listCode, tableCode, releaseCode, heldCode, whyCode, textCode, fedCode, namesCode, numberCode, numberAfter, dayCode, findCode, addCode, searchCode};
+ghost use Rattle.answer_codes.specs.Code.{refusalCode, countCode, checkCode, listCode, tableCode, releaseCode, heldCode, whyCode, textCode, fedCode, sameCode, namesCode, numberCode, numberAfter, dayCode, findCode, addCode, searchCode};
 use buffer::Number;
 use day_file::Added;
 use day_file::Day;
@@ -15,6 +15,7 @@ use listing::Listed;
 use names::Names;
 use reader::Answer;
 use release::Released;
+use sameness::Sameness;
 use stream::Fed;
 use text_write::Written;
 use why_held::Outcome;
@@ -57,6 +58,16 @@ pub fn fed_code(a: Fed) -> u64
     match a {
         Fed::GoOn => 0,
         Fed::Refused { number, place } => refusal_code(number, place as u64),
+    }
+}
+
+pub fn same_code(a: Sameness) -> u64
+    ensures { λ r. ⌜ r ≡ sameCode a ⌝ }
+{
+    match a {
+        Sameness::Same => 1,
+        Sameness::Different => 0,
+        Sameness::Refused { number, place } => refusal_code(number, place as u64),
     }
 }
 

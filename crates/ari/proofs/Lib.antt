@@ -17,6 +17,8 @@ pub mod Referring
 pub mod Listed
 pub mod Targets
 pub mod Shortened
+pub mod Case
+pub mod Same
 pub mod ShortListing
 pub mod Larger
 pub mod ListingBound

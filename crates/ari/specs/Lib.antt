@@ -8,6 +8,7 @@ pub mod Limits
 pub mod Listing
 pub mod Targets
 pub mod Shortened
+pub mod Same
 pub mod References
 pub mod Due
 pub mod Signed

@@ -1,10 +1,10 @@
--- Identifiers and namespace names: R27, R28. Interface: identifier, namespaceName.
-use Prim.Native.Nat.{ℕ}
-use mathlib.Core.Bool.{Bool, false, _&&_, _||_}
-use mathlib.Core.List.{List, [], _∷_}
+-- Identifiers and namespace names: R27, R28; without regard to case: R184. Interface: identifier, namespaceName, lower, foldedName, sameName.
+use Prim.Native.Nat.{ℕ, _+_}
+use mathlib.Core.Bool.{Bool, false, _&&_, _||_, cond}
+use mathlib.Core.List.{List, [], _∷_, map}
 use lib.ListN.{length}
 use lib.Dec.{ltb, eqb}
-use Rattle.buffer.specs.Bytes.{all, within}
+use Rattle.buffer.specs.Bytes.{all, within, same}
 
 -- R27: the first byte
 unfoldable pub startsName : ℕ → Bool
@@ -23,3 +23,13 @@ identifier (b ∷ bs) = startsName b && (all continuesName bs && ltb (length bs)
 unfoldable pub namespaceName : List ℕ → Bool
 namespaceName [] = false
 namespaceName (b ∷ bs) = identifier (b ∷ bs) || (eqb b 33 && identifier bs)
+
+-- R184: A to Z are as a to z; no other byte is as another
+unfoldable pub lower : ℕ → ℕ
+lower b = cond (within 65 90 b) (b + 32) b
+
+abbrev pub foldedName : List ℕ → List ℕ
+foldedName = map lower
+
+unfoldable pub sameName : List ℕ → List ℕ → Bool
+sameName u v = same (foldedName u) (foldedName v)

@@ -39,6 +39,8 @@ pub const OBJECT_NAMESPACE: u64 = 10; // of an object reference without paramete
 
 pub const OBJECT_NAMESPACE_PARAMS: u64 = 11; // of one with parameters
 
+pub const OBJECT_ID_PARAMS: u64 = 15; // the id of one with parameters: the last slot of a name, of which NAMESPACE is the first
+
 pub const TARGET: u64 = 24;
 
 pub const REPORT: u64 = 25;

@@ -1,22 +1,21 @@
 -- The lines of a list, one by one: what stands up to the next line feed is the first line, and what is behind it has the others.
-use Prim.Native.Nat.{ℕ, zero, suc, _+_, _-_, _<_, _≤_, min}
-use Prim.Native.Char.{code}
+use Prim.Native.Nat.{ℕ, _+_, _-_, _<_, _≤_, min}
 use mathlib.Core.Path.{_≡_, refl, sym, _∙_, ap}
-use mathlib.Core.Bool.{Bool, true, false, not, _&&_, cond, true≢false}
-use mathlib.Core.List.{List, [], _∷_, _++_}
+use mathlib.Core.Bool.{Bool, true, false, not, _&&_, cond}
+use mathlib.Core.List.{List, [], _∷_}
 use native.Mathlib.Omega.{arith}
 use native.Mathlib.Nat.{min-eq-left, min-eq-right}
-use lib.ListN.{length, getD, take, drop, length-drop}
+use lib.ListN.{length, getD, drop, length-drop}
 use lib.Seq.{drop-drop, length-take-le}
 use lib.Dec.{eqb}
-use borrow.Author.Tests.{eq-eqb, ne-eqb, eqb-true, eqb-false, not-true, not-false}
-use Rattle.buffer.specs.Bytes.{part, same}
+use borrow.Author.Tests.{not-true, not-false}
+use Rattle.buffer.specs.Bytes.{part}
 use Rattle.buffer.specs.Runs.{front, past, RunTo}
 use Rattle.buffer.specs.Decimal.{signedOf}
 use Rattle.buffer.specs.declared.Number.{Number}
-use Rattle.buffer.specs.declared.Number.the-variants.{Value, Bad}
-use Rattle.buffer.proofs.RunLaws.{Ahead, beyond, here, part-none, part-all, run-stops, front-on, front-ends, past-on, past-ends, run-begins, run-ends, run-out, run-on}
-use Rattle.ari.specs.Name.{namespaceName}
+use Rattle.buffer.specs.declared.Number.the-variants.{Bad}
+use Rattle.buffer.proofs.RunLaws.{beyond, here, part-none, part-all}
+use Rattle.ari.specs.Name.{namespaceName, sameName}
 use Rattle.names.specs.declared.Wrong.{Wrong}
 use Rattle.names.specs.declared.Wrong.the-variants.{Nowhere, At}
 use Rattle.names.specs.declared.Names.the-variants.{Passes, Refused}
@@ -76,7 +75,7 @@ module _ (t : List ℕ) {q : ℕ} (r : RunTo inName t 0 q) where
     unfolding formed
     well-named m e g = g ∙ rw (← name-is, ← ex, not-false x m, e)
 
-  module _ (name : List ℕ) {x : Bool} (ex : x ≡ same (part t 0 q) name) where
+  module _ (name : List ℕ) {x : Bool} (ex : x ≡ sameName (part t 0 q) name) where
     pub other-name : not x ≡ true → false ≡ matches name t
     unfolding matches
     other-name n = rw (← name-is, ← ex, not-true x n) (go (formed t))

@@ -5,12 +5,11 @@ use mathlib.Core.Bool.{Bool, true, false, not, _&&_, cond}
 use mathlib.Core.List.{List, [], _∷_}
 use lib.ListN.{length, drop, getD}
 use lib.Dec.{eqb}
-use Rattle.buffer.specs.Bytes.{same}
 use Rattle.buffer.specs.Runs.{front, past}
 use Rattle.buffer.specs.Decimal.{signedOf}
 use Rattle.buffer.specs.declared.Number.{Number}
 use Rattle.buffer.specs.declared.Number.the-variants.{Value, Bad}
-use Rattle.ari.specs.Name.{namespaceName}
+use Rattle.ari.specs.Name.{namespaceName, sameName}
 use Rattle.names.specs.declared.Wrong.{Wrong}
 use Rattle.names.specs.declared.Wrong.the-variants.{Nowhere, At}
 use Rattle.names.specs.declared.Names.{Names}
@@ -60,9 +59,9 @@ formed t = namespaceName (nameOf t) && isNumber (numberOf t)
 abbrev pub wellFormed : Line → Bool
 wellFormed l = l .ended && formed (l .text)
 
--- R141: the first well-formed line with a name, without its line feed; nothing if there is none
+-- R141: the first well-formed line with a name, in whatever case, without its line feed; nothing if there is none
 unfoldable pub matches : List ℕ → List ℕ → Bool
-matches name t = formed t && same (nameOf t) name
+matches name t = formed t && sameName (nameOf t) name
 
 abbrev pub found : List ℕ → List Line → List ℕ
 found name [] = []

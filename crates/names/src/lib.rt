@@ -79,7 +79,7 @@ fn is_match(line: &[u8], name: &[u8]) -> bool
     ensures { λ r. ⌜ r ≡ matches (now (name .entry)) (now (line .entry)) ⌝ }
 {
     let q = up_to(line, 0, b'=');
-    if !buffer::same(&line[0..q], name) {
+    if !name_case::same_name(&line[0..q], name) {
         return false;
     }
     is_formed(line)

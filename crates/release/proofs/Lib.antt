@@ -3,3 +3,4 @@ pub mod Clause
 pub mod ReleaseDemand
 pub mod Search
 pub mod Compared
+pub mod Case

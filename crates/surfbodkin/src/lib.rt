@@ -6,6 +6,7 @@ ghost use Rattle.ari.specs.declared.Input.the-variants.{Single, Message};
 ghost use Rattle.ari.specs.Reader.{read};
 ghost use Rattle.ari.specs.Limits.{firstLimits};
 ghost use Rattle.reader.specs.Answers.{answerOf};
+ghost use Rattle.sameness.specs.Sameness.{sameness};
 ghost use Rattle.names.specs.Names.{checkNames, numberFor};
 ghost use Rattle.day_file.specs.Day.{checkDay, findDay, addDay, withMessage, roomAfter as fileIn};
 ghost use Rattle.day_search.specs.Search.{searchDay, hits, roomAfter as foundIn};
@@ -17,7 +18,7 @@ ghost use Rattle.release.specs.Compared.{countAfter, countedBytes};
 ghost use Rattle.why_held.specs.Why.{why, outcomeIn, whyRoom};
 ghost use Rattle.text.specs.Answer.{writeText, readText, lent};
 ghost use Rattle.text_write.specs.Written.{writtenOf, roomAfter};
-ghost use Rattle.answer_codes.specs.Code.{checkCode, listCode, tableCode, releaseCode, whyCode, textCode, OpensAs, FeedsAs, ClosesAs, namesCode, numberCode, numberAfter, version1, dayCode, findCode, addCode, searchCode};
+ghost use Rattle.answer_codes.specs.Code.{checkCode, listCode, tableCode, releaseCode, whyCode, textCode, OpensAs, FeedsAs, ClosesAs, sameCode, namesCode, numberCode, numberAfter, version1, dayCode, findCode, addCode, searchCode};
 
 #[no_mangle]
 pub extern "C" fn surfbodkin_check_single(input: &[u8]) -> u64
@@ -64,6 +65,13 @@ pub extern "C" fn surfbodkin_stream_close(state: &mut [u64], message: &[u8], out
     ensures { λ r. ⌜ ClosesAs firstLimits (now (state .entry)) (now (message .entry)) (now (out .entry)) r (now (state .exit)) (now (out .exit)) ⌝ }
 {
     answer_codes::list_code(stream::close(state, message, out))
+}
+
+#[no_mangle]
+pub extern "C" fn surfbodkin_same(first: &[u8], second: &[u8]) -> u64
+    ensures { λ r. ⌜ r ≡ sameCode (sameness firstLimits (now (first .entry)) (now (second .entry))) ⌝ }
+{
+    answer_codes::same_code(sameness::same(first, second))
 }
 
 #[no_mangle]

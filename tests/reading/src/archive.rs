@@ -66,6 +66,9 @@ functions! {
         message: *const u8, length: usize, table: *const u8, table_length: usize, published: *const u8, published_length: usize,
         own: *const u8, own_length: usize, subscriber: u64, out: *mut u8, out_length: usize
     );
+    "same" surfbodkin_same(
+        first: *const u8, first_length: usize, second: *const u8, second_length: usize
+    );
     "stream_open" surfbodkin_stream_open(state: *mut u64, words: usize);
     "stream_feed" surfbodkin_stream_feed(
         state: *mut u64, words: usize, message: *mut u8, room: usize,
@@ -102,6 +105,12 @@ pub fn check_single(input: &[u8]) -> u64 {
 #[inline]
 pub fn check_message(input: &[u8]) -> u64 {
     unsafe { functions::surfbodkin_check_message(input.as_ptr(), input.len()) }
+}
+
+pub fn same(first: &[u8], second: &[u8]) -> u64 {
+    unsafe {
+        functions::surfbodkin_same(first.as_ptr(), first.len(), second.as_ptr(), second.len())
+    }
 }
 
 #[inline]

@@ -522,6 +522,60 @@ pub fn full_message(random: &mut Random, mut settings: Settings, bytes: usize) -
     writer.out
 }
 
+/// An accepted input again, with letters in the other case in some of its text strings, and
+/// with some heads of other sizes, both by chance of so many in a hundred.
+pub fn rewritten(random: &mut Random, input: &[u8], letters: usize, heads: usize) -> Vec<u8> {
+    let (mut out, mut rest) = (Vec::new(), input);
+    while let Ok((kind, after)) = head::read(rest) {
+        let head = &rest[..rest.len() - after.len()];
+        match major(kind) {
+            Some((major, argument)) if random.chance(heads) => {
+                let least = width(argument);
+                let widths = [0, 1, 2, 4, 8].into_iter().filter(|width| *width >= least);
+                let width = random.pick(&widths.collect::<Vec<_>>());
+                put_wide_head(&mut out, major, argument, width);
+            }
+            _ => out.extend(head),
+        }
+        let (length, other_case) = match kind {
+            Kind::Bytes(length) => (length as usize, false),
+            Kind::Text(length) => (length as usize, random.chance(letters)),
+            _ => (0, false),
+        };
+        let Some((string, behind)) = after.split_at_checked(length) else { break };
+        for byte in string {
+            let turned = other_case && byte.is_ascii_alphabetic() && random.chance(50);
+            out.push(if turned { byte ^ 0x20 } else { *byte });
+        }
+        rest = behind;
+    }
+    out.extend(rest);
+    out
+}
+
+/// An accepted input again, with one letter of one text string in the other case, if there is
+/// one. Labels, which are rare, come before other strings every other time.
+pub fn one_letter(random: &mut Random, input: &[u8], records: &[Record]) -> Vec<u8> {
+    let letters = |k: usize| match records[k].kind {
+        Kind::Text(length) => {
+            let string = records[k].after - length as usize..records[k].after;
+            string.filter(|at| input[*at].is_ascii_alphabetic()).collect()
+        }
+        _ => Vec::new(),
+    };
+    let strings: Vec<usize> = (0..records.len()).filter(|k| !letters(*k).is_empty()).collect();
+    // Behind the number of their type.
+    let is_label = |k: &usize| *k > 0 && records[*k - 1].kind == Kind::Unsigned(14);
+    let labels: Vec<usize> = strings.iter().copied().filter(is_label).collect();
+    let mut out = input.to_vec();
+    if !strings.is_empty() {
+        let labels_alone = !labels.is_empty() && random.chance(50);
+        let k = random.pick(if labels_alone { &labels } else { &strings });
+        out[random.pick(&letters(k))] ^= 0x20;
+    }
+    out
+}
+
 /// A list of `bytes` bytes or a few fewer: ARIs by the grammar, then a text string
 /// that fills what is left.
 pub fn full_list(random: &mut Random, mut settings: Settings, bytes: usize) -> Vec<u8> {

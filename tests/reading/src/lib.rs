@@ -9,7 +9,8 @@
 //! judge by the listing and a grant table, `write_text` and `read_text` go from
 //! a single ARI to its text and back, `read_table` reads the text of a grant table. A
 //! [`Stream`] takes a message in fragments; [`names`] has the lists of names, and release
-//! by them; [`why`] says why a message was held; [`day`] has the file of a day's messages.
+//! by them; [`why`] says why a message was held; [`day`] has the file of a day's messages;
+//! `same` says whether two single ARIs are the same.
 //!
 //! Not part of the reading: [`archive`] calls the gate, [`generate`] makes
 //! inputs for comparisons and times, [`vectors`] holds the fixed inputs,
@@ -20,6 +21,7 @@ mod grants;
 mod head;
 mod listing;
 pub mod names;
+mod same;
 mod spelling;
 mod stream;
 mod table_text;
@@ -36,6 +38,7 @@ pub mod vectors;
 pub use grants::{check_table, release, rows, table_bytes, Release, Row, ROW};
 pub use head::{head_size, shortened, Kind};
 pub use listing::{list, listing, listing_within, Entry, Listing, Namespace, ENTRY};
+pub use same::same;
 pub use spelling::{is_identifier, is_namespace_name, is_utf8};
 pub use stream::{closing, standing, Stream};
 pub use table_text::{read_table, NoTable, TABLE_ROWS, TABLE_TEXT};

@@ -50,12 +50,15 @@ fn plain_decimal(digits: &[u8]) -> Option<i64> {
 }
 
 /// R141, R142: the mark in front tells the list, and the first well-formed line with the
-/// name is its line.
+/// name, its letters in any case, is its line.
 fn find<'a>(published: &'a [u8], own: &'a [u8], name: &[u8]) -> Option<Line<'a>> {
     let list = if name.starts_with(b"!") { own } else { published };
     // A line that starts otherwise isn't read any further, which is for the time only.
-    let like_it = lines(list).filter(|(_, line)| line.starts_with(name));
-    like_it.filter_map(|(_, line)| Line::read(line)).find(|line| line.name == name)
+    let like_it = lines(list)
+        .filter(|(_, line)| line.get(..name.len()).is_some_and(|it| it.eq_ignore_ascii_case(name)));
+    like_it
+        .filter_map(|(_, line)| Line::read(line))
+        .find(|line| line.name.eq_ignore_ascii_case(name))
 }
 
 /// The line as a part of its list; empty if there is none.

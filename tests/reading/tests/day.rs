@@ -446,7 +446,7 @@ fn searches_by_number() {
     assert_eq!(searched(&[least], "", "", i64::MAX), [[0, 17, 29]]);
 }
 
-/// By each list; the first line of a name counts, and its case.
+/// By each list; the first line of a name counts, in whichever case.
 #[test]
 fn searches_by_name() {
     // Targets in the namespaces a, !a, A, !A, 5 and relative.
@@ -462,20 +462,22 @@ fn searches_by_name() {
     };
     let of = |published, own, namespace| searched(&["01", named, named], published, own, namespace);
     assert_eq!(of("", "", 5), places(&[4]));
-    assert_eq!(of("a=5\n", "", 5), places(&[0, 4]));
-    assert_eq!(of("A=5\n", "", 5), places(&[2, 4]));
-    assert_eq!(of("", "!a=5\n", 5), places(&[1, 4]));
-    assert_eq!(of("", "!A=5\n", 5), places(&[3, 4]));
+    for (published, own) in [("a=5\n", "!a=5\n"), ("A=5\n", "!A=5\n")] {
+        assert_eq!(of(published, "", 5), places(&[0, 2, 4]), "{published}");
+        assert_eq!(of("", own, 5), places(&[1, 3, 4]), "{own}");
+    }
     assert_eq!(of("a=5\nA=5\n", "!A=5\n!a=5\n", 5), places(&[0, 1, 2, 3, 4]));
-    assert_eq!(of("a=6\nA=5\n", "!A=6\n!a=5\n", 6), places(&[0, 3]));
-    assert_eq!(of("a=-6\nA=5\n", "!A=6\n!a=5\n", -6), places(&[0]));
+    assert_eq!(of("a=6\nA=5\n", "!A=6\n!a=5\n", 6), places(&[0, 1, 2, 3]));
+    assert_eq!(of("a=6\nA=5\n", "!A=6\n!a=5\n", 5), places(&[4]));
+    assert_eq!(of("a=-6\nA=5\n", "!A=6\n!a=5\n", -6), places(&[0, 2]));
+    assert_eq!(of("A=-6\na=5\n", "!A=6\n!a=5\n", 6), places(&[1, 3]));
     // A name is looked for in its own list only.
     assert_eq!(of("!a=5\n!A=5\n", "a=5\nA=5\n", 5), places(&[4]));
     // The first line counts.
     assert_eq!(of("a=6\na=5\n", "", 5), places(&[4]));
-    assert_eq!(of("a=5\na=6\n", "", 5), places(&[0, 4]));
+    assert_eq!(of("a=5\na=6\n", "", 5), places(&[0, 2, 4]));
     // A number stands for itself, whatever a name stands for.
-    assert_eq!(of("a=6\n", "", 6), places(&[0]));
+    assert_eq!(of("a=6\n", "", 6), places(&[0, 2]));
     assert_eq!(of("ab=5\n_=5\n", "!ab=5\n", 5), places(&[4]));
     // Inside parameters, lists and maps; not as object types and ids, keys and strings.
     let deep = "01 82 14 82 f6 84 622161 6161 6161 a1 6161 82 11 82 81 6161 84 6161 20 00 81 6161";
@@ -511,7 +513,7 @@ fn room_for_a_search() {
 #[test]
 fn searches_beside_the_listing() {
     let mut random = Random::new(33);
-    let (mut by_number, mut by_name, mut refused) = (0, 0, 0);
+    let (mut by_number, mut by_name, mut in_case, mut refused) = (0, 0, 0, 0);
     for _ in 0..300 {
         let (file, lists) = days::named_file(&mut random);
         let (published, own) = &lists;
@@ -538,11 +540,12 @@ fn searches_beside_the_listing() {
                     Namespace::Relative => false,
                     Namespace::Name(place) => {
                         // The lists read once more, in another way.
-                        let name = names::name_at(bytes, place);
-                        let list = if name[0] == b'!' { own } else { published };
+                        let name = std::str::from_utf8(names::name_at(bytes, place)).unwrap();
+                        let list = if name.starts_with('!') { own } else { published };
                         let list = std::str::from_utf8(list).unwrap();
                         let mut pairs = list.lines().filter_map(|line| line.split_once('='));
-                        let pair = pairs.find(|(key, _)| key.as_bytes() == name);
+                        let pair = pairs.find(|(key, _)| key.to_uppercase() == name.to_uppercase());
+                        in_case += usize::from(pair.is_some_and(|(key, _)| key != name));
                         pair.is_some_and(|(_, number)| number == namespace.to_string())
                     }
                 };
@@ -560,7 +563,8 @@ fn searches_beside_the_listing() {
         }
         assert_eq!(answer, Ok(expected));
     }
-    assert!(by_number > 100 && by_name > 100 && refused > 15, "{by_number} {by_name} {refused}");
+    let counts = [by_number, by_name, in_case];
+    assert!(counts.iter().all(|times| *times > 100) && refused > 15, "{counts:?} {refused}");
 }
 
 #[test]
@@ -573,7 +577,19 @@ fn numbers_of_names() {
     assert_eq!(number("a=5\n", "!a=-6\n", "!a"), Some(-6));
     assert_eq!(number("!a=5\n", "a=-6\n", "a"), None);
     assert_eq!(number("!a=5\n", "a=-6\n", "!a"), None);
-    assert_eq!(number("a=5\n", "!a=-6\n", "A"), None);
+    for (published, own) in [("a=5\n", "!a=-6\n"), ("A=5\n", "!A=-6\n")] {
+        for (name, expected) in [("a", 5), ("A", 5), ("!a", -6), ("!A", -6)] {
+            assert_eq!(number(published, own, name), Some(expected), "{published} {name}");
+        }
+        assert_eq!(number(own, published, "a"), None);
+        assert_eq!(number(own, published, "!A"), None);
+    }
+    for name in ["a", "A"] {
+        assert_eq!(number("A=5\na=6\n", "", name), Some(5));
+        assert_eq!(number("a=6\nA=5\n", "", name), Some(6));
+        assert_eq!(number("A=05\na=6\n", "", name), Some(6));
+        assert_eq!(number("a=05\nA=6\n", "", name), Some(6));
+    }
     assert_eq!(number("a=5\na=6\n", "", "a"), Some(5));
     assert_eq!(number("a=0\n", "", "a"), Some(0));
     assert_eq!(number(&format!("a={}\n", i64::MIN), "", "a"), Some(i64::MIN));

@@ -221,30 +221,87 @@ fn which_list() {
     assert_eq!(released("01 82 14 82 f6 83 622161 20 00", &rows, "a=1\n", "!a=2\n", 7), "yes");
 }
 
-/// Names are the same byte for byte: not by case, nor where one begins like the other.
+/// The case of letters doesn't tell names apart, and the first line counts in whichever case;
+/// a name that only begins like another is another.
 #[test]
 fn nearly_the_same_name() {
-    let published = "Buoy-North=1\nbuoy-north=2\nbuoy=3\nb=4\n";
+    let published = "Buoy-North=1\nbuoy-north=2\nbuoy=3\nb=4\nA9_-.z=5\n";
     for (name, line) in [
         ("Buoy-North", "Buoy-North=1"),
-        ("buoy-north", "buoy-north=2"),
-        ("BUOY-NORTH", ""),
+        ("buoy-north", "Buoy-North=1"),
+        ("BUOY-NORTH", "Buoy-North=1"),
+        ("bUOY-nORTH", "Buoy-North=1"),
         ("buoy", "buoy=3"),
+        ("BUOY", "buoy=3"),
         ("buo", ""),
+        ("Buo", ""),
         ("buoy-", ""),
         ("buoy-north.", ""),
+        ("BUOY-NORTHS", ""),
         ("b", "b=4"),
-        ("B", ""),
+        ("B", "b=4"),
         ("uoy", ""),
+        ("!buoy", ""),
+        ("!BUOY", ""),
+        ("a9_-.Z", "A9_-.z=5"),
+        ("A9_-.Z", "A9_-.z=5"),
+        ("a9--.z", ""),
     ] {
         assert_eq!(found(published, "", name), line, "{name}");
+        // The same in the other list.
+        let own: String = published.lines().map(|line| format!("!{line}\n")).collect();
+        let line = if line.is_empty() { String::new() } else { format!("!{line}") };
+        let name = format!("!{name}");
+        assert_eq!(found(published, &own, &name), line, "{name}");
     }
     assert_eq!(checked(published, ""), "passes");
+    // The first line, not the one that is spelled alike.
+    for name in ["a", "A"] {
+        assert_eq!(found("A=1\na=2\n", "", name), "A=1");
+        assert_eq!(found("a=2\nA=1\n", "", name), "a=2");
+        assert_eq!(found("!A=1\na=2\n", "!a=3\nA=4\n!A=5\n", name), "a=2");
+        assert_eq!(found("!A=1\na=2\n", "a=3\n!A=4\n!a=5\n", &format!("!{name}")), "!A=4");
+        assert_eq!(found("A=01\na=2\n", "", name), "a=2");
+        assert_eq!(found("A=+1\nA =2\na=3", "", name), "");
+        assert_eq!(found("!a=1\n", "A=1\n", name), "");
+        assert_eq!(found("!a=1\n", "A=1\n", &format!("!{name}")), "");
+    }
     let long = "a".repeat(64);
     let lists = format!("{}=1\n{long}=2\n", &long[1..]);
-    assert_eq!(found(&lists, "", &long), format!("{long}=2"));
-    assert_eq!(found(&lists, "", &long[1..]), format!("{}=1", &long[1..]));
-    assert_eq!(found(&lists, "", &long[2..]), "");
+    for name in [long.clone(), long.to_uppercase(), format!("{}A", &long[1..])] {
+        assert_eq!(found(&lists, "", &name), format!("{long}=2"));
+        assert_eq!(found(&lists, "", &name[1..]), format!("{}=1", &long[1..]));
+        assert_eq!(found(&lists, "", &name[2..]), "");
+    }
+}
+
+/// Every byte beside every byte: only A to Z and a to z are alike, each with its own letter.
+/// The neighbours of letters, and what a letter's bit would make of other bytes, are not.
+#[test]
+fn letters_alone_are_alike() {
+    const PAIRS: &[u8; 52] = b"AaBbCcDdEeFfGgHhIiJjKkLlMmNnOoPpQqRrSsTtUuVvWwXxYyZz";
+    let letter = |byte| PAIRS.iter().position(|letter| *letter == byte).map(|at| at / 2);
+    let mut alike = 0;
+    for one in 0..=255 {
+        // As a name's first letter and as its last.
+        let list = [one, b'=', b'1', b'\n', b'k', one, b'=', b'2', b'\n'];
+        let mine = [b'!', one, b'=', b'1', b'\n', b'!', b'k', one, b'=', b'2', b'\n'];
+        let (first, last) = (is_namespace_name(&[one]), is_namespace_name(&[b'k', one]));
+        for other in 0..=255 {
+            let is_it = one == other || letter(one).is_some() && letter(one) == letter(other);
+            let whole = |is_name: bool, line| if is_it && is_name { line } else { &b""[..] };
+            for k in [b'k', b'K'] {
+                let lines = [&list[..3], &list[4..8]];
+                assert_eq!(find_line(&list, &mine, &[other]), whole(first, lines[0]));
+                assert_eq!(find_line(&list, &mine, &[k, other]), whole(last, lines[1]));
+                let lines = [&mine[..4], &mine[5..10]];
+                assert_eq!(find_line(&list, &mine, &[b'!', other]), whole(first, lines[0]));
+                assert_eq!(find_line(&list, &mine, &[b'!', k, other]), whole(last, lines[1]));
+            }
+            alike += usize::from(is_it && last && one != other);
+        }
+    }
+    assert_eq!(alike, 52);
 }
 
 /// Any bytes may be looked for; what is no name is never found.
@@ -381,11 +438,19 @@ fn releases() {
     assert_eq!(released(two, &all, "a=4\n", "", 7), "no 1");
     assert_eq!(released(two, &all, "", "!a=4\n", 7), "no 0");
     assert_eq!(released(two, &all, "", "", 7), "no 0");
-    assert_eq!(released(two, &all, "A=4\n", "!a=4\n", 7), "no 0");
+    assert_eq!(released(two, &all, "A=4\n", "!a=4\n", 7), "yes");
+    assert_eq!(released(two, &all, "a=4\n", "!A=4\n", 7), "yes");
+    assert_eq!(released(two, &all, "A=4\n", "!A=5\n", 7), "no 1");
+    assert_eq!(released(two, &all, "!A=4\n", "A=4\n", 7), "no 0");
+    let capitals = "01 82 14 83 f6 83 6141 20 00 83 622141 20 00";
+    assert_eq!(released(capitals, &all, "a=-3\n", "!a=4\n", 7), "yes");
+    assert_eq!(released(capitals, &all, "a=-3\nA=9\n", "!a=9\n!A=4\n", 7), "no 1");
     assert_eq!(released(two, &[], "a=-3\n", "!a=4\n", 7), "no 0");
     // The first line counts, whether or not a later one is granted.
     assert_eq!(released(two, &all, "a=9\na=4\n", "!a=4\n", 7), "no 0");
     assert_eq!(released(two, &all, "a=4\na=9\n", "!a=4\n", 7), "yes");
+    assert_eq!(released(two, &all, "A=9\na=4\n", "!a=4\n", 7), "no 0");
+    assert_eq!(released(two, &all, "A=4\na=9\n", "!a=4\n", 7), "yes");
     // A relative reference has no number, whatever the lists say.
     assert_eq!(released(NAMED, &all, "a=-3\n", "!a=4\n", 7), "no 3");
     let zero = table(&[(7, 0)]);
@@ -491,7 +556,7 @@ fn empty_lists_change_nothing() {
 #[test]
 fn names_are_as_good_as_their_numbers() {
     let mut random = Random::new(23);
-    let (mut yes, mut no, mut later) = (0, 0, 0);
+    let (mut yes, mut no, mut later, mut in_case) = (0, 0, 0, 0);
     for _ in 0..8_000 {
         let (message, (published, own), table, subscriber) = case(&mut random);
         if check_names(&published, &own).is_err() {
@@ -502,14 +567,14 @@ fn names_are_as_good_as_their_numbers() {
         let mut named = 0;
         for entry in listing.entries.iter().rev() {
             let Namespace::Name(place) = entry.namespace else { continue };
-            let name = name_at(&message, place);
+            let name = std::str::from_utf8(name_at(&message, place)).unwrap();
             // The lists read once more, in another way.
-            let list = if name[0] == b'!' { &own } else { &published };
+            let list = if name.starts_with('!') { &own } else { &published };
             let list = std::str::from_utf8(list).unwrap();
-            let pair = list.lines().filter_map(|line| line.split_once('='));
-            let Some((_, number)) = pair.into_iter().find(|(key, _)| key.as_bytes() == name) else {
-                continue;
-            };
+            let mut pairs = list.lines().filter_map(|line| line.split_once('='));
+            let pair = pairs.find(|(key, _)| key.to_uppercase() == name.to_uppercase());
+            let Some((key, number)) = pair else { continue };
+            in_case += usize::from(key != name);
             let number: i64 = number.parse().unwrap();
             let mut put = Vec::new();
             match number < 0 {
@@ -534,7 +599,8 @@ fn names_are_as_good_as_their_numbers() {
             Err(_) => (),
         }
     }
-    assert!(yes > 400 && no > 400 && later > 200, "{yes} {no} {later}");
+    let counts = [yes, no, later, in_case];
+    assert!(yes > 400 && no > 400 && later > 200 && in_case > 400, "{counts:?}");
 }
 
 /// Under a table that passes its check two subscribers never get messages that come to
@@ -589,6 +655,8 @@ fn what_is_made() {
     }
     let (mut right, mut in_published, mut in_own, mut later) = (0, 0, 0, 0);
     let (mut lines_found, mut none_found, mut repeated, mut passed_over) = (0, 0, 0, 0);
+    // Lines found in another case, and with one behind it that is spelled as the name is.
+    let (mut in_case, mut spelled_later) = (0, 0);
     for _ in 0..5_000 {
         let lists = made::lists(&mut random);
         let (published, own) = &lists;
@@ -606,13 +674,20 @@ fn what_is_made() {
         none_found += usize::from(line.is_empty());
         let list = if name.starts_with(b"!") { own } else { published };
         let start = [&name[..], b"="].concat();
-        let with_it: Vec<&[u8]> =
-            lines(list).map(|(_, line)| line).filter(|line| line.starts_with(&start)).collect();
+        let begins =
+            |line: &&[u8]| line.to_ascii_lowercase().starts_with(&start.to_ascii_lowercase());
+        let with_it: Vec<&[u8]> = lines(list).map(|(_, line)| line).filter(begins).collect();
         repeated += usize::from(!line.is_empty() && with_it.len() > 1);
         passed_over += usize::from(!line.is_empty() && !with_it[0].starts_with(line));
+        let spelled = line.is_empty() || line.starts_with(&start);
+        let is_spelled = |line: &&[u8]| line.starts_with(&start);
+        in_case += usize::from(!spelled);
+        spelled_later += usize::from(!spelled && with_it.iter().any(is_spelled));
     }
     let seen = [right, in_published, in_own, later, lines_found, none_found, repeated];
-    assert!(seen.iter().all(|count| *count > 300) && passed_over > 20, "{seen:?} {passed_over}");
+    let less = [passed_over, in_case, spelled_later];
+    assert!(seen.iter().all(|count| *count > 250), "{seen:?}");
+    assert!(less.iter().all(|count| *count > 20), "{less:?}");
 
     let (mut answers, mut named_yes, mut tests) = ([0; 2], 0, [0; 20]);
     for _ in 0..5_000 {

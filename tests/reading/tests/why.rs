@@ -186,19 +186,28 @@ fn places_of_keys() {
     );
 }
 
-/// A name without a line, one with a line in the other list only, and one with a line.
+/// A name without a line, one with a line in the other list only, and one with a line, its
+/// letters in either case.
 #[test]
 fn names_in_a_collection() {
     let chain = ", 1 27 Set(0), 3 27 TypedValue, 9 27 Target(1), 13 27 ParameterList, \
                  15 26 Parameter(1), 17 26 TypedValue, 20 25 CollectionMember(1)";
-    for (published, own) in [("", ""), ("b=5\n!a=5\n", "a=5\n"), ("A=5\naa=5\n", "")] {
+    for (published, own) in
+        [("", ""), ("b=5\n!a=5\n", "a=5\n"), ("B=5\n!A=5\naa=5\nAA=5\n", "A=5\n")]
+    {
         assert_eq!(told(COLLECTION, &[5], published, own), format!("3 NameUnknown{chain}"));
     }
-    for published in ["a=6\n", "a=6\na=5\n", "b=5\na=-5\n"] {
-        assert_eq!(told(COLLECTION, &[5], published, ""), format!("3 NotGranted{chain}"));
+    let capital = COLLECTION.replace("6161", "6141");
+    for lines in [COLLECTION, &capital] {
+        for published in ["a=6\n", "A=6\n", "a=6\na=5\n", "a=6\nA=5\n", "A=6\na=5\n", "b=5\na=-5\n"]
+        {
+            assert_eq!(told(lines, &[5], published, ""), format!("3 NotGranted{chain}"));
+        }
+        for published in ["a=5\n", "A=5\naa=6\n", "a=5\na=6\n", "a=5\nA=6\n", "A=5\na=6\n"] {
+            assert_eq!(told(lines, &[5], published, ""), "released", "{published}");
+        }
+        assert_eq!(told(lines, &[5, 6], "a=6\n", ""), "released");
     }
-    assert_eq!(told(COLLECTION, &[5], "a=5\na=6\n", ""), "released");
-    assert_eq!(told(COLLECTION, &[5, 6], "a=6\n", ""), "released");
 }
 
 /// Sets are counted, the empty one too, and reports through all sets; a relative source is

@@ -1,6 +1,6 @@
 //! `programs COMMAND PROGRAM [--seed S]`: gives the program of `gate list`, `items`, `stream`,
-//! `text`, `table`, `names`, `release` or `why` fixed inputs and made ones, and compares what
-//! it writes with the reading.
+//! `text`, `table`, `names`, `release`, `why` or `same` fixed inputs and made ones, and
+//! compares what it writes with the reading.
 
 use std::fmt::Write as _;
 use std::io::Write as _;
@@ -10,12 +10,12 @@ use reading::generate::names::{self as made, Lists};
 use reading::generate::{self, nests, tables, texts, Random};
 use reading::names::{self, check_names, find_line, lines};
 use reading::printed::{entry_line, item_lines, listing_lines, why_lines};
-use reading::vectors::{self, to_hex, Call, Line};
+use reading::vectors::{self, hex, to_hex, Call, Line};
 use reading::why::why;
 use reading::{
     check_table, closing, is_namespace_name, items_message, items_single, listing, read_table,
-    read_text, rows, table_bytes, text_of, Listing, NoTable, Record, Refusal, Release, Row, LIMITS,
-    TABLE_ROWS, TABLE_TEXT,
+    read_text, rows, same, table_bytes, text_of, Listing, NoTable, Record, Refusal, Release, Row,
+    LIMITS, TABLE_ROWS, TABLE_TEXT,
 };
 
 /// What a program writes to standard output and to standard error.
@@ -555,6 +555,105 @@ fn compare_why(program: &Program, random: &mut Random) -> Result<String, String>
     ))
 }
 
+/// Pairs by hand: the same in other letters and heads, different in the letters of a string, a
+/// label and a key, and in a number, refused for the first, for the second and for both.
+const PAIRS: [(&str, &str); 10] = [
+    ("83 64 42756f79 64 4354524c 6178", "9803 7804 62756f79 64 6374726c 6158"),
+    ("82 14 82 f6 83 6161 20 6162", "82 14 82 f6 83 6141 20 6142"),
+    ("82 0a 6161", "82 0a 6141"),
+    ("84 f6 20 00 81 82 0e 6161", "84 f6 20 00 81 82 0e 6141"),
+    ("84 f6 20 00 a1 6161 00", "84 f6 20 00 a1 6141 00"),
+    ("81 6161", "81 622161"),
+    ("01", "21"),
+    ("82 05 f6", "82 05 00"),
+    ("82 05 00", "82 05 f6"),
+    ("81 6161 00", "81 6140"),
+];
+
+/// "same" or "different"; or the refusal, and which file it is of on standard error.
+fn same_lines(first: &[u8], second: &[u8], files: &[String; 2]) -> Printed {
+    match same(first, second, &LIMITS) {
+        Ok(true) => Printed::out("same\n"),
+        Ok(false) => Printed::out("different\n"),
+        Err(refusal) => {
+            let file = &files[usize::from(items_single(first).is_ok())];
+            let error = format!("{file}\n").into_bytes();
+            Printed { error, ..line(refusal) }
+        }
+    }
+}
+
+fn compare_same(program: &Program, random: &mut Random) -> Result<String, String> {
+    let files = Files::new()?;
+    let mut pairs = PAIRS.map(|(first, second)| (hex(first), hex(second))).to_vec();
+    // Files that are longer than what is read of them.
+    pairs.push((vec![0; 4 * LIMITS.bytes], hex("00")));
+    pairs.push((hex("00"), vec![0; LIMITS.bytes + 2]));
+    // An accepted input beside itself in other letters and heads; each beside the last one
+    // that was accepted before, now as the first and now as the second.
+    let mut before = hex("00");
+    for input in fixed(Call::Single) {
+        let other = std::mem::replace(&mut before, input.clone());
+        match items_single(&input) {
+            Ok(_) => pairs.push((input.clone(), generate::rewritten(random, &input, 30, 30))),
+            Err(_) => before = other.clone(),
+        }
+        pairs.push(if random.chance(50) { (input, other) } else { (other, input) });
+    }
+    let fixed = pairs.len();
+    for _ in 0..1_000 {
+        let settings = generate::settings(random);
+        let first = generate::single(random, settings);
+        let records = items_single(&first).unwrap_or_default();
+        let mut second = match random.below(6) {
+            0 => generate::single(random, settings),
+            1 | 2 => generate::one_letter(random, &first, &records),
+            _ => generate::rewritten(random, &first, 5, 10),
+        };
+        if random.chance(20) {
+            generate::damage(random, &mut second, &[], &first);
+        }
+        pairs.push(if random.chance(50) { (first, second) } else { (second, first) });
+    }
+    let mut answers = [0; 4];
+    for (first, second) in &pairs {
+        let paths = [files.put("first", first)?, files.put("second", second)?];
+        let due = same_lines(first, second, &paths);
+        answers[match &due.out[..] {
+            b"same\n" => 0,
+            b"different\n" => 1,
+            _ if due.error.ends_with(b"first\n") => 2,
+            _ => 3,
+        }] += 1;
+        let contents = |words| format!("{words}\nfiles: {}, {}", to_hex(first), to_hex(second));
+        program.compare(&strings(&paths), b"", due).map_err(contents)?;
+    }
+    // One file beside itself, and one that is refused beside itself.
+    let [ari, refused]: [&str; 2] = [&files.put("ari", &[0])?, &files.put("refused", &[0, 0])?];
+    program.compare(&[ari, ari], b"", Printed::out("same\n"))?;
+    let due =
+        Printed { error: format!("{refused}\n").into_bytes(), out: b"refused 13 1\n".to_vec() };
+    program.compare(&[refused, refused], b"", due)?;
+    for arguments in [&[][..], &[ari], &[ari, ari, ari], &[ari, ari, ""]] {
+        program.compare(arguments, b"", Printed::error("usage: gate same FILE FILE\n"))?;
+    }
+    // Nothing is answered, not even for a first file that is refused.
+    let missing: &str = &files.path("missing")?;
+    let error = format!("{missing}: No such file or directory\n");
+    for arguments in [[missing, ari], [ari, missing], [refused, missing], [missing, "/"]] {
+        program.compare(&arguments, b"", Printed::error(error.clone()))?;
+    }
+    for arguments in [["/", ari], [ari, "/"], ["/", missing]] {
+        program.compare(&arguments, b"", Printed::error("/: Is a directory\n"))?;
+    }
+    let made = pairs.len() - fixed;
+    let [alike, different, of_first, of_second] = answers;
+    Ok(format!(
+        "{fixed} fixed and {made} made pairs: {alike} the same, {different} different, {of_first} \
+         refused for the first and {of_second} for the second"
+    ))
+}
+
 fn main() -> ExitCode {
     let arguments: Vec<String> = std::env::args().skip(1).collect();
     let (seed, known) = match &arguments[..] {
@@ -573,11 +672,12 @@ fn main() -> ExitCode {
         "names" => Some(compare_names as _),
         "release" => Some(compare_released as _),
         "why" => Some(compare_why as _),
+        "same" => Some(compare_same as _),
         _ => None,
     });
     let (Some(seed), Some((command, program)), Some(compare)) = (seed, known, compare) else {
         eprintln!(
-            "usage: programs list|items|stream|text|table|names|release|why PROGRAM [--seed S]"
+            "usage: programs list|items|stream|text|table|names|release|why|same PROGRAM [--seed S]"
         );
         return ExitCode::FAILURE;
     };

@@ -118,8 +118,9 @@ pub fn wrong_line(random: &mut Random, name: &[u8]) -> Vec<u8> {
     [&name[..], b"=", number.as_bytes(), b"\n"].concat()
 }
 
-/// The same name, nearly: with or without the "!", the case of a letter changed, the
-/// last byte gone, or one more.
+/// The same name, nearly: with or without the "!", the last byte gone, or one more; or with
+/// the bit of a byte changed that is a letter's case, which is another name if the byte is no
+/// letter.
 fn alike(random: &mut Random, name: &[u8]) -> Vec<u8> {
     let mut other = name.to_vec();
     match (random.below(4), name) {
@@ -129,16 +130,26 @@ fn alike(random: &mut Random, name: &[u8]) -> Vec<u8> {
         (2, _) => other.push(random.pick(b"a-.")),
         _ => {
             let at = random.below(other.len());
-            if other.get(at).is_some_and(u8::is_ascii_alphabetic) {
-                other[at] ^= 0x20;
+            if let Some(byte) = other.get_mut(at) {
+                *byte ^= 0x20;
             }
         }
     }
     other
 }
 
-/// Lists with a line for each of the names, and others. Two in three have no line that is
-/// wrongly formed.
+/// The same name, a few times with letters in the other case.
+fn in_case(random: &mut Random, name: &[u8]) -> Vec<u8> {
+    let percent = random.pick(&[0, 0, 0, 20, 100]);
+    let turn = |byte: &u8| match byte.is_ascii_alphabetic() && random.chance(percent) {
+        true => byte ^ 0x20,
+        false => *byte,
+    };
+    name.iter().map(turn).collect()
+}
+
+/// Lists with a line for each of the names, in some case, and others. Two in three have no
+/// line that is wrongly formed.
 pub(super) fn lists_with(random: &mut Random, names: &[Vec<u8>]) -> Lists {
     // The published list, and the own one.
     let mut lists: [Vec<Vec<u8>>; 2] = Default::default();
@@ -150,7 +161,8 @@ pub(super) fn lists_with(random: &mut Random, names: &[Vec<u8>]) -> Lists {
     };
     for name in names {
         let k = usize::from(name.starts_with(b"!"));
-        lists[k].push(line(random, name));
+        let written = in_case(random, name);
+        lists[k].push(line(random, &written));
         match random.below(8) {
             0 => lists[k].push(line(random, name)),
             1 => lists[1 - k].push(line(random, name)),

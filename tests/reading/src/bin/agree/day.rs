@@ -1,6 +1,7 @@
 //! What occurred in the calls on day files, beyond their answers' numbers.
 
 use reading::day::{self, VERSION_1};
+use reading::names::find_line;
 
 use crate::{Call, Case};
 
@@ -24,8 +25,10 @@ pub struct Tally {
     /// References found by their number, and by a name.
     numbers: usize,
     names: usize,
-    /// Names that stand for a number, and names that don't.
+    /// Names that stand for a number, those of them whose line has letters in another case,
+    /// and names that don't.
     known: usize,
+    in_case: usize,
     unknown: usize,
 }
 
@@ -56,17 +59,20 @@ impl Tally {
                 self.names += low - by_number;
             }
             (Call::Number, 0) => {
+                let (published, own) = &case.lists;
+                let line = find_line(published, own, &case.other);
                 self.known += low;
+                self.in_case += usize::from(!line.starts_with(&case.other) && low == 1);
                 self.unknown += 1 - low;
             }
             _ => (),
         }
     }
 
-    fn counts(&self) -> [usize; 10] {
+    fn counts(&self) -> [usize; 11] {
         [
             self.empty, self.full, self.later, self.found, self.just_full, self.one_past,
-            self.numbers, self.names, self.known, self.unknown,
+            self.numbers, self.names, self.known, self.in_case, self.unknown,
         ]
     }
 
@@ -77,14 +83,25 @@ impl Tally {
 
 impl std::fmt::Display for Tally {
     fn fmt(&self, f: &mut std::fmt::Formatter<'_>) -> std::fmt::Result {
-        let [empty, full, later, found, just_full, one_past, numbers, names, known, unknown] =
-            self.counts();
+        let Tally {
+            empty,
+            full,
+            later,
+            found,
+            just_full,
+            one_past,
+            numbers,
+            names,
+            known,
+            in_case,
+            unknown,
+        } = self;
         write!(
             f,
             "day files: empty {empty}, full {full}, refused past entry or message 0 {later}; \
              messages past 0 found {found}; written as long as may be {just_full}, longer by a \
              byte {one_past}; references found by number {numbers}, by name {names}; names with \
-             a number {known}, without {unknown}"
+             a number {known}, in another case {in_case}, without {unknown}"
         )
     }
 }

@@ -2,7 +2,7 @@
 //! reading's: on inputs from the grammar, near the limits, damaged and random,
 //! with tables that grant most of what is named, and rooms from none to enough;
 //! day files, whole and damaged; messages that nest down to the reference by which they
-//! are held; and messages that are fed in fragments.
+//! are held; pairs of ARIs, most of them alike; and messages that are fed in fragments.
 //!
 //! `agree [--count N] [--seed S]`: N inputs in all (200,000), for each function
 //! that the archive has the same number, the stream's three counted as one; the
@@ -10,6 +10,7 @@
 
 mod day;
 mod lent;
+mod same;
 mod stream;
 mod tally;
 mod why;
@@ -42,6 +43,7 @@ enum Call {
     DaySearch,
     Number,
     Why,
+    Same,
 }
 
 /// What a call is lent. Most use only a part of it.
@@ -49,7 +51,8 @@ enum Call {
 struct Case {
     /// The message, the single ARI, the text or the day file.
     input: Vec<u8>,
-    /// The message to be added to a day file, or the name whose number is wanted.
+    /// The message to be added to a day file, the name whose number is wanted, or the second
+    /// of two ARIs.
     other: Vec<u8>,
     table: Vec<u8>,
     /// The published list of names and the subscriber's own.
@@ -63,7 +66,7 @@ struct Case {
 
 impl Call {
     /// In the order of the archive's declarations.
-    const ALL: [Call; 14] = [
+    const ALL: [Call; 15] = [
         Call::Single,
         Call::Message,
         Call::List,
@@ -78,6 +81,7 @@ impl Call {
         Call::DaySearch,
         Call::Number,
         Call::Why,
+        Call::Same,
     ];
 
     fn function(self) -> &'static str {
@@ -101,6 +105,7 @@ impl Call {
             Call::DaySearch => vec![0, 16, 19, 20, 21, 22],
             Call::Number => vec![0],
             Call::Why => (0..=12).chain([16, 18, 19, archive::NO]).collect(),
+            Call::Same => (0..=7).chain(9..=13).collect(),
         }
     }
 
@@ -142,6 +147,7 @@ impl Call {
             Call::Why => {
                 packed_why(why::answer(case).and_then(|answer| reading::why::write(answer, room)))
             }
+            Call::Same => packed_low(reading::same(input, other, &LIMITS).map(usize::from)),
         }
     }
 
@@ -167,12 +173,13 @@ impl Call {
                 with_number(room, |number| archive::name_number(published, own, other, number))
             }
             Call::Why => archive::why(input, table, published, own, number, room),
+            Call::Same => archive::same(input, other),
         }
     }
 
     /// Whether the input is a single ARI; otherwise it is a message.
     fn takes_single(self) -> bool {
-        matches!(self, Call::Single | Call::Write)
+        matches!(self, Call::Single | Call::Write | Call::Same)
     }
 
     fn records(self, input: &[u8]) -> Vec<Record> {
@@ -263,6 +270,27 @@ impl Call {
         input
     }
 
+    /// A second ARI: the first in other letters and heads, most often, or with one letter
+    /// changed; and then a few damaged.
+    fn like(self, random: &mut Random, input: &[u8]) -> Vec<u8> {
+        let (letters, heads) = (random.pick(&[0, 5, 30]), random.pick(&[0, 0, 40]));
+        match random.below(10) {
+            0 => self.binary(random),
+            1 => input.to_vec(),
+            2 => {
+                let mut like = generate::rewritten(random, input, letters, heads);
+                let records = self.records(&like);
+                generate::damage(random, &mut like, &records, input);
+                like
+            }
+            3..=5 => {
+                let like = generate::one_letter(random, input, &self.records(input));
+                generate::rewritten(random, &like, 0, heads)
+            }
+            _ => generate::rewritten(random, input, letters, heads),
+        }
+    }
+
     /// A table and lists for a message, in which names of lists take the place of some
     /// namespaces; now and then there are no lists.
     fn give_names(self, random: &mut Random, case: &mut Case) {
@@ -322,6 +350,10 @@ impl Call {
             Call::Release | Call::Why => {
                 case.input = self.binary(random);
                 self.give_names(random, &mut case);
+            }
+            Call::Same => {
+                case.input = self.binary(random);
+                case.other = self.like(random, &case.input);
             }
             _ => case.input = self.binary(random),
         }
@@ -457,6 +489,7 @@ struct Tally {
     read_back: usize,
     days: day::Tally,
     whys: why::Tally,
+    pairs: same::Tally,
 }
 
 impl Tally {
@@ -473,13 +506,16 @@ impl Tally {
             read_back: 0,
             days: day::Tally::default(),
             whys: why::Tally::default(),
+            pairs: same::Tally::default(),
         }
     }
 
     fn add(&mut self, call: Call, case: &Case, answer: u64) {
         self.days.add(call, case, answer);
-        if call == Call::Why {
-            self.whys.add(case, answer);
+        match call {
+            Call::Why => self.whys.add(case, answer),
+            Call::Same => self.pairs.add(case, answer),
+            _ => (),
         }
         for (_, column) in self.answers.iter_mut().filter(|(of, _)| *of == call) {
             column.add(answer);
@@ -607,11 +643,12 @@ fn main() -> ExitCode {
         columns.extend([&streams.feeds, &streams.closes]);
     }
     let with_days = day::CALLS.iter().all(|call| calls.contains(call));
-    let with_why = calls.contains(&Call::Why);
+    let (with_why, with_same) = (calls.contains(&Call::Why), calls.contains(&Call::Same));
     let complete = tally::print(&columns)
         && (!with_stream || streams.is_complete())
         && (!with_days || tally.days.is_complete())
-        && (!with_why || tally.whys.is_complete());
+        && (!with_why || tally.whys.is_complete())
+        && (!with_same || tally.pairs.is_complete());
     println!(
         "refused at byte 16 or later {}, entries listed {}, yes with references {}, with names \
          {}, no past entry 0 {}, texts read back {}",
@@ -622,6 +659,9 @@ fn main() -> ExitCode {
     }
     if with_why {
         println!("{}", tally.whys);
+    }
+    if with_same {
+        println!("{}", tally.pairs);
     }
     if with_stream {
         println!("{streams}");

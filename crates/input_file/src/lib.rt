@@ -1,0 +1,46 @@
+// An input from a file that an argument names. What is wrong is said on standard error, after the file's name.
+
+// So many bytes of the file stand in the room, or what was wrong has been said.
+pub enum Loaded {
+    Bytes(usize),
+    Nothing,
+}
+
+// Where the room was not filled the file has ended, or could not be read: one read more tells.
+fn end_of(fd: i32, path: &[u8], n: usize, room: usize) -> Loaded {
+    if n < room {
+        let mut one = [0u8; 1];
+        if libc::read(fd, &mut one) < 0 {
+            os::fail(path);
+            return Loaded::Nothing;
+        }
+    }
+    Loaded::Bytes(n)
+}
+
+fn load_path(path: &[u8], room: &mut [u8]) -> Loaded {
+    let fd = os::open_read(path);
+    if fd < 0 {
+        os::fail(path);
+        return Loaded::Nothing;
+    }
+    let n = io::read_full(fd, room);
+    let r = end_of(fd, path, n, room.len());
+    libc::close(fd);
+    r
+}
+
+// The file that argument k names, as far as there is room: a byte past an input's limit is enough to have it refused.
+pub fn load(k: usize, room: &mut [u8]) -> Loaded {
+    let mut path = io::buffer();
+    let n = os::arg(k, &mut path);
+    load_path(&path[..n], room)
+}
+
+// The file's name and a line feed, on standard error.
+pub fn say_name(k: usize) {
+    let mut path = io::buffer();
+    let n = os::arg(k, &mut path);
+    io::write_all(2, &path[..n]);
+    io::write_all(2, b"\n");
+}
