@@ -3,15 +3,18 @@
      day check FILE                                 passes MESSAGES
      day get FILE NUMBER                            that message's bytes
      day add FILE                                   added NUMBER
+     day upgrade FILE                               upgraded MESSAGES
      day list FILE [PUBLISHED [OWN]]                a line for each reference
      day search FILE NAMESPACE [PUBLISHED [OWN]]    those lines of one namespace
 
    Each writes `refused NUMBER PLACE` instead if something is refused: surfbodkin.h says
    which numbers there are. `add` takes the message from standard input, and a missing
-   FILE for one without messages. A line has the message's number, the reference's first
-   byte in the file and the byte after its last, its namespace (a number, a name, or a
-   full stop for a relative one), the number that this stands for by the lists of names,
-   or `-`, and the reference's text, or `-` if it has none.
+   FILE for one of version 2 without messages. `upgrade` rewrites a file of version 1 as
+   version 2, which may grow longer and takes bigger messages. A line has the message's
+   number, the reference's first byte in the file and the byte after its last, its
+   namespace (a number, a name, or a full stop for a relative one), the number that this
+   stands for by the lists of names, or `-`, and the reference's text, or `-` if it has
+   none.
 
    Exit status: 0 done, 1 refused, 2 it could not do its work; then standard error has
    the reason. Nothing is written to standard output before all that can fail but the
@@ -36,6 +39,7 @@ static const char USAGE[] =
     "usage: gate day check FILE\n"
     "       gate day get FILE NUMBER\n"
     "       gate day add FILE\n"
+    "       gate day upgrade FILE\n"
     "       gate day list FILE [PUBLISHED [OWN]]\n"
     "       gate day search FILE NAMESPACE [PUBLISHED [OWN]]\n";
 
@@ -50,7 +54,7 @@ static void fail(const char *format, ...) {
   _exit(FAILED);
 }
 
-/* What is said if standard output can't be written; `add` has more to say. */
+/* What is said if standard output can't be written; `add` and `upgrade` have more to say. */
 static char after_all[80];
 
 static void fail_to_say(void) {
@@ -89,7 +93,7 @@ static struct bytes read_file(const char *name, size_t most) {
   int from = open(name, O_RDONLY | O_CLOEXEC);
   if (from < 0) fail("%s: %s", name, strerror(errno));
   do {
-    room = room == 0 ? SURFBODKIN_DAY_BYTES + 1 : 2 * room;
+    room = room == 0 ? 65536 : 2 * room;
     if (room > most) room = most;
     uint8_t *at = realloc(bytes.at, room);
     if (at == NULL) fail("%s: %s", name, strerror(errno));
@@ -191,12 +195,22 @@ static int add(const char *name) {
   return DONE;
 }
 
+static int upgrade(const char *name) {
+  static char why[DAY_FILE_WHY];
+  uint64_t answer;
+  if (day_file_upgrade(name, &answer, why) != 0) fail("%s", why);
+  if (refused(answer)) return refuse(answer);
+  snprintf(after_all, sizeof after_all, ": the file was upgraded");
+  say("upgraded %" PRIu32 "\n", surfbodkin_count(answer));
+  return DONE;
+}
+
 /* The first byte of message k of a file that passes, or the table's. The archive's find
    would check the whole file again for every message. */
 static size_t message_first(struct bytes day, uint32_t k, uint32_t messages) {
   const uint8_t *trailer = day.at + day.length - SURFBODKIN_DAY_TRAILER_BYTES;
-  size_t table = surfbodkin_get_number(trailer + 4, 4);
-  return k == messages ? table : surfbodkin_get_number(day.at + table + 2 * k, 2);
+  size_t table = surfbodkin_get_number(trailer + 4, 4), width = trailer[0] == 2 ? 4 : 2;
+  return k == messages ? table : surfbodkin_get_number(day.at + table + width * k, width);
 }
 
 static void say_line(uint32_t number, size_t first, const uint8_t *message,
@@ -326,6 +340,7 @@ static int run(int count, char **words) {
     return get(words[2], message_number(words[3]));
   }
   if (strcmp(command, "add") == 0 && count == 3) return add(words[2]);
+  if (strcmp(command, "upgrade") == 0 && count == 3) return upgrade(words[2]);
   if ((strcmp(command, "list") == 0 && 3 <= count && count <= 5) ||
       (strcmp(command, "search") == 0 && 4 <= count && count <= 6)) {
     return with_lists(count, words);

@@ -13,13 +13,14 @@
 #include "surfbodkin.h"
 
 /* A file without messages is its trailer alone. */
-static const uint8_t EMPTY[SURFBODKIN_DAY_TRAILER_BYTES] = {1};
+static const uint8_t EMPTY[SURFBODKIN_DAY_TRAILER_BYTES] = {2};
 
-/* An add that is at work. */
+/* An add or an upgrade that is at work. */
 struct work {
   char *file, *fresh, *folder; /* the file, NAME.new, and the folder of both */
   int folder_at, fresh_at;     /* open, or -1 */
   int made;                    /* NAME.new is there and is ours to remove */
+  int upgrades;                /* it adds nothing */
   char *why;
 };
 
@@ -100,7 +101,7 @@ static int make_fresh(struct work *work) {
     if (S_ISDIR(old.st_mode)) return say(work, work->file, strerror(EISDIR));
     if (!S_ISREG(old.st_mode)) return say(work, work->file, "not a regular file");
     mode = old.st_mode & 0777;
-  } else if (errno != ENOENT) {
+  } else if (errno != ENOENT || work->upgrades) {
     return fail(work, work->file);
   }
   /* Opened first: after the renaming nothing shall fail that could have before. */
@@ -109,20 +110,21 @@ static int make_fresh(struct work *work) {
   work->fresh_at = open(work->fresh, O_WRONLY | O_CREAT | O_EXCL | O_CLOEXEC, mode);
   if (work->fresh_at < 0 && errno == EEXIST) {
     return say(work, work->fresh,
-               "is there already: another add is at work, or one was broken off;"
-               " once none is at work, remove it and add again");
+               "is there already: another add or upgrade is at work, or one was broken"
+               " off; once none is at work, remove it and try again");
   }
   if (work->fresh_at < 0) return fail(work, work->fresh);
   work->made = 1;
   return 0;
 }
 
-/* Reads the old file, if there is one, and gives its mode and owner to the new one. */
+/* Reads the old file, or what stands for a missing one, and gives its mode and owner to
+   the new one. */
 static int read_old(struct work *work, uint8_t *to, size_t room, size_t *length) {
   struct stat old, fresh;
   /* It is not written; but one that may not be written is not to be replaced either. */
   int from = open(work->file, O_RDWR | O_CLOEXEC);
-  if (from < 0 && errno == ENOENT) {
+  if (from < 0 && errno == ENOENT && !work->upgrades) {
     memcpy(to, EMPTY, sizeof EMPTY);
     *length = sizeof EMPTY;
     return 0;
@@ -160,7 +162,7 @@ static int put_new(struct work *work, const uint8_t *from, size_t length) {
   if (gone != 0 && errno != ENOENT) return fail(work, work->fresh);
   if (gone != 0 || there.st_dev != ours.st_dev || there.st_ino != ours.st_ino) {
     work->made = 0;
-    return say(work, work->fresh, "was removed while this add was at work; add again");
+    return say(work, work->fresh, "was removed while this was at work; try again");
   }
   int closed = close(work->fresh_at);
   work->fresh_at = -1;
@@ -171,27 +173,29 @@ static int put_new(struct work *work, const uint8_t *from, size_t length) {
   if (sync_to_disk(work->folder_at) != 0 && errno != EINVAL) {
     int error = errno;
     snprintf(work->why, DAY_FILE_WHY,
-             "%s: %s: the message stands in %s, but may be lost with the power",
-             work->folder, strerror(error), work->file);
+             "%s: %s: %s stands in %s, but may be lost with the power", work->folder,
+             strerror(error), work->upgrades ? "version 2" : "the message", work->file);
     return -1;
   }
   return 0;
 }
 
-static int add(struct work *work, const uint8_t *message, size_t length,
-               uint64_t *answer) {
+static int replace(struct work *work, const uint8_t *message, size_t length,
+                   uint64_t *answer) {
   static uint8_t old[SURFBODKIN_DAY_BYTES + 1], fresh[SURFBODKIN_DAY_BYTES];
   size_t old_length;
   if (make_fresh(work) != 0) return -1;
   if (read_old(work, old, sizeof old, &old_length) != 0) return -1;
-  *answer = surfbodkin_day_add(old, old_length, message, length, fresh, sizeof fresh);
+  *answer = work->upgrades
+                ? surfbodkin_day_upgrade(old, old_length, fresh, sizeof fresh)
+                : surfbodkin_day_add(old, old_length, message, length, fresh, sizeof fresh);
   if (surfbodkin_number(*answer) != SURFBODKIN_ACCEPTED) return 0;
   return put_new(work, fresh, surfbodkin_low(*answer));
 }
 
-int day_file_add(const char *name, const uint8_t *message, size_t length,
-                 uint64_t *answer, char why[DAY_FILE_WHY]) {
-  struct work work = {.folder_at = -1, .fresh_at = -1, .why = why};
+static int safely(const char *name, int upgrades, const uint8_t *message, size_t length,
+                  uint64_t *answer, char why[DAY_FILE_WHY]) {
+  struct work work = {.folder_at = -1, .fresh_at = -1, .upgrades = upgrades, .why = why};
   int status = find_names(&work, name);
   if (status == 0) {
     /* Who breaks off by hand shall not leave NAME.new behind: signals wait so long. A
@@ -205,7 +209,7 @@ int day_file_add(const char *name, const uint8_t *message, size_t length,
     sigaddset(&waiting, SIGTERM);
     sigprocmask(SIG_BLOCK, &waiting, &before);
     sigaction(SIGXFSZ, &ignore, &size_before);
-    status = add(&work, message, length, answer);
+    status = replace(&work, message, length, answer);
     if (work.fresh_at >= 0) close(work.fresh_at);
     if (work.folder_at >= 0) close(work.folder_at);
     if (work.made && unlink(work.fresh) != 0) {
@@ -221,4 +225,13 @@ int day_file_add(const char *name, const uint8_t *message, size_t length,
   free(work.fresh);
   free(work.folder);
   return status;
+}
+
+int day_file_add(const char *name, const uint8_t *message, size_t length,
+                 uint64_t *answer, char why[DAY_FILE_WHY]) {
+  return safely(name, 0, message, length, answer, why);
+}
+
+int day_file_upgrade(const char *name, uint64_t *answer, char why[DAY_FILE_WHY]) {
+  return safely(name, 1, NULL, 0, answer, why);
 }

@@ -203,6 +203,12 @@ static void add_to_day(const char *day) {
     case SURFBODKIN_DAY_FULL:
       fail("cannot add to the day file: %s: it is full", day);
       break;
+    case SURFBODKIN_TOO_LONG:
+    case SURFBODKIN_TOO_MANY_ITEMS:
+    case SURFBODKIN_TOO_MANY_CONTAINERS:
+      /* It was accepted by itself: only version 1 keeps smaller limits. */
+      fail("cannot add to the day file: %s: the message is too big for version 1", day);
+      break;
     default:
       fail("cannot add to the day file: %s: it is refused, %u at %" PRIu64, day,
            surfbodkin_number(answer), surfbodkin_place(answer));

@@ -52,19 +52,24 @@ extern "C" {
 /* Limits, beyond which an input is refused (tests 1, 5, 6 and 20), and sizes. A grant
    table and a list of names may have any length. */
 enum surfbodkin_size {
-  SURFBODKIN_BYTES = 4096,       /* of a message or a single ARI */
-  SURFBODKIN_ITEMS = 1024,       /* of a message or a single ARI */
-  SURFBODKIN_CONTAINERS = 12,    /* arrays and maps open at once */
-  SURFBODKIN_TEXT_BYTES = 32768, /* of a text; every text that is written fits */
-  SURFBODKIN_ROW = 16,           /* bytes of a row in a grant table */
-  SURFBODKIN_ENTRY = 24,         /* bytes of an entry in a listing */
-  SURFBODKIN_ENTRIES = 512,      /* no listing has more: an entry takes two items */
-  SURFBODKIN_LINK = 24,          /* bytes of a link in the chain that why writes */
-  SURFBODKIN_LINKS = 12,         /* no chain has more: each link is an open container */
-  SURFBODKIN_STREAM_WORDS = 67,  /* of a stream's state, each a uint64_t */
-  SURFBODKIN_DAY_BYTES = 65535,  /* of a day file */
+  SURFBODKIN_BYTES = 16384,       /* of a message or a single ARI */
+  SURFBODKIN_ITEMS = 4096,        /* of a message or a single ARI */
+  SURFBODKIN_CONTAINERS = 24,     /* arrays and maps open at once */
+  SURFBODKIN_TEXT_BYTES = 131072, /* of a text; every text that is written fits */
+  SURFBODKIN_ROW = 16,            /* bytes of a row in a grant table */
+  SURFBODKIN_ENTRY = 24,          /* bytes of an entry in a listing */
+  SURFBODKIN_ENTRIES = 2048,      /* no listing has more: an entry takes two items */
+  SURFBODKIN_LINK = 24,           /* bytes of a link in the chain that why writes */
+  SURFBODKIN_LINKS = 24,          /* no chain has more: each link is an open container */
+  SURFBODKIN_STREAM_WORDS = 127,  /* of a stream's state, each a uint64_t */
+  SURFBODKIN_DAY_BYTES = 1048576, /* of a day file */
+  SURFBODKIN_DAY_BYTES_1 = 65535, /* of one of version 1 */
+  SURFBODKIN_DAY_MESSAGES = 65535, /* of a day file */
   SURFBODKIN_DAY_TRAILER_BYTES = 8, /* of its trailer, and of a file without messages */
-  SURFBODKIN_DAY_ENTRIES = 32767 /* no search finds more: a reference takes two bytes */
+  SURFBODKIN_DAY_ENTRIES = 524288,  /* no search finds more: a reference takes two bytes */
+  SURFBODKIN_BYTES_1 = 4096,        /* of a message in a day file of version 1, */
+  SURFBODKIN_ITEMS_1 = 1024,        /* its items, */
+  SURFBODKIN_CONTAINERS_1 = 12      /* and its arrays and maps open at once */
 };
 
 /* The number in an answer's top byte. Tests are tried in this order: 1, then 2 to 12
@@ -238,19 +243,30 @@ uint64_t surfbodkin_why(const uint8_t *message, size_t length,
                         uint64_t subscriber, uint8_t *out, size_t out_length);
 
 /* A DAY FILE holds the messages that were released on one day: the messages back to
-   back from byte 0, then a table with the first byte of each as 2 bytes, then a trailer
-   of 8 bytes: the version, 1, a zero byte, the number of messages (2 bytes) and the
-   table's first byte (4 bytes), all big-endian. Messages are numbered from 0. A file
-   without messages is its trailer alone, 01 00 00 00 00 00 00 00. Each day_ function
-   first checks the whole file, and refuses it by
+   back from byte 0, then a table with the first byte of each, then a trailer of 8
+   bytes: the version, a zero byte, the number of messages (2 bytes) and the table's
+   first byte (4 bytes), all big-endian. Messages are numbered from 0. There are two
+   versions:
 
-     20   place 0: shorter than 8 bytes or longer than SURFBODKIN_DAY_BYTES, another
+          an entry of the table   the whole file            its messages
+     2    4 bytes                 SURFBODKIN_DAY_BYTES      SURFBODKIN_BYTES, _ITEMS and
+                                                            _CONTAINERS, as elsewhere
+     1    2 bytes                 SURFBODKIN_DAY_BYTES_1    SURFBODKIN_BYTES_1, _ITEMS_1
+                                                            and _CONTAINERS_1
+
+   A file without messages is its trailer alone: 02 00 00 00 00 00 00 00, or in version 1
+   01 00 00 00 00 00 00 00. Every call takes files of either version, and a file stays in
+   its version until day_upgrade rewrites it. Each day_ function first checks the whole
+   file, and refuses it by
+
+     20   place 0: shorter than 8 bytes or longer than its version allows, another
           version, a second byte of the trailer that is not 0, messages, table and
           trailer that do not add up to the length, or no messages and a table that
           does not start at 0
      21   place: the first entry of the table, counted from 0, that is the first one
           and not 0, or is not above the one before, or is not below the table's start
-     22   place: the first message, counted from 0, that check_message refuses */
+     22   place: the first message, counted from 0, that check_message refuses, or would
+          by the limits of the file's version */
 
 /* Checks a day file.
      accepted   low: its messages
@@ -263,16 +279,26 @@ uint64_t surfbodkin_day_check(const uint8_t *file, size_t length);
                 17, place: the number of messages, if there is no such one */
 uint64_t surfbodkin_day_find(const uint8_t *file, size_t length, uint64_t number);
 
-/* Writes the file with one message more, behind the others.
+/* Writes the file with one message more, behind the others, in the same version.
      accepted   count: its messages; low: its bytes
      refused    20 to 22
-                1 to 12 as check_message, for the new message
+                1 to 12 as check_message, for the new message, by the limits of the
+                file's version
                 23, place 0: with the message and its entry in the table the file would
-                be longer than SURFBODKIN_DAY_BYTES
+                be longer than its version allows, or it has SURFBODKIN_DAY_MESSAGES
+                messages already, as only one of version 2 can
                 16, place: the bytes of the new file, if `out` has fewer */
 uint64_t surfbodkin_day_add(const uint8_t *file, size_t length,
                             const uint8_t *message, size_t message_length,
                             uint8_t *out, size_t out_length);
+
+/* Rewrites a file of version 1 as one of version 2 with the same messages.
+     accepted   count: its messages; low: its bytes
+     refused    20 to 22; 20 also for a file of version 2
+                16, place: the bytes of the new file, `length` and 2 for each message,
+                if `out` has fewer */
+uint64_t surfbodkin_day_upgrade(const uint8_t *file, size_t length,
+                                uint8_t *out, size_t out_length);
 
 /* Lists the references in all messages whose namespace is a number, given in two's
    complement, or a name that stands for it by the two lists as in release; in order,

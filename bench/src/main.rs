@@ -6,8 +6,9 @@
 use std::hint::black_box;
 use std::time::Instant;
 
-use reading::archive::{self, packed, packed_low, packed_release, packed_why, packed_written};
-use reading::day::{self, file_of, VERSION_1};
+use reading::archive::{self, packed, packed_added, packed_low, packed_release};
+use reading::archive::{packed_why, packed_written};
+use reading::day::{self, file_of, form_of, Form, VERSION_1, VERSION_2};
 use reading::generate::days::message_of_length;
 use reading::generate::{self, Random, Settings};
 use reading::vectors::hex;
@@ -118,7 +119,7 @@ fn varied(
     inputs
 }
 
-/// Messages, or lists, that fill both limits nearly.
+/// Messages, or lists, that fill the first limits nearly.
 fn large_settings(random: &mut Random) -> Settings {
     Settings {
         items: 1_010,
@@ -131,6 +132,11 @@ fn large_settings(random: &mut Random) -> Settings {
         few_namespaces: false,
         wide: 0,
     }
+}
+
+/// Those that fill the limits of now, four times as large.
+fn largest_settings(random: &mut Random) -> Settings {
+    Settings { items: 4_070, bytes: LIMITS.bytes, ..large_settings(random) }
 }
 
 fn mean(inputs: &[Vec<u8>], f: impl Fn(&[u8]) -> usize) -> usize {
@@ -194,7 +200,7 @@ struct Check {
     string: Option<Vec<u8>>,
 }
 
-fn checks(large: &[Vec<u8>]) -> Vec<Check> {
+fn checks(large: &[Vec<u8>], largest: &[Vec<u8>]) -> Vec<Check> {
     let small = varied(2_000, 1, 16..=20, 12..=16, check_message, |random| {
         let settings = Settings {
             items: 20,
@@ -214,7 +220,7 @@ fn checks(large: &[Vec<u8>]) -> Vec<Check> {
         let settings = Settings { wide: 100, ..large_settings(random) };
         generate::full_message(random, settings, 4_096)
     });
-    let plain = ascii(4_000);
+    let (plain, longest) = (ascii(4_000), ascii(16_000));
     // A letter of two bytes in every hundred.
     let mut letters = plain.clone();
     for pair in letters.chunks_mut(100) {
@@ -228,11 +234,14 @@ fn checks(large: &[Vec<u8>]) -> Vec<Check> {
         check("a  2,000 like it", small),
         check("b  4,096 bytes, repeated", large[..1].to_vec()),
         check("b  500 like it", large.to_vec()),
+        check("b  16,384 bytes, repeated", largest[..1].to_vec()),
+        check("b  100 like it", largest.to_vec()),
         check("b  4,096 bytes, heads of 9", wide[..1].to_vec()),
         check("b  500 like it", wide),
         check("c  strings of 0 to 40 bytes", (0..=40).map(|k| note_of(&ascii(k))).collect()),
         Check { string: Some(letters.clone()), ..check("c  40 letters of 2 bytes", of(&letters)) },
         Check { string: Some(plain.clone()), ..check("c  4,000 bytes of ASCII", of(&plain)) },
+        Check { string: Some(longest.clone()), ..check("c  16,000 bytes of ASCII", of(&longest)) },
     ]
 }
 
@@ -390,7 +399,7 @@ fn time_stream_by_size(name: &str, messages: &[Vec<u8>]) {
     );
 }
 
-fn time_streams(large: &[Vec<u8>]) {
+fn time_streams(large: &[Vec<u8>], largest: &[Vec<u8>]) {
     println!(
         "{:<25}{:>7}{:>7}{:>7}{:>10}{:>10}{:>10}{:>10}   {:>9}{:>13}",
         "stream",
@@ -408,6 +417,7 @@ fn time_streams(large: &[Vec<u8>]) {
     for (name, messages) in [
         ("h  4,096 bytes, repeated", &large[..1]),
         ("h  50 like it", &large[..50]),
+        ("h  16,384 bytes, repeated", &largest[..1]),
         ("h  4,000 bytes of ASCII", &notes),
     ] {
         for piece in [1, 16, 4_096] {
@@ -420,7 +430,7 @@ fn time_streams(large: &[Vec<u8>]) {
         "stream, ns a byte", "bytes", "items", "check", "by 1", "by 16", "1/check", "16/check"
     );
     // As many bytes of each size, so that the processor learns them alike.
-    for size in [512, 1_024, 2_048, 4_096] {
+    for size in [512, 1_024, 2_048, 4_096, 16_384] {
         let share = |items: usize| items * size / 4_096;
         let range = share(900)..=share(1_024);
         let messages = varied(65_536 / size, 5, size..=size, range, check_message, |random| {
@@ -429,7 +439,7 @@ fn time_streams(large: &[Vec<u8>]) {
         });
         time_stream_by_size("i  many items", &messages);
     }
-    for size in [512, 1_024, 2_048, 4_096] {
+    for size in [512, 1_024, 2_048, 4_096, 16_384] {
         let messages = [note(size - 15)];
         time_stream_by_size("i  one string of ASCII", &messages);
     }
@@ -437,11 +447,11 @@ fn time_streams(large: &[Vec<u8>]) {
 
 /// A file as long as it may be, of the first messages that it has room for and a last one
 /// that fills it.
-fn full_file(messages: &[Vec<u8>]) -> Vec<u8> {
-    let mut left = VERSION_1.bytes - day::TRAILER;
+fn full_file(messages: &[Vec<u8>], form: &Form) -> Vec<u8> {
+    let mut left = form.bytes - day::TRAILER;
     let mut held = Vec::new();
     for message in messages.iter().cycle() {
-        let taken = message.len() + VERSION_1.offset;
+        let taken = message.len() + form.offset;
         if left < taken {
             break;
         }
@@ -449,12 +459,12 @@ fn full_file(messages: &[Vec<u8>]) -> Vec<u8> {
         held.push(message.clone());
     }
     // The last one may have to take the place of one more.
-    while left < 5 + VERSION_1.offset {
-        left += held.pop().map_or(0, |message| message.len() + VERSION_1.offset);
+    while left < 5 + form.offset {
+        left += held.pop().map_or(0, |message| message.len() + form.offset);
     }
-    held.push(message_of_length(left - VERSION_1.offset));
-    let file = file_of(&held, &VERSION_1);
-    assert_eq!(file.len(), VERSION_1.bytes);
+    held.push(message_of_length(left - form.offset));
+    let file = file_of(&held, form);
+    assert_eq!(file.len(), form.bytes);
     file
 }
 
@@ -464,7 +474,7 @@ fn sum(file: &[u8]) -> u64 {
 }
 
 /// A call on a day file, beside the reading and the sum of the bytes. The column `answer`
-/// has the messages or the entries found.
+/// has the messages, the entries found or the bytes written.
 fn time_day(
     name: &str,
     functions: &[&str],
@@ -473,7 +483,7 @@ fn time_day(
     reading: impl Fn(&[u8], &mut [u8]) -> u64,
 ) {
     let linked = functions.iter().all(|function| archive::has(function));
-    let [mut room, mut other_room] = [(); 2].map(|()| vec![0; VERSION_1.bytes / 2 * ENTRY]);
+    let [mut room, mut other_room] = [(); 2].map(|()| vec![0; file.len() / 2 * ENTRY]);
     let answer = reading(&file, &mut other_room);
     assert_eq!(answer >> 56, 0, "refused");
     assert!(!linked || archive(&file, &mut room) == answer && room == other_room);
@@ -486,11 +496,11 @@ fn time_day(
         runs.push(Run::new("archive", &files, |file| archive(file, &mut room)));
     }
     let best = Best::of(runs);
-    let bytes = files[0].len();
+    let (bytes, answer) = (files[0].len(), answer as u32);
     let rate =
         |run| best.get(run).map_or("-".to_string(), |ns| format!("{:.0}", bytes as f64 * 1e3 / ns));
     println!(
-        "{name:<36}{bytes:>7}{answer:>8}{:>12}{:>12}{:>12}{:>9}{:>9}{:>9}   {:>8}",
+        "{name:<36}{bytes:>8}{answer:>8}{:>12}{:>12}{:>12}{:>9}{:>9}{:>9}   {:>8}",
         best.ns("archive"),
         best.ns("reading"),
         best.ns("sum"),
@@ -501,11 +511,17 @@ fn time_day(
     );
 }
 
-/// Files of 65,535 bytes: the check, and searches by a number and by a name that stands
-/// for one, which is looked for too.
-fn time_days(large: &[Vec<u8>], few: &[Vec<u8>], published: &[u8], own: &[u8]) {
+/// Files of 65,535 bytes and of 1 MiB: the check, and searches by a number and by a name that
+/// stands for one, which is looked for too; and one of version 1 rewritten as version 2.
+fn time_days(
+    large: &[Vec<u8>],
+    largest: &[Vec<u8>],
+    few: &[Vec<u8>],
+    published: &[u8],
+    own: &[u8],
+) {
     println!(
-        "{:<36}{:>7}{:>8}{:>12}{:>12}{:>12}{:>9}{:>9}{:>9}   {:>8}",
+        "{:<36}{:>8}{:>8}{:>12}{:>12}{:>12}{:>9}{:>9}{:>9}   {:>8}",
         "day file, ns and MB/s",
         "bytes",
         "answer",
@@ -519,31 +535,46 @@ fn time_days(large: &[Vec<u8>], few: &[Vec<u8>], published: &[u8], own: &[u8]) {
     );
     let short = [hex(C)];
     let notes = [note(4_000)];
-    for (name, messages) in [
-        ("j  check, many items", large),
-        ("j  check, message C again and again", &short),
-        ("j  check, 4,000 bytes of ASCII each", &notes),
+    for (name, messages, form) in [
+        ("j  check, many items", large, VERSION_1),
+        ("j  check, message C again and again", &short, VERSION_1),
+        ("j  check, 4,000 bytes of ASCII each", &notes, VERSION_1),
+        ("k  check, many items", large, VERSION_2),
+        ("k  check, many items, 16,384 bytes", largest, VERSION_2),
+        ("k  check, message C again and again", &short, VERSION_2),
+        ("k  check, 4,000 bytes of ASCII each", &notes, VERSION_2),
     ] {
         time_day(
             name,
             &["surfbodkin_day_check"],
-            full_file(messages),
+            full_file(messages, &form),
             |file, _| archive::day_check(file),
-            |file, _| packed_low(day::check(file, &VERSION_1)),
+            |file, _| packed_low(day::check(file, &form_of(file))),
         );
     }
-    let namespace = generate::NAMESPACES[0];
     time_day(
-        "j  search by number, no lists",
-        &["surfbodkin_day_search"],
-        full_file(few),
-        |file, room| archive::day_search(file, b"", b"", namespace as u64, room),
-        |file, room| packed_low(day::search(file, b"", b"", namespace, room, &VERSION_1)),
+        "k  version 1 rewritten, many items",
+        &["surfbodkin_day_upgrade"],
+        full_file(large, &VERSION_1),
+        archive::day_upgrade,
+        |file, room| packed_added(day::upgrade(file, room)),
     );
+    let namespace = generate::NAMESPACES[0];
+    for (name, form) in
+        [("j  search by number, no lists", VERSION_1), ("k  search by number, no lists", VERSION_2)]
+    {
+        time_day(
+            name,
+            &["surfbodkin_day_search"],
+            full_file(few, &form),
+            |file, room| archive::day_search(file, b"", b"", namespace as u64, room),
+            |file, room| packed_low(day::search(file, b"", b"", namespace, room, &form)),
+        );
+    }
     time_day(
         "j  search by number, 2,000 lines",
         &["surfbodkin_day_search"],
-        full_file(few),
+        full_file(few, &VERSION_1),
         |file, room| archive::day_search(file, published, own, namespace as u64, room),
         |file, room| packed_low(day::search(file, published, own, namespace, room, &VERSION_1)),
     );
@@ -551,7 +582,7 @@ fn time_days(large: &[Vec<u8>], few: &[Vec<u8>], published: &[u8], own: &[u8]) {
     time_day(
         "j  search by name, 2,000 lines",
         &["surfbodkin_day_search", "surfbodkin_name_number"],
-        full_file(&[named_references(500)]),
+        full_file(&[named_references(500)], &VERSION_1),
         |file, room| {
             let mut number = 0;
             assert_eq!(archive::name_number(published, own, name, &mut number), 1);
@@ -579,6 +610,10 @@ fn main() {
         let settings = large_settings(random);
         generate::full_message(random, settings, 4_096)
     });
+    let largest = varied(100, 6, 16_384..=16_384, 3_900..=4_096, check_message, |random| {
+        let settings = largest_settings(random);
+        generate::full_message(random, settings, 16_384)
+    });
     println!(
         "{:<25}{:>7}{:>7}{:>10}{:>10}{:>10}{:>10}   {:>8}{:>9}{:>10}",
         "message check",
@@ -592,7 +627,7 @@ fn main() {
         "cbor/arc",
         "arc/utf8"
     );
-    checks(&large).into_iter().for_each(time_check);
+    checks(&large, &largest).into_iter().for_each(time_check);
 
     println!(
         "{:<36}{:>7}{:>8}{:>10}{:>10}   {:>8}",
@@ -607,6 +642,8 @@ fn main() {
     time_call("d  listing, message C", &list, &c);
     time_call("d  listing, 4,096 bytes, repeated", &list, &large[..1]);
     time_call("d  listing, 500 like it", &list, &large);
+    time_call("d  listing, 16,384 bytes, repeated", &list, &largest[..1]);
+    time_call("d  listing, 100 like it", &list, &largest);
 
     // All numbers are granted by the table's last rows.
     let few = varied(500, 3, 4_096..=4_096, 980..=1_024, check_message, |random| {
@@ -625,6 +662,12 @@ fn main() {
     time_call("e  release, 500 rows, message C", &release, &c);
     time_call("e  release, 500 rows, 4,096 bytes", &release, &few[..1]);
     time_call("e  release, 500 rows, 500 like it", &release, &few);
+    let largest_few = varied(100, 7, 16_384..=16_384, 3_900..=4_096, check_message, |random| {
+        let settings = Settings { few_namespaces: true, ..largest_settings(random) };
+        generate::full_message(random, settings, 16_384)
+    });
+    time_call("e  release, 500 rows, 16,384 bytes", &release, &largest_few[..1]);
+    time_call("e  release, 500 rows, 100 like it", &release, &largest_few);
 
     // C is held at its parameter, 500 references at the last: all but that one's namespace are granted.
     let granted: Vec<Row> =
@@ -685,6 +728,12 @@ fn main() {
     time_call("f  text of C's target", &write, &target);
     time_call("f  text of 4,096 bytes, repeated", &write, &aris[..1]);
     time_call("f  text of 500 like it", &write, &aris);
+    let largest_aris = varied(100, 8, 16_384..=16_384, 3_900..=4_096, check_single, |random| {
+        let settings = Settings { floats: false, ..largest_settings(random) };
+        generate::full_list(random, settings, 16_384)
+    });
+    time_call("f  text of 16,384 bytes, repeated", &write, &largest_aris[..1]);
+    time_call("f  text of 100 like it", &write, &largest_aris);
     let read = Call {
         function: "surfbodkin_read_text",
         archive: &archive::read_text,
@@ -694,6 +743,9 @@ fn main() {
     time_call("g  C's target from its text", &read, &target.each_ref().map(text));
     time_call("g  4,096 bytes from text, repeated", &read, &texts[..1]);
     time_call("g  500 like it", &read, &texts);
+    let texts: Vec<Vec<u8>> = largest_aris.iter().map(text).collect();
+    time_call("g  16,384 bytes from text, repeated", &read, &texts[..1]);
+    time_call("g  100 like it", &read, &texts);
     // Beside itself, so that every item is compared.
     let same = Call {
         function: "surfbodkin_same",
@@ -703,10 +755,11 @@ fn main() {
     time_call("g  C's target, the same as itself", &same, &target);
     time_call("g  4,096 bytes, repeated", &same, &aris[..1]);
     time_call("g  500 like it", &same, &aris);
+    time_call("g  16,384 bytes, repeated", &same, &largest_aris[..1]);
 
-    time_days(&large, &few, &published, &own);
+    time_days(&large, &largest, &few, &published, &own);
 
     if archive::has_stream() {
-        time_streams(&large);
+        time_streams(&large, &largest);
     }
 }

@@ -1,7 +1,7 @@
 # The part of tests/host/run that tests `gate day` and the day file of the example host
 # program: what each command writes and its status, beside day.expected, plain and with
-# the sanitizers; an `add` that is killed at each of its system calls, or is given an
-# error by each; and many at once. Read by run, whose functions and names it uses.
+# the sanitizers; an `add` and an `upgrade` that are killed at each of their system calls,
+# or are given an error by each; and many adds at once. Read by run, whose functions and names it uses.
 
 day_made=$made/day
 
@@ -29,7 +29,7 @@ day_add() {
   if [ -e "$2" ]; then od -An -v -tx1 "$2"; else printf 'no file\n'; fi
 }
 
-# note LENGTH: a message of so many bytes, from 264 to 4,097 or more: its nonce is long
+# note LENGTH: a message of so many bytes, from 264 to 16,385 or more: its nonce is long
 note() {
   bytes "01 82 14 81 59 $(printf %04x $(($1 - 7)))"
   head -c $(($1 - 7)) /dev/zero
@@ -41,21 +41,30 @@ mode() {
 
 one="$c 0000 01 00 0001 00000012"
 three="$c $order 01 0000 0012 002a 01 00 0003 0000002b"
+three_2="$c $order 01 00000000 00000012 0000002a 02 00 0003 0000002b"
 
 day_checks() {
   bytes "01 00 0000 00000000" >empty
   bytes "$one" >one
   bytes "$three" >three
+  bytes "02 00 0000 00000000" >empty_2
+  bytes "$three_2" >three_2
   day_run "no messages" check empty
   day_run "one message" check one
   day_run "three messages" check three
+  day_run "no messages, version 2" check empty_2
+  day_run "three messages, version 2" check three_2
 
   bytes "" >file
   day_run "no bytes" check file
   bytes "00 0000 00000000" >file
   day_run "seven bytes" check file
-  bytes "$c 0000 02 00 0001 00000012" >file
+  bytes "$c 0000 03 00 0001 00000012" >file
   day_run "another version" check file
+  bytes "$c 0000 02 00 0001 00000012" >file
+  day_run "version 2 with a table of version 1" check file
+  bytes "$c 00000000 01 00 0001 00000012" >file
+  day_run "version 1 with a table of version 2" check file
   bytes "$c 0000 01 01 0001 00000012" >file
   day_run "a second byte of the trailer" check file
   bytes "$c 0000 01 00 0002 00000012" >file
@@ -85,6 +94,12 @@ day_checks() {
   head -c 65528 /dev/zero >file
   bytes "01 00 0000 00000000" >>file
   day_run "65,536 bytes" check file
+  { note 4097; bytes "0000 01 00 0001 00001001"; } >file
+  day_run "a message of 4,097 bytes in version 1" check file
+  { note 4097; bytes "00000000 02 00 0001 00001001"; } >file
+  day_run "a message of 4,097 bytes in version 2" check file
+  { note 16385; bytes "00000000 02 00 0001 00004001"; } >file
+  day_run "a message of 16,385 bytes in version 2" check file
 }
 
 day_gets() {
@@ -92,6 +107,8 @@ day_gets() {
   day_get "the second message" three 1
   day_get "the last message" three 2
   day_get "no fourth message" three 3
+  day_get "the second message, version 2" three_2 1
+  day_get "no fourth message, version 2" three_2 3
   day_get "no such message by far" three 18446744073709551615
   day_get "no message in an empty file" empty 0
   for number in '' x 1x -1 +1 01 18446744073709551616; do
@@ -102,9 +119,11 @@ day_gets() {
 day_lists() {
   day_run "references of one message" list one
   day_run "references of three messages" list three
+  day_run "references of three messages, version 2" list three_2
   day_run "no references" list empty
   day_run "a search" search three -20
   day_run "a search in two messages" search three 65536
+  day_run "a search in two messages, version 2" search three_2 65536
   day_run "a search for what is not there" search three 0
   # names, relative ones, a namespace reference, one without a text, the ends of numbers
   bytes "$names $named 0000 002f 01 00 0002 0000003f" >file
@@ -144,14 +163,27 @@ day_adds() {
   day_add "a second" file "$order"
   day_add "a message that is refused" file "01 82 14"
   day_add "a third" file 01
-  cmp file three
+  cmp file three_2
+  cp empty file
+  day_add "version 1 stays" file "$c"
   day_add "the file is refused before the message" wrong_day 02
+  cp three file
   note 4097 >message
-  day_run "4,097 bytes" add file
-  { bytes 02; head -c 5000 /dev/zero; } >message
-  day_run "5,001 bytes" add file
+  day_run "4,097 bytes to version 1" add file
+  { bytes 02; head -c 20000 /dev/zero; } >message
+  day_run "20,001 bytes to version 1" add file
   cmp file three
-  rm -f file
+  cp three_2 file
+  day_run "20,001 bytes to version 2" add file
+  note 16385 >message
+  day_run "16,385 bytes to version 2" add file
+  cmp file three_2
+  note 4097 >message
+  day_run "4,097 bytes to version 2" add file
+  note 16384 >message
+  day_run "16,384 bytes to version 2" add file
+  "$day" get file 4 | cmp - message
+  cp empty file
   note 4096 >message
   for k in 0 1 2 3 4 5 6 7 8 9 10 11 12 13 14; do
     "$day" add file <message >added && printf 'added %s\n' $k | cmp - added
@@ -168,7 +200,26 @@ day_adds() {
   day_run "a full file passes" check file
   note 4055 >message
   "$day" get file 15 | cmp - message
+
+  # version 2 as long as it may be
+  rm -f file
+  note 16384 >message
+  for k in 0 1 2 3 4 5 6 7 8 9 10 11 12 13 14 15 16 17 18 19 20 21 22 23 24 25 26 27 28 29 30 31 32 33 34 35 36 37 38 39 40 \
+    41 42 43 44 45 46 47 48 49 50 51 52 53 54 55 56 57 58 59 60 61 62; do
+    "$day" add file <message >added && printf 'added %s\n' $k | cmp - added
+  done
+  note 16121 >message
+  day_run "version 2, one byte too many" add file
+  note 16120 >message
+  day_run "version 2, the last bytes" add file
+  cp file full_2
   bytes 01 >message
+  day_run "a full file of version 2" add file
+  cmp file full_2
+  wc -c <file
+  day_run "a full file of version 2 passes" check file
+  { cat full_2 && printf 0; } >file
+  day_run "a byte more" check file
 
   # the mode, and a link
   rm -f file new
@@ -195,9 +246,51 @@ day_adds() {
   rm -rf folder
 }
 
+day_upgrades() {
+  cp three file
+  day_run "a file is upgraded" upgrade file
+  cmp file three_2
+  day_run "one of version 2 is refused" upgrade file
+  cmp file three_2
+  cp empty file
+  day_run "one without messages is upgraded" upgrade file
+  cmp file empty_2
+  cp full file
+  day_run "a full file is upgraded" upgrade file
+  wc -c <file
+  note 16384 >message
+  day_run "and takes bigger messages" add file
+  bytes 01 >message
+  day_run "it passes" check file
+  for k in 0 7 15; do
+    "$day" get full $k >got && "$day" get file $k | cmp - got
+  done
+  bytes "01 01 01 0000 0002 0001 01 00 0003 00000003" >wrong
+  day_run "a bad table" upgrade wrong
+  bytes "01 02 02 0000 0001 0002 01 00 0003 00000003" >wrong
+  day_run "a message that is refused" upgrade wrong
+  day_run "no day file" upgrade wrong_day
+  rm -f file
+  day_run "a missing file" upgrade file
+  [ -e file ] || [ -e file.new ] && printf 'a file was made\n'
+  cp three file
+  chmod 640 file
+  ln -s file link
+  (umask 077 && day_run "the mode and a link stay" upgrade link)
+  mode file
+  [ -L link ] || printf 'the link is gone\n'
+  rm -f link
+  cp three file
+  : >file.new
+  day_run "an upgrade beside an add" upgrade file
+  cmp file three
+  rm -f file.new
+}
+
 day_errors() {
   for command in 'check none' 'get none 0' 'list none' 'search none 0' 'list three none' 'list three own none' \
-    'search three 0 none' 'check .' 'list three .' 'add .' 'add none/file' 'add three/file' 'add /dev/null' 'check three/file'; do
+    'search three 0 none' 'check .' 'list three .' 'add .' 'add none/file' 'add three/file' 'add /dev/null' 'check three/file' \
+    'upgrade .' 'upgrade none/file' 'upgrade /dev/null'; do
     # shellcheck disable=SC2086
     day_run "gate day $command" $command
   done
@@ -237,9 +330,14 @@ day_errors() {
     "$day" add file 2>&1 <message >&-
     printf 'exit status %s\n' $?
     "$day" check file
+    cp three file
+    printf -- '-- a full device: upgrade file\n'
+    "$day" upgrade file 2>&1 >/dev/full
+    printf 'exit status %s\n' $?
+    cmp file three_2
   fi
   day_run "no words"
-  for command in -h --help 'check -h' 'search --help' check 'check one one' 'get one' 'get one 0 0' add 'add one one' list \
+  for command in -h --help 'check -h' 'search --help' check 'check one one' 'get one' 'get one 0 0' add 'add one one' upgrade 'upgrade one one' list \
     'list one own own own' search 'search one' 'search one 0 own own own' find 'find one'; do
     # shellcheck disable=SC2086
     day_run "the words $command" $command | sed '/^       gate day /d'
@@ -265,9 +363,19 @@ relay_day() {
   day_run "relay: beside another add" table 7 message list list day
   rm day.new
   cmp day before
-  cp full day
-  day_run "relay: a full day" table 7 message list list day
-  cmp day full
+  for file in full full_2; do
+    cp $file day
+    day_run "relay: a full day" table 7 message list list day
+    cmp day $file
+  done
+  cp message order
+  note 5000 >message
+  cp three day
+  day_run "relay: too big for a day of version 1" table 7 message list list day
+  cmp day three
+  rm -f day
+  day_run "relay: a big message" table 7 message list list day
+  mv order message
   day_run "relay: no day file" table 7 message list list message
   day_run "relay: no folder" table 7 message list list none/day
   day_run "relay: too many" table 7 message list list day day
@@ -288,6 +396,7 @@ day_transcript() {
     day_gets
     day_lists
     day_adds
+    day_upgrades
     day_errors
   } >"$2" 2>&1
 }
@@ -320,8 +429,10 @@ day_permissions() {
   denied folder/file check folder/file
   denied folder/file list folder/file
   denied folder/file add folder/file
+  denied folder/file upgrade folder/file
   chmod 444 folder/file
   denied folder/file add folder/file
+  denied folder/file upgrade folder/file
   chmod 666 folder/file
   chmod 555 folder
   denied folder/file.new add folder/file
@@ -384,7 +495,7 @@ state_of_file() {
   fi
 }
 
-# after_kill TITLE: the file is whole, and can be added to
+# after_kill TITLE: the file is whole, and the work ($work, add or upgrade) can be done again
 after_kill() {
   state=$(state_of_file)
   case $state in
@@ -403,14 +514,17 @@ after_kill() {
   fi
   if [ -e file.new ]; then
     left=$((left + 1))
-    "$day" add file <message >said 2>&1
+    "$day" $work file <message >said 2>&1
     if [ $? != 2 ] || ! grep -q '^gate day: file.new: is there already: ' said || [ "$(state_of_file)" != "$state" ]; then
-      fail "$1: beside what it left add says: $(cat said)"
+      fail "$1: beside what it left $work says: $(cat said)"
     fi
     rm -f file.new
   fi
-  wanted=$([ $state = old ] && echo new || echo newer)
-  "$day" add file <message >said 2>&1 && [ "$(state_of_file)" = "$wanted" ] || fail "$1: add does not work again"
+  case $work-$state in
+  upgrade-new) "$day" upgrade file >said 2>&1 || [ "$(cat said)-$(state_of_file)" = 'refused 20 0-new' ] ;;
+  *-old) "$day" $work file <message >said 2>&1 && [ "$(state_of_file)" = new ] ;;
+  *) "$day" $work file <message >said 2>&1 && [ "$(state_of_file)" = newer ] ;;
+  esac || fail "$1: $work does not work again"
 }
 
 restore() {
@@ -418,12 +532,13 @@ restore() {
   [ ! -e old ] || cp old file
 }
 
-# With the files old (or none), new and newer.
+# With the files old (or none), new and newer, and the work that makes each of the one before.
 day_kills() {
+  work=$1
   olds=0 news=0 left=0 calls=0 errors=0
   if [ -n "$strace" ]; then
     restore
-    strace -o trace "$day" add file <message >said 2>&1
+    strace -o trace "$day" "$work" file <message >said 2>&1
     # Each call by its name and how often it has been made, but the first, by which strace
     # itself starts the program. Errors are given to those that the program makes, from
     # its first sigaction to the end; brk is no call that fails like others.
@@ -433,37 +548,37 @@ day_kills() {
     while read -r call time own; do
       calls=$((calls + 1))
       restore
-      strace -o /dev/null -e "inject=$call:signal=KILL:when=$time" "$day" add file <message >said 2>&1
-      [ $? = 137 ] || fail "add was not killed at $call $time"
-      after_kill "add killed at $call $time"
+      strace -o /dev/null -e "inject=$call:signal=KILL:when=$time" "$day" "$work" file <message >said 2>&1
+      [ $? = 137 ] || fail "$work was not killed at $call $time"
+      after_kill "$work killed at $call $time"
       [ "$own" = 1 ] || continue
       errors=$((errors + 1))
       restore
-      strace -o /dev/null -e "inject=$call:error=EIO:when=$time" "$day" add file <message >said 2>error
+      strace -o /dev/null -e "inject=$call:error=EIO:when=$time" "$day" "$work" file <message >said 2>error
       case $call-$?-$(state_of_file)-$(cat said) in
       openat-0-* | read-0-* | write-0-* | fsync-0-* | fchmod-0-* | rename-0-*) false ;;
-      *-0-new-added\ [01]) [ ! -s error ] ;;
+      *-0-new-added\ [01] | *-0-new-upgraded\ 1) [ ! -s error ] ;;
       *-2-old-) grep -q '^gate day: [a-z. ]*: Input/output error$' error ;;
-      fsync-2-new-) grep -q '^gate day: \.: Input/output error: the message stands in file, but may be lost with the power$' error ;;
-      write-2-new-) grep -q '^gate day: standard output: Input/output error: the message was added as number [01]$' error ;;
+      fsync-2-new-) grep -Eq '^gate day: \.: Input/output error: (the message|version 2) stands in file, but may be lost with the power$' error ;;
+      write-2-new-) grep -Eq '^gate day: standard output: Input/output error: the (message was added as number [01]|file was upgraded)$' error ;;
       *) false ;;
-      esac && [ ! -e file.new ] || fail "add with an error of $call $time: $(state_of_file) $(cat said error)"
+      esac && [ ! -e file.new ] || fail "$work with an error of $call $time: $(state_of_file) $(cat said error)"
     done <calls
-    printf 'host: day: add killed at each of %s system calls: %s times the old file, %s the new one, %s times file.new left; %s errors as they should be\n' \
-      $calls $olds $news $left $errors
+    printf 'host: day: %s killed at each of %s system calls: %s times the old file, %s the new one, %s times file.new left; %s errors as they should be\n' \
+      "$work" $calls $olds $news $left $errors
   else
     k=0
     while [ $k -lt 250 ]; do
       k=$((k + 1))
       restore
-      "$day" add file <message >/dev/null 2>&1 &
+      "$day" "$work" file <message >/dev/null 2>&1 &
       sleep "0.00$((k % 5))$((k * 7 % 10))"
       kill -9 $! 2>/dev/null
       wait $! 2>/dev/null
-      after_kill "add killed, time $k"
+      after_kill "$work killed, time $k"
     done
-    printf 'host: day: add killed %s times at random: %s times the old file, %s the new one, %s times file.new left\n' \
-      $k $olds $news $left
+    printf 'host: day: %s killed %s times at random: %s times the old file, %s the new one, %s times file.new left\n' \
+      "$work" $k $olds $news $left
   fi
   [ $olds -gt 0 ] && [ $news -gt 0 ] || fail 'the kills were all before or all after the renaming'
 }
@@ -552,17 +667,21 @@ day_tests() {
   "$day" add new <message >/dev/null
   cp new newer
   "$day" add newer <message >/dev/null
-  day_kills
+  day_kills add
   mv new old
   mv newer new
   cp new newer
   "$day" add newer <message >/dev/null
-  day_kills
+  day_kills add
+  bytes "$one" >old
+  cp old new
+  "$day" upgrade new >/dev/null
+  day_kills upgrade
   many 50 1
   many 20 5000
 }
 
-missing=$(missing day_check day_find day_add day_search name_number)
+missing=$(missing day_check day_find day_add day_search day_upgrade name_number)
 if [ -n "$missing" ]; then
   printf 'host: day: skipped, not in the archive:%s\n' "$missing"
   for source in host/day.c host/day_file.c; do

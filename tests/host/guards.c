@@ -22,10 +22,11 @@
 #pragma weak surfbodkin_name_number
 #pragma weak surfbodkin_why
 #pragma weak surfbodkin_same
+#pragma weak surfbodkin_day_upgrade
 
 enum call {
   SINGLE, MESSAGE, LIST, TABLE, RELEASE, WRITE, READ, LISTS, STREAM,
-  DAY_CHECK, DAY_FIND, DAY_ADD, DAY_SEARCH, NAME, WHY, SAME, CALLS
+  DAY_CHECK, DAY_FIND, DAY_ADD, DAY_SEARCH, NAME, WHY, SAME, DAY_UPGRADE, CALLS
 };
 static int there[CALLS];
 static unsigned long calls_made;
@@ -46,7 +47,7 @@ static size_t written_by(enum call call, uint64_t answer) {
   if (surfbodkin_number(answer) != SURFBODKIN_ACCEPTED) return 0;
   switch (call) {
     case LIST: case STREAM: case DAY_SEARCH: return surfbodkin_low(answer) * (size_t)SURFBODKIN_ENTRY;
-    case WRITE: case READ: case DAY_ADD: return surfbodkin_low(answer);
+    case WRITE: case READ: case DAY_ADD: case DAY_UPGRADE: return surfbodkin_low(answer);
     default: return 0;
   }
 }
@@ -142,6 +143,9 @@ static uint64_t make(const struct arguments *a, enum way way, const uint8_t *out
         fail("not the same as itself, or refused otherwise");
       }
       break;
+    case DAY_UPGRADE:
+      answer = surfbodkin_day_upgrade(in.at, in.length, to.at, to.length);
+      break;
     default: fail("no such call");
   }
   calls_made++;
@@ -188,7 +192,7 @@ static const char *const NAMES[CALLS] = {"check_single", "check_message", "list"
                                          "read_text",    "check_names",   "stream_close",
                                          "day_check",    "day_find",      "day_add",
                                          "day_search",   "name_number",   "why",
-                                         "same"};
+                                         "same",         "day_upgrade"};
 
 /* A check, and each beginning of its input with whatever answer. */
 static void check(enum call call, const char *input, uint64_t answer) {
@@ -210,7 +214,7 @@ static void write_out(enum call call, const char *input, uint32_t count, uint32_
   struct bytes written = bytes(out);
   struct arguments a = {.call = call, .input = bytes(input)};
   size_t most = written.length + 30;
-  for (a.room = 0; a.room <= most; a.room += a.room < written.length && most > 400 ? 211 : 1) {
+  for (a.room = 0; a.room <= most; a.room += a.room < written.length && most > 400 ? 1 + most / 60 : 1) {
     uint64_t answer = a.room < written.length ? refused(SURFBODKIN_ROOM, size)
                                               : (uint64_t)count << 32 | size;
     expect(a, NAMES[call], input, answer, written.at);
@@ -332,6 +336,8 @@ static const char *repeated(const char *before, const char *part, int times, con
 #define OTHER_20 "0000000000000008 ffffffffffffffec "
 #define EMPTY_DAY "01 00 0000 00000000"
 #define DAY C NAMED " 0000 0012 01 00 0002 00000022"
+#define EMPTY_DAY_2 "02 00 0000 00000000"
+#define DAY_2 C NAMED " 00000000 00000012 02 00 0002 00000022"
 
 /* The chain down to C's parameter, and to the first target of NAMED. */
 #define LINK(first, after, meaning) first after " 00000000000000" meaning " ffffffffffffffff "
@@ -370,6 +376,7 @@ int main(void) {
   there[NAME] = surfbodkin_name_number != NULL;
   there[WHY] = surfbodkin_why != NULL;
   there[SAME] = surfbodkin_same != NULL;
+  there[DAY_UPGRADE] = surfbodkin_day_upgrade != NULL;
   const char *before = "guards: skipped, not in the archive:";
   for (int call = 0; call < CALLS; call++) {
     if (there[call]) continue;
@@ -389,8 +396,12 @@ int main(void) {
   check(SINGLE, "fb3ff199999999999a", items(1));
   check(SINGLE, "6a c3bcf09f8c8aefbfbf41", items(1));
   check(SINGLE, "", refused(2, 0));
-  check(SINGLE, repeated("59 0ffd", "ff", 4093, ""), items(1));
-  check(SINGLE, repeated("59 0ffe", "ff", 4094, ""), refused(1, 0));
+  check(SINGLE, repeated("59 3ffd", "ff", 16381, ""), items(1));
+  check(SINGLE, repeated("59 3ffe", "ff", 16382, ""), refused(1, 0));
+  check(SINGLE, repeated("82 11 99 0ffd", "00", 4093, ""), items(4096));
+  check(SINGLE, repeated("82 11 99 0ffe", "00", 4094, ""), refused(5, 4098));
+  check(SINGLE, repeated("", "82 11 81", 12, "00"), items(37));
+  check(SINGLE, repeated("", "82 11 81", 12, "80"), refused(6, 36));
   check(MESSAGE, C, items(14));
   check(MESSAGE, ORDER, items(13));
   check(MESSAGE, "", refused(2, 0));
@@ -417,10 +428,10 @@ int main(void) {
     refuse_out(call, "", 2, 0);
     refuse_out(call, "01 82 14 82 f6 83 00 20 20", 7, 8);
   }
-  refuse_out(STREAM, repeated("01 82 14 81 59 0ffa", "00", 4090, ""), 1, 0);
-  refuse_out(STREAM, repeated("01 82 14 81 59 0ff9", "00", 4089, "82"), 1, 0);
-  refuse_out(STREAM, repeated("01 82 14 81 59 0ff8", "00", 4088, "83 00"), 7, 4095);
-  refuse_out(STREAM, repeated("", "00", 5000, ""), 8, 0);
+  refuse_out(STREAM, repeated("01 82 14 81 59 3ffa", "00", 16378, ""), 1, 0);
+  refuse_out(STREAM, repeated("01 82 14 81 59 3ff9", "00", 16377, "82"), 1, 0);
+  refuse_out(STREAM, repeated("01 82 14 81 59 3ff8", "00", 16376, "83 00"), 7, 16383);
+  refuse_out(STREAM, repeated("", "00", 20000, ""), 8, 0);
 
   with_table(TABLE, "", "", 0, 0);
   with_table(TABLE, "", ROW_65536 ROW_20 ROW_20, 0, 0);
@@ -452,13 +463,13 @@ int main(void) {
   write_out(WRITE, "84 1a00010000 22 00 81 83 33 2a 05", 9, 29, ":ari://65536/-3/0(//-20/-11/5)");
   write_out(WRITE, "82 12 a2 00 f6 62 c3bc 42 00ff", 7, 41,
             ":ari:/AM/(0=null,%22%C3%BC%22=h%2700ff%27)");
-  write_out(WRITE, repeated("79 0ffd", "7f", 4093, ""), 1, 12289,
-            repeated(":ari:%22", "%7F", 4093, "%22"));
+  write_out(WRITE, repeated("79 3ffd", "7f", 16381, ""), 1, 49153,
+            repeated(":ari:%22", "%7F", 16381, "%22"));
   refuse_out(WRITE, "8214 81 f6", 14, 0);
   refuse_out(WRITE, "8209 f93c00", 14, 2);
   refuse_out(WRITE, "82050a00", 13, 3);
   refuse_out(WRITE, "", 2, 0);
-  refuse_out(WRITE, repeated("59 0ffe", "ff", 4094, ""), 1, 0);
+  refuse_out(WRITE, repeated("59 3ffe", "ff", 16382, ""), 1, 0);
 
   write_out(READ, ":ari:/UINT/10", 3, 3, "82050a");
   write_out(READ, ":./-2/30", 4, 5, "83f621181e");
@@ -470,23 +481,45 @@ int main(void) {
   refuse_out(READ, ":ari:%22%", 15, 0);
   refuse_out(READ, ":ari:./-2/30", 15, 0);
   refuse_out(READ, repeated(":ari:", "/AC/(", 6000, ""), 15, 0);
-  refuse_out(READ, repeated(":", "0", 32768, ""), 15, 0);
-  refuse_out(READ, repeated(":", "0", 32769, ""), 1, 0);
+  refuse_out(READ, repeated(":", "0", 131072, ""), 15, 0);
+  refuse_out(READ, repeated(":", "0", 131073, ""), 1, 0);
 
   check(DAY_CHECK, EMPTY_DAY, 0);
   check(DAY_CHECK, DAY, 2);
   check(DAY_CHECK, "00 0000 00000000", refused(20, 0));
-  check(DAY_CHECK, "02 00 0000 00000000", refused(20, 0));
+  check(DAY_CHECK, EMPTY_DAY_2, 0);
+  check(DAY_CHECK, DAY_2, 2);
+  check(DAY_CHECK, "03 00 0000 00000000", refused(20, 0));
+  check(DAY_CHECK, C "0000 02 00 0001 00000012", refused(20, 0));
+  check(DAY_CHECK, C "00000000 01 00 0001 00000012", refused(20, 0));
+  check(DAY_CHECK, "01 01 00000000 00000000 02 00 0002 00000002", refused(21, 1));
+  check(DAY_CHECK, "01 02 00000000 00000001 02 00 0002 00000002", refused(22, 1));
   check(DAY_CHECK, "01 01 0000 0000 01 00 0002 00000002", refused(21, 1));
   check(DAY_CHECK, "01 02 0000 0001 01 00 0002 00000002", refused(22, 1));
   check(DAY_CHECK, repeated("", "00", 65527, EMPTY_DAY), refused(20, 0));
   check(DAY_CHECK, repeated("", "00", 65528, EMPTY_DAY), refused(20, 0));
+  check(DAY_CHECK, repeated("", "00", 1048568, EMPTY_DAY_2), refused(20, 0));
+  check(DAY_CHECK, repeated("", "00", 1048569, EMPTY_DAY_2), refused(20, 0));
+  /* A message past the limits of version 1, and one at those of version 2. */
+  check(DAY_CHECK, repeated("01 82 14 81 59 0ffa", "00", 4090, "0000 01 00 0001 00001001"), refused(22, 0));
+  check(DAY_CHECK, repeated("01 82 14 81 59 3ff9", "00", 16377, "00000000 02 00 0001 00004000"), 1);
   with_day(DAY_FIND, DAY, "", 0, ":", ":", items(18), "");
   with_day(DAY_FIND, DAY, "", 1, ":", ":", items(16) | 18, "");
   with_day(DAY_FIND, DAY, "", 2, ":", ":", refused(17, 2), "");
   with_day(DAY_FIND, EMPTY_DAY, "", UINT64_MAX, ":", ":", refused(17, 0), "");
   with_day(DAY_ADD, EMPTY_DAY, C, 0, ":", ":", items(1) | 28, C "0000 01 00 0001 00000012");
   with_day(DAY_ADD, C "0000 01 00 0001 00000012", NAMED, 0, ":", ":", items(2) | 46, DAY);
+  with_day(DAY_FIND, DAY_2, "", 1, ":", ":", items(16) | 18, "");
+  with_day(DAY_FIND, DAY_2, "", 2, ":", ":", refused(17, 2), "");
+  with_day(DAY_ADD, EMPTY_DAY_2, C, 0, ":", ":", items(1) | 30, C "00000000 02 00 0001 00000012");
+  with_day(DAY_ADD, C "00000000 02 00 0001 00000012", NAMED, 0, ":", ":", items(2) | 50, DAY_2);
+  with_day(DAY_ADD, DAY_2, "02", 0, ":", ":", refused(8, 0), "");
+  with_day(DAY_ADD, DAY, repeated("01 82 14 81 59 0ffa", "00", 4090, ""), 0, ":", ":", refused(1, 0), "");
+  with_day(DAY_UPGRADE, EMPTY_DAY, "", 0, ":", ":", 8, EMPTY_DAY_2);
+  with_day(DAY_UPGRADE, DAY, "", 0, ":", ":", items(2) | 50, DAY_2);
+  with_day(DAY_UPGRADE, DAY_2, "", 0, ":", ":", refused(20, 0), "");
+  with_day(DAY_UPGRADE, "01 01 0000 0000 01 00 0002 00000002", "", 0, ":", ":", refused(21, 1), "");
+  with_day(DAY_UPGRADE, "01 02 0000 0001 01 00 0002 00000002", "", 0, ":", ":", refused(22, 1), "");
   with_day(DAY_ADD, DAY, "02", 0, ":", ":", refused(8, 0), "");
   with_day(DAY_ADD, DAY "00", "02", 0, ":", ":", refused(20, 0), "");
   with_day(DAY_SEARCH, DAY, "", 65536, ":a=65536\n", ":!a=-20\n", 2,
@@ -495,6 +528,9 @@ int main(void) {
   with_day(DAY_SEARCH, DAY, "", (uint64_t)-20, ":a=65536\n", ":!a=-20\n", 2,
            "0000000000000000 000000000000000e 0000000000000012"
            "0000000000000001 000000000000001c 0000000000000022");
+  with_day(DAY_SEARCH, DAY_2, "", 65536, ":a=65536\n", ":!a=-20\n", 2,
+           "0000000000000000 0000000000000005 0000000000000012"
+           "0000000000000001 0000000000000017 000000000000001c");
   with_day(DAY_SEARCH, DAY, "", 1, ":a=65536\n", ":", 0, "");
   with_day(DAY_SEARCH, DAY, "", 65536, ":a=65536\n", ":!a", refused(19, 8), "");
   with_day(DAY_SEARCH, "02", "", 65536, ":a", ":", refused(20, 0), "");
@@ -510,6 +546,15 @@ int main(void) {
   with_day(WHY, NAMED, "", 7, "61 3d 37 0a", "", held(SURFBODKIN_NOT_GRANTED, 3, 0), CHAIN_NAMED);
   with_day(WHY, KEYED, ROW_0, 7, "", "", held(SURFBODKIN_NOT_GRANTED, 5, 1), CHAIN_KEYED);
   with_day(WHY, "02", ROW_0, 7, "", "", refused(8, 0), "");
+  const char *most_items = repeated("01 82 15 83 f6 00 99 0ff6 00 83 f6 20 00", "f7", 4084, "");
+  check(MESSAGE, most_items, items(4096));
+  write_out(LIST, most_items, 4096, 1, "0000000a 0000000e 0000000000000002 0000000000000000");
+  with_table(RELEASE, most_items, "", 7, refused(SURFBODKIN_HELD, 0));
+  const char *longest = repeated(most_items, "", 0, "00000000 02 00 0001 00001002");
+  with_day(DAY_SEARCH, longest, "", 0, ":", ":", 0, "");
+  with_day(WHY, most_items, "", 7, "", "", held(SURFBODKIN_NO_NAMESPACE, 4, 0),
+           LINK("00000001", "00001002", "00") LINK("00000003", "00001002", "01")
+           LINK("00000006", "00001002", "06") LINK("0000000a", "0000000e", "07"));
   with_day(WHY, C, "00", 7, "61", "", refused(19, 0), "");
   with_day(WHY, C, "00", 7, "", "", refused(18, 0), "");
 
@@ -530,9 +575,9 @@ int main(void) {
   pair("81 6140", "81 6141", refused(10, 1));
   with_table(SAME, "81 6140", "82 05 0a 00", 0, refused(10, 1));
   with_table(SAME, "82 05 0a 00", "81 6140", 0, refused(13, 3));
-  pair(repeated("59 0ffd", "ff", 4093, ""), repeated("59 0ffd", "ff", 4093, ""), 1);
-  pair(repeated("79 0ffd", "61", 4093, ""), repeated("79 0ffd", "61", 4092, "41"), 0);
-  pair(repeated("59 0ffe", "ff", 4094, ""), "00", refused(1, 0));
+  pair(repeated("59 3ffd", "ff", 16381, ""), repeated("59 3ffd", "ff", 16381, ""), 1);
+  pair(repeated("79 3ffd", "61", 16381, ""), repeated("79 3ffd", "61", 16380, "41"), 0);
+  pair(repeated("59 3ffe", "ff", 16382, ""), "00", refused(1, 0));
 
   printf("guards: %lu calls, all as the header says\n", calls_made);
   return 0;

@@ -1,7 +1,7 @@
 /* Gives the stream states that no stream left behind: whatever the words of a state
    and the bytes of the message's room are, its calls touch nothing but what is lent,
    and after an open the next message is answered as any other. And too short a state or
-   room, of every length: each is refused, and nothing changes.
+   room: each is refused, and nothing changes.
 
      states [COUNT]     COUNT states (10,000) */
 #define PROGRAM "states"
@@ -111,14 +111,15 @@ static void expect(uint64_t answer, uint64_t given) {
 }
 
 /* Messages with all that a state may have to keep: references, parameters as a list and
-   as a map, keys, strings that take long, twelve containers. */
+   as a map, keys, strings that take long, as many containers as may be. */
 static const char *const MESSAGES[] = {
     "01 82 14 82 f6 84 1a00010000 22 00 81 83 33 2a 05",
     "01 82 15 83 42 aabb 1a2b450625 85 00 84 f6 20 00 a3 00 f6 20 82 12 a1 61 61 f7 62 c3bc 42 "
     "00ff 78 1a 6162636465666768696a6b6c6d6e6f707172737475767778797a 82 11 82 81 05 fb "
     "3ff199999999999a 83 65 216f646d31 61 62 61 63",
-    "01 82 14 82 f6 84 f6 20 00 81 82 11 81 82 11 81 82 11 81 82 11 81 00 82 14 81 58 40 00",
-    "01 82 14 81 59 0ff9 00"};
+    "01 82 14 82 f6 84 f6 20 00 81 82 11 81 82 11 81 82 11 81 82 11 81 82 11 81 82 11 81 82 11 81 "
+    "82 11 81 82 11 81 82 11 81 00 82 14 81 58 40 00",
+    "01 82 14 81 59 3ff9 00"};
 enum { KINDS = sizeof MESSAGES / sizeof *MESSAGES };
 
 /* A stream that is amid a message. */
@@ -137,7 +138,8 @@ static void begin(struct stream *s) {
 }
 
 static uint64_t edge_word(void) {
-  static const uint64_t edges[] = {0, 1, 2, 11, 12, 13, 23, 24, 255, 256, 1023, 1024, 1025};
+  static const uint64_t edges[] = {0,  1,   2,   11,   12,   13,  23,
+                                   24, 25, 255, 256, 4095, 4096, 4097};
   switch (below(6)) {
     case 0: return edges[below(sizeof edges / sizeof *edges)];
     case 1: return BYTES - 2 + below(5);
@@ -206,9 +208,10 @@ static void reopen(struct stream *s) {
   free(message.at);
 }
 
-/* Every length that is too short, with whatever state and all else of any length. */
+/* Every state that is too short, and rooms of lengths up to the last but one, with
+   whatever state and all else of any length. */
 static void too_short(struct stream *s) {
-  for (size_t k = 0; k < WORDS + BYTES; k++) {
+  for (size_t k = 0; k < WORDS + BYTES; k += k < WORDS + 64 || k >= WORDS + BYTES - 64 ? 1 : 7) {
     any_state(s);
     struct bytes fragment = any_fragment(k), out = any_out(k);
     uint64_t need = k < WORDS ? 8 * WORDS : BYTES;

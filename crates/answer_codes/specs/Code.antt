@@ -1,7 +1,6 @@
 -- Answers as one number: R114 to R119; of the day file, R154 to R164; of a name, R142; of two ARIs, R188. Interface: all of it.
 use Prim.Native.Nat.{ℕ, _+_, _-_, _*_, _^_, min}
 use mathlib.Core.Path.{_≡_}
-use mathlib.Core.Bool.{false}
 use mathlib.Core.List.{List}
 use Rattle.buffer.specs.declared.Number.{Number}
 use Rattle.buffer.specs.declared.Number.the-variants.{Value, Bad}
@@ -17,7 +16,6 @@ use Rattle.sameness.specs.declared.Sameness.the-variants as sameness
 use Rattle.names.specs.declared.Names.{Names}
 use Rattle.names.specs.declared.Names.the-variants.{Passes}
 use Rattle.names.specs.declared.Names.the-variants as names
-use Rattle.day_file.specs.declared.Format.{Format}
 use Rattle.day_file.specs.declared.Day.{Day}
 use Rattle.day_file.specs.declared.Day.the-variants.{Messages}
 use Rattle.day_file.specs.declared.Day.the-variants as day
@@ -117,10 +115,6 @@ whyCode (outcomes.Refused r p) = refusalCode r p
 abbrev pub textCode : Written → ℕ
 textCode (written.Refused r p) = refusalCode r p
 textCode (written.Bytes k n) = countCode n k
-
--- R154: the archive's day files are of version 1
-abbrev pub version1 : Format
-version1 = record { version = 1; wide = false; bytes = 65535 }
 
 -- R156 to R158: the number of messages
 abbrev pub dayCode : Day → ℕ

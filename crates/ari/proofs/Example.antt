@@ -8,14 +8,14 @@ use Rattle.ari.specs.Table.{types, rule, members}
 use Rattle.ari.specs.declared.Input.{Input}
 use Rattle.ari.specs.declared.Input.the-variants.{Single, Message}
 use Rattle.ari.specs.Reader.{judge, judgeContent, judgeGot, Answer, refuse, accept, takeStep, visit, run, read}
-use Rattle.ari.specs.Limits.{firstLimits}
+use Rattle.ari.specs.Limits.{gateLimits}
 
 pub data Example : Type 0 where
   example : Input → List ℕ → Answer → Example
 
 abbrev pub Hold : List Example → Type 0
 Hold [] = Unit {0}
-Hold (example i b a ∷ es) = (read firstLimits i b ≡ a) × Hold es
+Hold (example i b a ∷ es) = (read gateLimits i b ≡ a) × Hold es
 
 abbrev pub examples : List Example
 examples =

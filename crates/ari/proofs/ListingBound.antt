@@ -11,7 +11,7 @@ use Rattle.ari.specs.declared.Input.{Input}
 use Rattle.ari.specs.declared.Input.the-variants.{Message}
 use Rattle.ari.specs.Items.{Items, heads}
 use Rattle.ari.specs.Rules.{Ari, literal, namespace-ref, typed, object-ref, Object, plain, with-params, Params, list, table, Value, simple-value, ac, am, execset, rptset, Aris, no-aris, aris, Pairs, no-pairs, pairs, Targets, no-targets, targets, Reports, no-reports, reports, Sets, no-more, set, Stands, an-ari, a-message, Is}
-use Rattle.ari.specs.Limits.{firstLimits}
+use Rattle.ari.specs.Limits.{gateLimits}
 use Rattle.ari.specs.Listing.{listing}
 use Rattle.ari.specs.References.{Placed, inAri, inObject, inParams, inValue, inAris, inPairs, inTargets, inReports, inSets, references}
 use Rattle.ari.proofs.Listed.{listing-is}
@@ -84,6 +84,6 @@ module _ {m : Limits} {b : List ℕ} {g : Items} {n : ℕ} (c : Is m Message b g
   pub at-most-half : 2 * length (listing b) ≤ n
   at-most-half = rw (listing-is c, length-map) (omega (arith, in-input (c .stands) .twice, c .count))
 
--- so no listing has more than 512.
-pub at-most-512 : {b : List ℕ} {g : Items} {n : ℕ} → Is firstLimits Message b g n → length (listing b) ≤ 512
-at-most-512 c = omega (arith, at-most-half c, c .few)
+-- so no listing has more than 2,048.
+pub at-most-2048 : {b : List ℕ} {g : Items} {n : ℕ} → Is gateLimits Message b g n → length (listing b) ≤ 2048
+at-most-2048 c = omega (arith, at-most-half c, c .few)

@@ -1,7 +1,7 @@
 // The two inputs and their limits, as the definitions and the functions have them. What an ARI and a message are stands in specs/.
 ghost use mathlib.Core.Path.{_≡_};
 ghost use Prim.Native.Nat.{_≤_, min};
-ghost use Rattle.ari.specs.Limits.{firstLimits, capped};
+ghost use Rattle.ari.specs.Limits.{gateLimits, capped};
 
 // What is read: a single ARI in binary form, or an AMP message.
 pub enum Input {
@@ -25,13 +25,13 @@ pub enum Target {
 }
 
 // The gate's own limits. No other place has these numbers.
-pub const BYTES: usize = 4096;
+pub const BYTES: usize = 16384;
 
-pub const ITEMS: usize = 1024;
+pub const ITEMS: usize = 4096;
 
-pub const CONTAINERS: usize = 12;
+pub const CONTAINERS: usize = 24;
 
-pub const TEXT: usize = 32768;
+pub const TEXT: usize = 131072;
 
 pub const LIMITS: Limits = Limits {
     bytes: BYTES,
@@ -40,10 +40,18 @@ pub const LIMITS: Limits = Limits {
     text: TEXT,
 };
 
+// Those of before, which messages in day files of version 1 keep.
+pub const FIRST_LIMITS: Limits = Limits {
+    bytes: 4096,
+    items: 1024,
+    containers: 12,
+    text: 32768,
+};
+
 // Limits that a caller gives, none above the gate's own: what functions lend is sized by those.
 pub fn cap(limits: Limits) -> Limits
     ensures { λ r. ⌜ r ≡ capped limits ⌝ }
-    ensures { λ r. ⌜ (r .bytes ≤ firstLimits .bytes) × (r .items ≤ firstLimits .items) × (r .containers ≤ firstLimits .containers) × (r .text ≤ firstLimits .text) ⌝ }
+    ensures { λ r. ⌜ (r .bytes ≤ gateLimits .bytes) × (r .items ≤ gateLimits .items) × (r .containers ≤ gateLimits .containers) × (r .text ≤ gateLimits .text) ⌝ }
 {
     Limits {
         bytes: buffer::least(limits.bytes, BYTES),

@@ -12,6 +12,7 @@ use Rattle.buffer.specs.Bytes.{be, loadAt, part, all, isByte}
 use Rattle.buffer.proofs.ByteLaws.{all-drop, value-part-lt, length-be, or-false, or-true, or-right}
 use Rattle.buffer.proofs.Numbers.{load-there}
 use Rattle.ari.specs.declared.Limits.{Limits}
+use Rattle.ari.specs.Limits.{gateLimits, firstLimits, capped}
 use Rattle.ari.specs.declared.Input.the-variants.{Message}
 use Rattle.ari.specs.Reader.{Answer, accept, refuse, read}
 use Rattle.day_file.specs.declared.Format.{Format}
@@ -21,6 +22,7 @@ use Rattle.day_file.specs.declared.Found.the-variants as found
 use Rattle.day_file.specs.declared.Added.{Added}
 use Rattle.day_file.specs.declared.Added.the-variants as added
 use Rattle.day_file.specs.Day.{width, mostBytes, join, offsets, trailer, fileOf, countIn, startIn, messageIn, messagesFrom, messagesIn, messageStands, isAccepted, checkDay, findDay, partOf, newLength, isFull, fullOr, withMessage, addedBy, addDay}
+use Rattle.day_file.specs.Versions.{isSecond, limitsOf}
 use Rattle.day_file.proofs.Files.{trailer-says, is-file, messages-counted}
 use Rattle.day_file.proofs.Adding.{Passes, passes-all}
 use Rattle.day_file.proofs.Whole.{file-length, messages-there, file-passes, offset-of, end-there, message-there}
@@ -214,3 +216,11 @@ adding-and-reading f m b bytes x room k j e = by-day (checkDay f m b) refl e
     by-day : (d : Day) → checkDay f m b ≡ d → addedBy d (read m Message x) f b x room ≡ added.File k j → (n : ℕ) × (p : Passes f m b n) × Grown f m b bytes p x k j
     by-day (Refused r i) h q = absurd (no r i q)
     by-day (Messages n) h q = let p = passes-all f m b (sym h) in (n, p, by-message p (read m Message x) refl q)
+
+-- The limits of either version are within the gate's own.
+pub capped-limits : (b : List ℕ) → capped (limitsOf b) ≡ limitsOf b
+capped-limits b = go (isSecond b)
+  where
+    go : (c : Bool) → capped (cond c gateLimits firstLimits) ≡ cond c gateLimits firstLimits
+    go true = refl
+    go false = refl

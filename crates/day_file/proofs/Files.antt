@@ -74,7 +74,7 @@ module _ (f : Format) (b : List ℕ) (bytes : all isByte b ≡ true) (t : traile
   unfolding entryStands
   below k h = ltb-true (o k) st (and-true (cond (eqb k 0) (eqb (o 0) 0) (ltb (o (k - 1)) (o k))) (ltb (o k) st) (es k h) .1)
 
-  starts : 0 < n → o 0 ≡ 0
+  pub starts : 0 < n → o 0 ≡ 0
   unfolding entryStands
   starts h = eqb-true (o 0) 0 (and-true (eqb (o 0) 0) (ltb (o 0) st) (es 0 h) .0)
 
@@ -105,6 +105,13 @@ module _ (f : Format) (b : List ℕ) (bytes : all isByte b ≡ true) (t : traile
   unfolding messageIn
   message-last k h = rw (end-last k h)
 
+  pub next-offset : (k : ℕ) → suc k < n → o k + length (messageIn f b k) ≡ o (suc k)
+  next-offset k h =
+      let up = rises k h in
+      let low = below (suc k) h in
+      let size : length (messageIn f b k) ≡ o (suc k) - o k = ap length (message-next k h) ∙ length-part b (o k) (o (suc k)) (omega arith) (omega (arith, inside)) in
+      omega arith
+
   -- the messages from k on are the bytes from there to the table
   joined : (j k : ℕ) → k + suc j ≡ n → join (messagesFrom f b k (suc j)) ≡ part b (o k) st
   joined zero k h = append-nil _ ∙ message-last k (omega arith)
@@ -126,12 +133,8 @@ module _ (f : Format) (b : List ℕ) (bytes : all isByte b ≡ true) (t : traile
   tabled : (j k : ℕ) → k + suc j ≡ n → offsets w (o k) (messagesFrom f b k (suc j)) ≡ part b (st + w * k) (st + w * n)
   tabled zero k h = let e : n ≡ suc k = omega arith in append-nil _ ∙ entry-bytes k 0 (omega arith) ∙ rw e
   tabled (suc j) k h =
-      let up = rises k (omega arith) in
-      let low = below (suc k) (omega arith) in
-      let size : length (messageIn f b k) ≡ o (suc k) - o k = ap length (message-next k (omega arith)) ∙ length-part b (o k) (o (suc k)) (omega arith) (omega (arith, inside)) in
-      let next : o k + length (messageIn f b k) ≡ o (suc k) = omega arith in
       let e : w * n ≡ w * suc k + w * suc j = omega (arith, ap (λ (i : ℕ). w * i) h) in
-      ap (λ (i : ℕ). be w (o k) ++ offsets w i (messagesFrom f b (suc k) (suc j))) next
+      ap (λ (i : ℕ). be w (o k) ++ offsets w i (messagesFrom f b (suc k) (suc j))) (next-offset k (omega arith))
       ∙ ap (λ (l : List ℕ). be w (o k) ++ l) (tabled j (suc k) (omega arith))
       ∙ ap (λ (l : List ℕ). l ++ part b (st + w * suc k) (st + w * n)) (entry-bytes k (suc j) (omega arith))
       ∙ part-join b (st + w * k) (st + w * suc k) (st + w * n) (omega arith) (omega arith)

@@ -14,6 +14,7 @@ use Rattle.buffer.specs.Bytes.{loadAt, part, within}
 use Rattle.buffer.proofs.ByteLaws.{and-true, within-true}
 use Rattle.buffer.proofs.RunLaws.{part-none}
 use Rattle.ari.specs.declared.Limits.{Limits}
+use Rattle.ari.specs.Limits.{gateLimits, firstLimits}
 use Rattle.ari.specs.declared.Input.the-variants.{Message}
 use Rattle.ari.specs.Reader.{read}
 use Rattle.ari.specs.Reader as ari
@@ -26,6 +27,7 @@ use Rattle.day_file.specs.declared.Format.{Format}
 use Rattle.day_file.specs.declared.Day.{Day}
 use Rattle.day_file.specs.declared.Day.the-variants.{Messages, Refused}
 use Rattle.day_file.specs.Day.{width, mostBytes, countIn, startIn, offsetIn, endIn, messageIn, firstAt, messageAt, trailerStands, entryStands, messageStands, isAccepted, firstNot, unlessAll, Sized, checkDay, findDay, partOf}
+use Rattle.day_file.specs.Versions.{version1, version2, isSecond, formatOf, limitsOf}
 use Rattle.day_file.specs.declared.Found.{Found}
 use Rattle.day_file.specs.declared.Found.the-variants as found
 
@@ -293,3 +295,28 @@ module _ (b : List ℕ) {d x : Found} (e : d ≡ x) where
 pub ruleset finds = (sized-long, sized-below, sized-within, find-refused, find-none, find-there, part-found, part-refused)
 
 pub ruleset checks = (sized-refused, sized-passes, has-trailer, no-trailer, bad-entry, bad-message, day-passes)
+
+-- the version that a trailer names
+module _ (b : List ℕ) where
+  pub no-version : length b < 8 → false ≡ isSecond b
+  unfolding isSecond
+  no-version h = rw (lt-leb 8 (length b) h)
+
+  pub its-version : 8 ≤ length b → eqb (getD b (length b - 8) 0) 2 ≡ isSecond b
+  unfolding isSecond
+  its-version h = rw (le-leb 8 (length b) h)
+
+  module _ {x : Bool} (e : x ≡ isSecond b) where
+    pub second-format : x ≡ true → version2 ≡ formatOf b
+    second-format h = rw (← e, h)
+
+    pub first-format : x ≡ false → version1 ≡ formatOf b
+    first-format h = rw (← e, h)
+
+    pub second-limits : x ≡ true → gateLimits ≡ limitsOf b
+    second-limits h = rw (← e, h)
+
+    pub first-limits : x ≡ false → firstLimits ≡ limitsOf b
+    first-limits h = rw (← e, h)
+
+pub ruleset versions = (no-version, its-version, second-format, first-format, second-limits, first-limits)

@@ -8,6 +8,7 @@ ghost use Rattle.buffer.specs.Bytes.{be, part};
 ghost use Rattle.buffer.specs.Put.{Put};
 ghost use Rattle.ari.specs.declared.Input.the-variants as input;
 ghost use Rattle.day_file.specs.Day.{width, mostBytes, trailer, countIn, startIn, offsetIn, endIn, messageIn, firstAt, messageAt, trailerStands, entryStands, messageStands, firstNot, Sized, checkDay, findDay, partOf, isFull, fullOr, grown, withMessage, addDay, roomAfter};
+ghost use Rattle.day_file.specs.Versions.{isSecond, formatOf, limitsOf};
 use ari::Input;
 use ari::Limits;
 use reader::Answer;
@@ -23,6 +24,12 @@ pub const VERSION_1: Format = Format {
     version: 1,
     wide: false,
     bytes: 65535,
+};
+
+pub const VERSION_2: Format = Format {
+    version: 2,
+    wide: true,
+    bytes: 1048576,
 };
 
 // The number of messages; or 20, 21 with an entry of the table, 22 with a message's number.
@@ -83,6 +90,36 @@ fn most_bytes(format: Format) -> usize
         return buffer::least(format.bytes, 4294967295);
     }
     buffer::least(format.bytes, 65535)
+}
+
+// The trailer names version 2.
+fn is_second(file: &[u8]) -> bool
+    ensures { λ r. ⌜ r ≡ isSecond (now (file .entry)) ⌝ }
+{
+    let n = file.len();
+    if n < 8 {
+        return false;
+    }
+    file[n - 8] == 2
+}
+
+// The format of a file, and the limits of its messages, by the version that its trailer names. One that names neither is refused in version 1.
+pub fn format_of(file: &[u8]) -> Format
+    ensures { λ r. ⌜ r ≡ formatOf (now (file .entry)) ⌝ }
+{
+    if is_second(file) {
+        return VERSION_2;
+    }
+    VERSION_1
+}
+
+pub fn limits_of(file: &[u8]) -> Limits
+    ensures { λ r. ⌜ r ≡ limitsOf (now (file .entry)) ⌝ }
+{
+    if is_second(file) {
+        return ari::LIMITS;
+    }
+    ari::FIRST_LIMITS
 }
 
 // What the trailer says: the number of messages, and the table's first byte.

@@ -6,7 +6,7 @@ ghost use lib.ListN.{length};
 ghost use Rattle.buffer.specs.Bytes.{be};
 ghost use Rattle.buffer.specs.Put.{Put};
 ghost use Rattle.ari.specs.declared.Input.the-variants as input;
-ghost use Rattle.ari.specs.Limits.{capped};
+ghost use Rattle.ari.specs.Limits.{gateLimits, capped};
 ghost use Rattle.item_table.specs.Entries.{Tabled};
 ghost use Rattle.names.specs.Translated.{standsBy, translated};
 ghost use Rattle.day_file.specs.declared.Day.the-variants.{Messages};
@@ -208,7 +208,7 @@ fn count_day<'a>(
     word: u64,
     table: &mut [u64],
 ) -> usize
-    requires { ⌜ (limits .items ≤ 1024) × (1024 ≤ length (now table)) × (limits .bytes < 65536) × (limits .containers < 256) × (count < 65536) ⌝ }
+    requires { ⌜ (limits .items ≤ gateLimits .items) × (gateLimits .items ≤ length (now table)) × (limits .bytes < 65536) × (limits .containers < 256) × (count < 65536) ⌝ }
     ensures { λ r. ⌜ r ≡ matchingFrom format limits (now (file .entry)) (now (published .entry)) (now (own .entry)) word 0 count ⌝ }
 {
     let mut found = 0;
@@ -232,7 +232,7 @@ fn put_day<'a>(
     out: &mut [u8],
     table: &mut [u64],
 ) -> usize
-    requires { ⌜ (limits .items ≤ 1024) × (1024 ≤ length (now table)) × (limits .bytes < 65536) × (limits .containers < 256) × (count < 65536) ⌝ }
+    requires { ⌜ (limits .items ≤ gateLimits .items) × (gateLimits .items ≤ length (now table)) × (limits .bytes < 65536) × (limits .containers < 256) × (count < 65536) ⌝ }
     ensures { λ r. ⌜ Put (now (out .entry)) (now (out .exit)) 0 r (bytesFrom format limits (now (file .entry)) (now (published .entry)) (now (own .entry)) word 0 count) ⌝ }
 {
     let mut p = 0;
@@ -258,7 +258,7 @@ fn put_found<'a>(
     out: &mut [u8],
     table: &mut [u64],
 ) -> Searched
-    requires { ⌜ (limits .items ≤ 1024) × (1024 ≤ length (now table)) × (limits .bytes < 65536) × (limits .containers < 256) × (count < 65536) ⌝ }
+    requires { ⌜ (limits .items ≤ gateLimits .items) × (gateLimits .items ≤ length (now table)) × (limits .bytes < 65536) × (limits .containers < 256) × (count < 65536) ⌝ }
     requires { ⌜ matchingFrom format limits (now file) (now published) (now own) word 0 count ≤ length (now out) / 24 ⌝ }
     ensures { λ r. ⌜ r ≡ foundOr (matchingFrom format limits (now (file .entry)) (now (published .entry)) (now (own .entry)) word 0 count) (length (now (out .entry)) / 24) ⌝ }
     ensures { λ r. ⌜ now (out .exit) ≡ filled r (bytesFrom format limits (now (file .entry)) (now (published .entry)) (now (own .entry)) word 0 count) (now (out .entry)) ⌝ }
@@ -289,7 +289,7 @@ fn search_messages<'a>(
     out: &mut [u8],
     table: &mut [u64],
 ) -> Searched
-    requires { ⌜ (limits .items ≤ 1024) × (1024 ≤ length (now table)) × (limits .bytes < 65536) × (limits .containers < 256) × (count < 65536) ⌝ }
+    requires { ⌜ (limits .items ≤ gateLimits .items) × (gateLimits .items ≤ length (now table)) × (limits .bytes < 65536) × (limits .containers < 256) × (count < 65536) ⌝ }
     requires { ⌜ Messages count ≡ checkDay format limits (now file) ⌝ }
     ensures { λ r. ⌜ r ≡ foundOr (matchingFrom format limits (now (file .entry)) (now (published .entry)) (now (own .entry)) word 0 count) (length (now (out .entry)) / 24) ⌝ }
     ensures { λ r. ⌜ now (out .exit) ≡ filled r (bytesFrom format limits (now (file .entry)) (now (published .entry)) (now (own .entry)) word 0 count) (now (out .entry)) ⌝ }
@@ -336,7 +336,7 @@ fn search_within<'a>(
     word: u64,
     out: &mut [u8],
 ) -> Searched
-    requires { ⌜ (limits .items ≤ 1024) × (limits .bytes < 65536) × (limits .containers < 256) ⌝ }
+    requires { ⌜ (limits .items ≤ gateLimits .items) × (limits .bytes < 65536) × (limits .containers < 256) ⌝ }
     ensures { λ r. ⌜ r ≡ searchDay format limits (now (file .entry)) (now (published .entry)) (now (own .entry)) word (length (now (out .entry)) / 24) ⌝ }
     ensures { λ r. ⌜ now (out .exit) ≡ roomAfter r (hits format (now (file .entry)) (now (published .entry)) (now (own .entry)) word) (now (out .entry)) ⌝ }
 {

@@ -363,7 +363,7 @@ fn run(input: &mut [u8], buffer: &mut [u8], out: &mut [u8]) {
     print::flush(out, s.at);
 }
 
-// A line has room for a text of 32,769 bytes, two digits a byte.
+// A line has room for a text of 33,279 bytes, two digits a byte; longer ones are tried elsewhere.
 fn main() {
     let mut input = [0u8; 66560];
     let mut buffer = [0u8; 33280];

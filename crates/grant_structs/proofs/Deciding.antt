@@ -79,14 +79,14 @@ translated-in-range published own {b = b} c d i =
     let (a, at, is) = Memᴰ·of-map (translate published own) (listing b) i in
     subst (λ (z : Entry). InRange (z .space)) is (stands-in-range published own (a .space) (numbers-in-range c a at))
 
--- What `listing::list_within` answers and writes in room for 512 entries: the message's refusal, or its whole listing.
+-- What `listing::list_within` answers and writes in room for 2,048 entries: the message's refusal, or its whole listing.
 record Whole (m : Limits) (b out : List ℕ) (k n : ℕ) (x : List ℕ) : Type 0 where
   pub accepted : read m Message b ≡ accept n
   pub is : Is m Message b (decode b) n
   pub all-listed : k ≡ length (listing b)
   pub written : x ≡ listingBytes (listing b) ++ drop (24 * length (listing b)) out
 
-module _ (limits : Limits) (b : List ℕ) (bytes : (j : ℕ) → Fits w8 (getD b j 0)) (out : List ℕ) (room : 24 * 512 ≤ length out) {l : Listed} (e : l ≡ listOf (capped limits) b out) {x : List ℕ} (f : x ≡ writtenOf (capped limits) b out) where
+module _ (limits : Limits) (b : List ℕ) (bytes : (j : ℕ) → Fits w8 (getD b j 0)) (out : List ℕ) (room : 24 * 2048 ≤ length out) {l : Listed} (e : l ≡ listOf (capped limits) b out) {x : List ℕ} (f : x ≡ writtenOf (capped limits) b out) where
   abbrev m : Limits
   m = capped limits
 

@@ -3,7 +3,7 @@
 ghost use mathlib.Core.Path.{_≡_};
 ghost use Prim.Native.Nat.{_*_, _/_, _<_, _≤_};
 ghost use lib.ListN.{length, take};
-ghost use Rattle.ari.specs.Limits.{firstLimits, capped};
+ghost use Rattle.ari.specs.Limits.{gateLimits, capped};
 ghost use Rattle.ari.specs.Listing.{number};
 ghost use Rattle.ari.specs.Signed.{signed};
 ghost use Rattle.grants.specs.Grants.{clash, holds, granted, check};
@@ -199,7 +199,7 @@ fn listed_in<'a>(
     own: &'a [u8],
     room: &mut [u8],
 ) -> Listed
-    requires { ⌜ 24 * 512 ≤ length (now room) ⌝ }
+    requires { ⌜ 24 * 2048 ≤ length (now room) ⌝ }
     ensures { λ r. ⌜ Decides (capped limits) (now (message .entry)) (now (published .entry)) (now (own .entry)) r (now (room .exit)) ⌝ }
 {
     match listing::list_within(limits, message, room) {
@@ -269,7 +269,7 @@ pub fn release_grants<'a>(
     own: &'a [u8],
     subscriber: u64,
 ) -> Released
-    ensures { λ r. ⌜ r ≡ countedRows firstLimits (now (message .entry)) (grants (now (t .entry))) (now (published .entry)) (now (own .entry)) subscriber ⌝ }
+    ensures { λ r. ⌜ r ≡ countedRows gateLimits (now (message .entry)) (grants (now (t .entry))) (now (published .entry)) (now (own .entry)) subscriber ⌝ }
 {
     release_grants_within(ari::LIMITS, message, t, published, own, subscriber)
 }
@@ -290,7 +290,7 @@ pub fn ask_four<'a>(
     subscriber: u64,
     namespace: i64,
 ) -> Answers
-    ensures { λ r. ⌜ (checkOf (r .check) ≡ check (grants t)) × (r .granted ≡ granted (grants t) subscriber (number namespace)) × (r .release ≡ countedRows firstLimits (now (message .entry)) (grants t) (now (published .entry)) (now (own .entry)) subscriber) ⌝ }
+    ensures { λ r. ⌜ (checkOf (r .check) ≡ check (grants t)) × (r .granted ≡ granted (grants t) subscriber (number namespace)) × (r .release ≡ countedRows gateLimits (now (message .entry)) (grants t) (now (published .entry)) (now (own .entry)) subscriber) ⌝ }
 {
     let rows: &[Grant] = &t;
     Answers {

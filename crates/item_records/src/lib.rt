@@ -2,7 +2,7 @@
 ghost use mathlib.Core.Path.{_≡_};
 ghost use Prim.Native.Nat.{suc, _<_, _≤_, min};
 ghost use lib.ListN.{length};
-ghost use Rattle.ari.specs.Limits.{firstLimits, capped};
+ghost use Rattle.ari.specs.Limits.{gateLimits, capped};
 ghost use Rattle.item_records.specs.Records.{literalOf, kindOf, kindAt, recordFrom, foundFrom, Roomy, itemOf};
 ghost use Rattle.item_records.specs.Numbered.{isTargetBy, passedBy, targetBy, targetsTo};
 use ari::Input;
@@ -223,7 +223,7 @@ pub fn item_within(input: Input, limits: Limits, s: &[u8], k: usize) -> Found
 
 // Item k of an input.
 pub fn item(input: Input, s: &[u8], k: usize) -> Found
-    ensures { λ r. ⌜ r ≡ itemOf firstLimits input (now (s .entry)) k ⌝ }
+    ensures { λ r. ⌜ r ≡ itemOf gateLimits input (now (s .entry)) k ⌝ }
 {
     item_within(input, ari::LIMITS, s, k)
 }

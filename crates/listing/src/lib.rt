@@ -8,7 +8,7 @@ ghost use Rattle.buffer.specs.Bytes.{be};
 ghost use Rattle.cbor.specs.Answer.{headAt};
 ghost use Rattle.ari.specs.declared.Input.the-variants as input;
 ghost use Rattle.ari.specs.Reader.{accept};
-ghost use Rattle.ari.specs.Limits.{firstLimits, capped};
+ghost use Rattle.ari.specs.Limits.{gateLimits, capped};
 ghost use Rattle.ari.specs.Listing.{listing};
 ghost use Rattle.item_table.specs.Entries.{Tabled};
 ghost use Rattle.listing.specs.Bytes.{listingBytes};
@@ -282,8 +282,8 @@ pub fn list_within(limits: Limits, s: &[u8], out: &mut [u8]) -> Listed
 
 // The listing of a message.
 pub fn list_message(s: &[u8], out: &mut [u8]) -> Listed
-    ensures { λ r. ⌜ r ≡ listOf firstLimits (now (s .entry)) (now (out .entry)) ⌝ }
-    ensures { λ r. ⌜ now (out .exit) ≡ writtenOf firstLimits (now (s .entry)) (now (out .entry)) ⌝ }
+    ensures { λ r. ⌜ r ≡ listOf gateLimits (now (s .entry)) (now (out .entry)) ⌝ }
+    ensures { λ r. ⌜ now (out .exit) ≡ writtenOf gateLimits (now (s .entry)) (now (out .entry)) ⌝ }
 {
     list_within(ari::LIMITS, s, out)
 }

@@ -20,7 +20,7 @@ ghost use Rattle.reader.specs.Steps.{standsAt, stringEnd, keyAt, stepAt,
 ghost use Rattle.reader.specs.Walks.{insideLevel, Walked, headWalk, unwalkedOf, WalkedBy, SetsWalked};
 ghost use Rattle.ari.specs.declared.Input.the-variants.{Single, Message};
 ghost use Rattle.ari.specs.Reader.{read};
-ghost use Rattle.ari.specs.Limits.{firstLimits};
+ghost use Rattle.ari.specs.Limits.{gateLimits};
 ghost use Rattle.reader.specs.Answers.{answerOf, refusalOf, Kept};
 use ari::Input;
 use ari::Limits;
@@ -714,13 +714,13 @@ pub fn check(input: Input, limits: Limits, s: &[u8]) -> Answer
 
 // A single ARI in binary form, and a message, within the gate's own limits.
 pub fn check_single(s: &[u8]) -> Answer
-    ensures { λ r. ⌜ r ≡ answerOf (read firstLimits Single (now (s .entry))) ⌝ }
+    ensures { λ r. ⌜ r ≡ answerOf (read gateLimits Single (now (s .entry))) ⌝ }
 {
     check(Input::Single, ari::LIMITS, s)
 }
 
 pub fn check_message(s: &[u8]) -> Answer
-    ensures { λ r. ⌜ r ≡ answerOf (read firstLimits Message (now (s .entry))) ⌝ }
+    ensures { λ r. ⌜ r ≡ answerOf (read gateLimits Message (now (s .entry))) ⌝ }
 {
     check(Input::Message, ari::LIMITS, s)
 }

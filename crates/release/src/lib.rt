@@ -5,7 +5,7 @@ ghost use lib.ListN.{length};
 ghost use lib.Dec.{eqb};
 ghost use mathlib.Core.Bool.{cond};
 ghost use Rattle.ari.specs.declared.Input.the-variants as input;
-ghost use Rattle.ari.specs.Limits.{firstLimits, capped};
+ghost use Rattle.ari.specs.Limits.{gateLimits, capped};
 ghost use Rattle.item_table.specs.Entries.{Tabled};
 ghost use Rattle.names.specs.Translated.{standsBy, translated};
 ghost use Rattle.grants.specs.Bytes.{rows};
@@ -221,7 +221,7 @@ pub fn release_message<'a>(
     own: &'a [u8],
     subscriber: u64,
 ) -> Released
-    ensures { λ r. ⌜ r ≡ countedBytes firstLimits (now (s .entry)) (now (grants .entry)) (now (published .entry)) (now (own .entry)) subscriber ⌝ }
+    ensures { λ r. ⌜ r ≡ countedBytes gateLimits (now (s .entry)) (now (grants .entry)) (now (published .entry)) (now (own .entry)) subscriber ⌝ }
 {
     release_within(ari::LIMITS, s, grants, published, own, subscriber)
 }

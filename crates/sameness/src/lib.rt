@@ -5,7 +5,7 @@ ghost use Prim.Native.Nat.{_<_, _≤_, min};
 ghost use lib.ListN.{length};
 ghost use Rattle.ari.specs.declared.Input.the-variants as input;
 ghost use Rattle.ari.specs.Reader.{accept, read};
-ghost use Rattle.ari.specs.Limits.{firstLimits, capped};
+ghost use Rattle.ari.specs.Limits.{gateLimits, capped};
 ghost use Rattle.ari.specs.Same.{isSame};
 ghost use Rattle.item_table.specs.Entries.{Tabled};
 ghost use Rattle.sameness.specs.Sameness.{samenessBy, sameness};
@@ -181,7 +181,7 @@ pub fn same_within(limits: Limits, a: &[u8], b: &[u8]) -> Sameness
 
 // Whether two single ARIs are the same.
 pub fn same(a: &[u8], b: &[u8]) -> Sameness
-    ensures { λ r. ⌜ r ≡ sameness firstLimits (now (a .entry)) (now (b .entry)) ⌝ }
+    ensures { λ r. ⌜ r ≡ sameness gateLimits (now (a .entry)) (now (b .entry)) ⌝ }
 {
     same_within(ari::LIMITS, a, b)
 }

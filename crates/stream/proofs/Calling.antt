@@ -14,7 +14,7 @@ use borrow.Author.Tests.{eq-eqb, ne-eqb, lt-ltb, le-ltb, ltb-false}
 use Rattle.buffer.specs.Bytes.{part}
 use Rattle.buffer.specs.Put.{Put}
 use Rattle.ari.specs.declared.Limits.{Limits}
-use Rattle.ari.specs.Limits.{capped}
+use Rattle.ari.specs.Limits.{gateLimits, capped}
 use Rattle.ari.specs.declared.Input.the-variants.{Message}
 use Rattle.ari.specs.Reader.{Answer, refuse, accept, run, counted, read}
 use Rattle.listing.specs.declared.Listed.{Listed}
@@ -524,7 +524,7 @@ open-ends ws h {ws′} f = record { short = λ g. absurd (omega arith); afresh =
 
 -- limits that were capped
 capped-again : (m : Limits) → capped (capped m) ≡ capped m
-capped-again m = rw (min-again (m .bytes) 4096, min-again (m .items) 1024, min-again (m .containers) 12, min-again (m .text) 32768)
+capped-again m = rw (min-again (m .bytes) (gateLimits .bytes), min-again (m .items) (gateLimits .items), min-again (m .containers) (gateLimits .containers), min-again (m .text) (gateLimits .text))
   where
     min-again : (a b : ℕ) → min (min a b) b ≡ min a b
     min-again a b = min-eq-left (min-le-right a b)
@@ -533,14 +533,14 @@ pub capped-once : (m : Limits) {n : Limits} → n ≡ capped m → capped n ≡ 
 capped-once m e = rw e (capped-again m)
 
 module _ {m : Limits} (e : capped m ≡ m) where
-  few-bytes : m .bytes ≤ 4096
-  few-bytes = let h : min (m .bytes) 4096 ≡ m .bytes = ap (λ (x : Limits). x .bytes) e in omega (arith, min-le-right (m .bytes) 4096)
+  few-bytes : m .bytes ≤ gateLimits .bytes
+  few-bytes = let h : min (m .bytes) (gateLimits .bytes) ≡ m .bytes = ap (λ (x : Limits). x .bytes) e in omega (arith, min-le-right (m .bytes) (gateLimits .bytes))
 
   pub small-bytes : m .bytes < 65536
   small-bytes = omega (arith, few-bytes)
 
-  pub small-containers : m .containers ≤ 12
-  small-containers = let h : min (m .containers) 12 ≡ m .containers = ap (λ (x : Limits). x .containers) e in omega (arith, min-le-right (m .containers) 12)
+  pub small-containers : m .containers ≤ gateLimits .containers
+  small-containers = let h : min (m .containers) (gateLimits .containers) ≡ m .containers = ap (λ (x : Limits). x .containers) e in omega (arith, min-le-right (m .containers) (gateLimits .containers))
 
   pub lists-alike : (b out : List ℕ) {y : Listed} → y ≡ listOf (capped m) b out → y ≡ listOf m b out
   lists-alike b out g = rw e at g

@@ -1,37 +1,33 @@
 -- One turn of the walk over a message that may go on: whatever follows its bytes, the reader goes on from what is due.
-use Prim.Native.Nat.{ℕ, zero, suc, pred, _+_, _-_, _*_, _<_, _≤_, min}
+use Prim.Native.Nat.{ℕ, zero, suc, pred, _+_, _-_, _<_, _≤_, min}
 use mathlib.Core.Path.{_≡_, refl, sym, _∙_, ap}
-use mathlib.Core.Bool.{Bool, true, false, not, _&&_, _||_, cond, true≢false}
+use mathlib.Core.Bool.{Bool, true, false, _&&_, cond, true≢false}
 use mathlib.Core.List.{List, [], _∷_, _++_, append-nil}
 use native.Mathlib.Omega.{arith}
 use native.Mathlib.Nat.{min-le-left}
-use native.Mathlib.Numerals.{add-one}
-use lib.ListN.{length, take, drop, getD, length-append, length-drop}
+use lib.ListN.{length, drop, getD, length-append, length-drop}
 use lib.Seq.{drop-append-le, drop-drop, drop-cons, drop-length}
-use lib.Dec.{eqb, leb}
+use lib.Dec.{eqb}
 use mir.Syntax.{w64}
 use mir.Val.{Fits}
-use borrow.Author.Tests.{eq-eqb, ne-eqb, eqb-true, eqb-false, leb-true, le-leb, lt-leb, le-ltb, not-true, not-false}
+use borrow.Author.Tests.{eq-eqb, ne-eqb, eqb-true, le-leb, le-ltb}
+use Rattle.ari.specs.Limits.{gateLimits}
 use Rattle.buffer.specs.Bytes.{all, isByte, part, within}
-use Rattle.buffer.proofs.ByteLaws.{and-true}
-use Rattle.cbor.specs.Head.{Lead, size, stringSize, Got, bad, got, getHead, keyOf, keyBytes, isContainer}
+use Rattle.cbor.specs.Head.{Lead, size, stringSize, got, getHead, keyOf, keyBytes, isContainer}
 use Rattle.cbor.proofs.HeadLaws.{head-fits}
-use Rattle.cbor.specs.declared.Head.{Head}
-use Rattle.cbor.specs.declared.Head.the-variants.{Bad, Good}
-use Rattle.cbor.specs.Answer.{answer, headAt}
+use Rattle.cbor.specs.Answer.{headAt}
 use Rattle.ari.specs.declared.Limits.{Limits}
-use Rattle.ari.specs.declared.Input.the-variants.{Message}
-use Rattle.ari.specs.Table.{Slot, version, message, ari, ExtraTest, rising, Level, done, due, rule, members}
-use Rattle.ari.specs.Reader.{Dues, frame, push, behind, keyAfter, judge, judgeContent, judgeGot, Answer, refuse, accept, takeStep, visit, run, counted, read}
+use Rattle.ari.specs.Table.{Slot, message, ari, done, rule, members}
+use Rattle.ari.specs.Reader.{Dues, frame, push, behind, keyAfter, judgeGot, refuse, takeStep, visit, run, counted, read}
 use Rattle.ari.specs.Reader as reader
-use Rattle.ari.proofs.Prefix.{head-stays, Lacking, lacking, step-number}
+use Rattle.ari.proofs.Prefix.{head-stays, lacking, step-number}
 use Rattle.grammar.specs.Code.{slotOf, IsSlot, levelOf, fitsCode, nextCode, insideCode}
 use Rattle.grammar.specs.declared.Next.{Next}
 use Rattle.grammar.specs.declared.Next.the-variants as next
-use Rattle.grammar.proofs.Right.{Slotted, Stands, next-right, inside-right}
+use Rattle.grammar.proofs.Right.{next-right, inside-right}
 use Rattle.reader.specs.declared.Step.{Step}
 use Rattle.reader.specs.declared.Step.the-variants.{Taken, Refused}
-use Rattle.reader.specs.Steps.{keyAt, keySpan, stepAnswer, stepAt, Bounded}
+use Rattle.reader.specs.Steps.{keySpan, stepAnswer, stepAt}
 use Rattle.reader.proofs.Walking.{Took, took, run-frame, run-taken}
 use Rattle.reader.proofs.Keys.{ordered-kind}
 use Rattle.reader.proofs.Loop.{key-part, key-span}
@@ -40,9 +36,9 @@ use Rattle.reader.proofs.Bounds.{opens}
 use Rattle.stream.specs.declared.Frame.{Frame}
 use Rattle.stream.specs.declared.Stop.{Stop}
 use Rattle.stream.specs.declared.Stop.the-variants as stop
-use Rattle.stream.specs.Stream.{openEnded, Standing, none, stands, standingOf, standing, closing}
-use Rattle.stream.specs.State.{word, frameStart, frameAt, keyIn, levels, dues, first, WellFrame, WellFrames, Due, Quiet}
-use Rattle.stream.specs.Calls.{words, bottomFrame, dueFrame, stored, frameBehind, openBehind, wordsBehind, openInside, wordsInside, stringUntil, haltOf, stepDue, TakenDue, openAfter, wordsAfter, Reached, Kept, Advanced}
+use Rattle.stream.specs.Stream.{openEnded, none, stands, standingOf, standing, closing}
+use Rattle.stream.specs.State.{keyIn, levels, dues, first, WellFrames, Due, Quiet}
+use Rattle.stream.specs.Calls.{words, bottomFrame, dueFrame, openBehind, wordsBehind, openInside, wordsInside, stringUntil, haltOf, stepDue, TakenDue, openAfter, wordsAfter, Reached, Kept, Advanced}
 use Rattle.stream.proofs.Standing as standings
 use Rattle.stream.proofs.Levels.{behind-levels, behind-well, behind-size, behind-front, behind-most, inside-levels, inside-well, inside-size, inside-front}
 
@@ -203,7 +199,7 @@ module _ (m : Limits) (ws b : List ℕ) (p c o : ℕ) (d : Due m ws b p c o) (mo
   -- a head is taken
   module _ (bs : all isByte b ≡ true) {k a q : ℕ} (tk : Took b p (m .items - c) depth s prev k a q) (kk : k ≤ 9) (fit : fitsCode (f .slot) k a ≡ true)
       (shallow : (isContainer k && eqb depth 0) ≡ false) (few : c < m .items) (on : p < q) (inside : q ≤ length b) (size-is : words ≤ length ws)
-      (deep : m .containers ≤ 12) where
+      (deep : m .containers ≤ gateLimits .containers) where
     abbrev behind-is : Next
     behind-is = nextCode (f .slot) a (f .more)
 
@@ -222,7 +218,7 @@ module _ (m : Limits) (ws b : List ℕ) (p c o : ℕ) (d : Due m ws b p c o) (mo
     size₁ : words ≤ length ws₁
     size₁ = omega (arith, behind-size ws f p q (m .containers) b size-is o behind-is)
 
-    most : o ≤ 12
+    most : o ≤ gateLimits .containers
     most = omega (arith, framed .above, framed .allowed)
 
     -- the members, and what is due behind them, by the rules
@@ -250,7 +246,7 @@ module _ (m : Limits) (ws b : List ℕ) (p c o : ℕ) (d : Due m ws b p c o) (mo
         let g : f ≡ bottomFrame p = ef ∙ rw (eq-eqb o 0 e) in
         next-is ∙ rw g (bottom-next p (tk .lead .arg))
 
-    free : (j n : ℕ) → inside-is ≡ next.Due j n → (o₁ < 12) × (o₁ ≤ f .around) × (f .around < m .containers)
+    free : (j n : ℕ) → inside-is ≡ next.Due j n → (o₁ < gateLimits .containers) × (o₁ ≤ f .around) × (f .around < m .containers)
     free j n e =
         let h : 0 < depth = opens (f .slot) k a refl depth e shallow in
         let g = behind-most ws f p q (m .containers) b size-is o behind-is in
@@ -323,7 +319,7 @@ module _ {m : Limits} {b ws₀ : List ℕ} {at₀ count₀ opened₀ : ℕ} {ws 
         let v = framed m ws b p c o d more ef in
         et ∙ rw (le-leb o (f .around) (v .above), le-leb (f .around) (m .containers) (v .allowed), key-at b (f .from) (f .to) (v .ends) (v .key-in))
 
-    pub turned : all isByte b ≡ true → {k a q : ℕ} → t ≡ Taken k a q → TakenDue m b f p c o t → m .containers ≤ 12
+    pub turned : all isByte b ≡ true → {k a q : ℕ} → t ≡ Taken k a q → TakenDue m b f p c o t → m .containers ≤ gateLimits .containers
         → {o′ : ℕ} {w : List ℕ} → o′ ≡ openAfter f k a o → w ≡ wordsAfter f k a ws o p q → Leads m b ws₀ at₀ count₀ opened₀ w q (c + 1) o′
     turned bs {k} {a} {q} g bound deep eo ew = record {
       kept = rw ew (moved (lead .kept) size-is f p q o k a (openBehind (nextCode (f .slot) a (f .more)) o));

@@ -1,29 +1,27 @@
 -- The frames of the open levels: storing one leaves those below it, so the levels after an item are what the reader has due after it.
-use Prim.Native.Nat.{ℕ, zero, suc, pred, _+_, _-_, _*_, _<_, _≤_}
-use mathlib.Core.Path.{_≡_, refl, sym, _∙_, ap}
-use mathlib.Core.Logic.{_≢_}
-use mathlib.Core.Bool.{Bool, true, false, _&&_, cond}
-use mathlib.Core.List.{List, [], _∷_, _++_}
+use Prim.Native.Nat.{ℕ, zero, suc, pred, _+_, _-_, _<_, _≤_}
+use mathlib.Core.Path.{_≡_, refl, _∙_}
+use mathlib.Core.Bool.{Bool, true, false, cond}
+use mathlib.Core.List.{List, [], _∷_}
 use native.Mathlib.Omega.{arith}
-use native.Mathlib.Numerals.{add-one, sub-one}
-use lib.ListN.{length, getD, set, take, drop, length-set}
-use lib.Seq.{sets, getD-set-same, getD-set-other, length-sets, take-append-le, drop-append-le}
+use lib.ListN.{length, set, length-set}
+use lib.Seq.{sets, getD-set-same, getD-set-other, length-sets}
 use lib.Dec.{eqb}
-use borrow.Author.Tests.{eq-eqb, ne-eqb, eqb-false}
+use borrow.Author.Tests.{ne-eqb}
+use Rattle.ari.specs.Limits.{gateLimits}
 use Rattle.buffer.specs.Bytes.{part}
-use Rattle.cbor.specs.Head.{keyOf, getHead, isContainer}
-use Rattle.ari.specs.Table.{Level, done, due, rule}
-use Rattle.ari.specs.Reader.{Dues, frame, push}
-use Rattle.ari.specs.Reader as reader
-use Rattle.grammar.specs.Code.{slotOf, IsSlot, levelOf}
+use Rattle.cbor.specs.Head.{keyOf, getHead}
+use Rattle.ari.specs.Table.{done, rule}
+use Rattle.ari.specs.Reader.{frame, push}
+use Rattle.grammar.specs.Code.{slotOf, levelOf}
 use Rattle.grammar.specs.declared.Next.{Next}
 use Rattle.grammar.specs.declared.Next.the-variants.{Done, Due}
 use Rattle.grammar.proofs.Right.{Slotted}
 use Rattle.reader.specs.Steps.{keySpan}
 use Rattle.reader.proofs.Bounds.{span-order, span-within}
 use Rattle.stream.specs.declared.Frame.{Frame}
-use Rattle.stream.specs.State.{word, frameStart, frameAt, keyIn, levels, dues, first, WellFrame, WellFrames}
-use Rattle.stream.specs.Calls.{words, stored, frameBehind, openBehind, wordsBehind, openInside, wordsInside, Kept}
+use Rattle.stream.specs.State.{word, frameStart, frameAt, keyIn, levels, WellFrame, WellFrames}
+use Rattle.stream.specs.Calls.{words, stored, frameBehind, openBehind, wordsBehind, openInside, wordsInside}
 
 -- what stands in front of the values stays
 pub sets-before : (ws : List ℕ) (i : ℕ) (vs : List ℕ) (j : ℕ) → j < i → word (sets ws i vs) j ≡ word ws j
@@ -97,7 +95,7 @@ module _ (ws : List ℕ) (k : ℕ) (f : Frame) where
 
 -- behind an item: x is what is due there, k the level's number and f its frame
 module _ (ws : List ℕ) (f : Frame) (p q : ℕ) (d : ℕ) (b : List ℕ) (size : words ≤ length ws) where
-  pub behind-levels : (o : ℕ) → o ≤ 12 → (x : Next) → (o ≡ 0 → levelOf x ≡ done)
+  pub behind-levels : (o : ℕ) → o ≤ gateLimits .containers → (x : Next) → (o ≡ 0 → levelOf x ≡ done)
       → levels (wordsBehind x ws o f p q) d b (openBehind x o)
       ≡ push (levelOf x) (keyOf (part b (keySpan (rule (slotOf (f .slot)) .extra) (f .from) p) (keySpan (rule (slotOf (f .slot)) .extra) (f .to) q))) (d - f .around) (levels ws d b (o - 1))
   behind-levels o h Done z = refl
@@ -106,7 +104,7 @@ module _ (ws : List ℕ) (f : Frame) (p q : ℕ) (d : ℕ) (b : List ℕ) (size 
       let e : suc k - 1 ≡ k = omega arith in
       rw (e, ne-eqb (suc k) 0 (λ q. omega arith)) (stored-levels ws k (frameBehind f j n p q) d b (omega arith))
 
-  pub behind-well : (n o : ℕ) → o ≤ 12 → (x : Next) → Slotted x → WellFrames ws d n (o - 1) → ((k : ℕ) → o ≡ suc k → WellFrame d n k f) → p ≤ q → q ≤ n
+  pub behind-well : (n o : ℕ) → o ≤ gateLimits .containers → (x : Next) → Slotted x → WellFrames ws d n (o - 1) → ((k : ℕ) → o ≡ suc k → WellFrame d n k f) → p ≤ q → q ≤ n
       → WellFrames (wordsBehind x ws o f p q) d n (openBehind x o)
   behind-well n o h Done z w v pq qn = w
   behind-well n zero h (Due j m) z w v pq qn = tt
@@ -139,17 +137,17 @@ module _ (ws : List ℕ) (f : Frame) (p q : ℕ) (d : ℕ) (b : List ℕ) (size 
 
 -- inside an item that has so many containers around it
 module _ (ws : List ℕ) (around d : ℕ) (b : List ℕ) (size : words ≤ length ws) where
-  pub inside-levels : (o : ℕ) (x : Next) → ((j n : ℕ) → x ≡ Due j n → o < 12)
+  pub inside-levels : (o : ℕ) (x : Next) → ((j n : ℕ) → x ≡ Due j n → o < gateLimits .containers)
       → levels (wordsInside x ws o around) d b (openInside x o) ≡ push (levelOf x) [] (pred (d - around)) (levels ws d b o)
   unfolding keyOf getHead
   inside-levels o Done free = refl
   inside-levels o (Due j n) free =
-      let h : o < 12 = free j n refl in
+      let h : o < gateLimits .containers = free j n refl in
       let e : o + 1 ≡ suc o = omega arith in
       let g : d - (around + 1) ≡ pred (d - around) = omega arith in
       rw (e, ← g) (stored-levels ws o (record { slot = j; more = n; from = 0; to = 0; around = around + 1 }) d b (omega arith))
 
-  pub inside-well : (n o : ℕ) (x : Next) → Slotted x → ((j m : ℕ) → x ≡ Due j m → (o < 12) × (o ≤ around) × (around < d)) → WellFrames ws d n o
+  pub inside-well : (n o : ℕ) (x : Next) → Slotted x → ((j m : ℕ) → x ≡ Due j m → (o < gateLimits .containers) × (o ≤ around) × (around < d)) → WellFrames ws d n o
       → WellFrames (wordsInside x ws o around) d n (openInside x o)
   inside-well n o Done s free w = w
   inside-well n o (Due j m) s free w =

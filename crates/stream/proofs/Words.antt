@@ -1,16 +1,16 @@
 -- The state's words and frames as the leaves load and store them: a law for each way that such a function ends.
-use Prim.Native.Nat.{ℕ, zero, suc, _+_, _-_, _*_, _<_, _≤_, min}
+use Prim.Native.Nat.{ℕ, suc, _+_, _-_, _<_, _≤_, min}
 use mathlib.Core.Path.{_≡_, refl, sym, _∙_}
-use mathlib.Core.Bool.{false, _&&_, cond}
-use mathlib.Core.List.{List, [], _∷_}
+use mathlib.Core.Bool.{false, _&&_}
+use mathlib.Core.List.{List}
 use native.Mathlib.Omega.{arith}
 use native.Mathlib.Nat.{min-le-right}
 use lib.ListN.{length, set}
-use lib.Seq.{sets}
-use lib.Dec.{eqb, leb}
+use lib.Dec.{eqb}
 use mir.Syntax.{w64}
 use mir.Val.{Fits}
 use borrow.Author.Tests.{eq-eqb, ne-eqb, le-leb, lt-leb}
+use Rattle.ari.specs.Limits.{gateLimits}
 use Rattle.cbor.specs.declared.Head.{Head}
 use Rattle.cbor.specs.declared.Head.the-variants.{Bad, Good}
 use Rattle.cbor.specs.Head.{isContainer, keyOf}
@@ -27,7 +27,7 @@ use Rattle.reader.specs.declared.Step.the-variants.{Taken, Refused}
 use Rattle.stream.specs.declared.Stop.the-variants as stop
 use Rattle.stream.specs.declared.Frame.{Frame}
 use Rattle.stream.specs.State.{word, frameStart, frameAt}
-use Rattle.stream.specs.Calls.{bottomFrame, dueFrame, stored, openBehind, wordsBehind, openInside, wordsInside, stringUntil, haltOf, stepDue, TakenDue, openAfter, wordsAfter}
+use Rattle.stream.specs.Calls.{dueFrame, stored, openBehind, wordsBehind, openInside, wordsInside, stringUntil, haltOf, stepDue, TakenDue, openAfter, wordsAfter}
 
 module _ (ws : List ℕ) (k : ℕ) where
   pub frame-read : record {
@@ -111,7 +111,7 @@ module _ (ws : List ℕ) (opened around i k a : ℕ) {x : Next} (e : x ≡ insid
   new-words g z = z ∙ rw (← e, g)
 
   -- the new level is below the limit
-  pub level-free : {j n : ℕ} → x ≡ Due j n → (d : ℕ) → (isContainer k && eqb d 0) ≡ false → opened ≤ around → around + d ≤ 12 → opened < 12
+  pub level-free : {j n : ℕ} → x ≡ Due j n → (d : ℕ) → (isContainer k && eqb d 0) ≡ false → opened ≤ around → around + d ≤ gateLimits .containers → opened < gateLimits .containers
   level-free g d s h l = omega (arith, opens i k a e d g s)
 
 -- where a string ends
@@ -163,7 +163,7 @@ behind-most (Due j n) o = omega arith
 pub left-above : (f : Frame) (a o : ℕ) {o₁ : ℕ} → o₁ ≡ openBehind (nextCode (f .slot) a (f .more)) o → o ≤ f .around → o₁ ≤ f .around
 left-above f a o e h = omega (arith, behind-most (nextCode (f .slot) a (f .more)) o)
 
-pub level-sum : (around d : ℕ) → around ≤ d → d ≤ 12 → around + (d - around) ≤ 12
+pub level-sum : (around d : ℕ) → around ≤ d → d ≤ gateLimits .containers → around + (d - around) ≤ gateLimits .containers
 level-sum around d h g = omega arith
 
 -- where no head is taken

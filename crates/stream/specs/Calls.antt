@@ -8,7 +8,7 @@ use lib.ListN.{length, take}
 use lib.Seq.{sets}
 use lib.Dec.{ltb, leb, eqb}
 use Rattle.ari.specs.declared.Limits.{Limits}
-use Rattle.ari.specs.Limits.{firstLimits}
+use Rattle.ari.specs.Limits.{gateLimits}
 use Rattle.ari.specs.Reader.{run, refuse}
 use Rattle.listing.specs.declared.Listed.{Listed}
 use Rattle.listing.specs.declared.Listed.the-variants as listed
@@ -34,7 +34,7 @@ use Rattle.stream.specs.State as State
 
 -- the words of a state
 abbrev pub words : ℕ
-words = 7 + firstLimits .containers * 5
+words = 7 + gateLimits .containers * 5
 
 -- so many words and so many bytes of room are lent, and so many bytes a message may have
 unfoldable pub needed : ℕ → ℕ → ℕ → ℕ

@@ -9,7 +9,7 @@ ghost use Rattle.buffer.specs.Put.{Put};
 ghost use Rattle.cbor.specs.Answer.{headAt};
 ghost use Rattle.cbor.specs.Head.{isContainer};
 ghost use Rattle.grammar.specs.Code.{nextCode, insideCode};
-ghost use Rattle.ari.specs.Limits.{firstLimits, capped};
+ghost use Rattle.ari.specs.Limits.{gateLimits, capped};
 ghost use Rattle.stream.specs.State.{word, frameAt};
 ghost use Rattle.stream.specs.declared.Fed.the-variants.{Refused};
 ghost use Rattle.stream.specs.Calls.{words, stored, dueFrame, openBehind, wordsBehind, openInside, wordsInside, stringUntil, haltOf, stepDue, TakenDue, openAfter, wordsAfter, Advanced, needed, Walks, Overflows, Receives, Answers, Fresh, Ends, wantsRoom, Opens, Feeds, Closes};
@@ -69,7 +69,7 @@ const FRAME: usize = 5; // words of a frame
 pub const WORDS: usize = FRAMES + FRAME * ari::CONTAINERS;
 
 fn frame_at(state: &[u64], k: usize) -> Frame
-    requires { ⌜ (words ≤ length (now state)) × (k < 12) ⌝ }
+    requires { ⌜ (words ≤ length (now state)) × (k < gateLimits .containers) ⌝ }
     ensures { λ r. ⌜ r ≡ frameAt (now (state .entry)) k ⌝ }
 {
     let start = FRAMES + k * FRAME;
@@ -83,7 +83,7 @@ fn frame_at(state: &[u64], k: usize) -> Frame
 }
 
 fn store_frame(state: &mut [u64], k: usize, f: Frame)
-    requires { ⌜ (words ≤ length (now state)) × (k < 12) ⌝ }
+    requires { ⌜ (words ≤ length (now state)) × (k < gateLimits .containers) ⌝ }
     ensures { λ _. ⌜ now (state .exit) ≡ stored (now (state .entry)) k f ⌝ }
 {
     let start = FRAMES + k * FRAME;
@@ -96,7 +96,7 @@ fn store_frame(state: &mut [u64], k: usize, f: Frame)
 
 // What is due at a place. At the bottom it is the version, and behind it the sets.
 fn due(state: &[u64], at: usize, opened: usize) -> Frame
-    requires { ⌜ (words ≤ length (now state)) × (opened ≤ 12) ⌝ }
+    requires { ⌜ (words ≤ length (now state)) × (opened ≤ gateLimits .containers) ⌝ }
     ensures { λ r. ⌜ r ≡ dueFrame (now (state .entry)) at opened ⌝ }
 {
     if opened != 0 {
@@ -117,7 +117,7 @@ fn due(state: &[u64], at: usize, opened: usize) -> Frame
 
 // What is due behind an item takes the place of its level's frame; answers the levels that are open. At the bottom the sets stay due.
 fn leave(state: &mut [u64], opened: usize, f: Frame, arg: u64, from: usize, to: usize) -> usize
-    requires { ⌜ (words ≤ length (now state)) × (opened ≤ 12) ⌝ }
+    requires { ⌜ (words ≤ length (now state)) × (opened ≤ gateLimits .containers) ⌝ }
     ensures { λ r. ⌜ r ≡ openBehind (nextCode (f .slot) arg (f .more)) opened ⌝ }
     ensures { λ _. ⌜ now (state .exit) ≡ wordsBehind (nextCode (f .slot) arg (f .more)) (now (state .entry)) opened f from to ⌝ }
 {
@@ -159,7 +159,7 @@ fn enter(
     around: usize,
     depth: usize,
 ) -> usize
-    requires { ⌜ (words ≤ length (now state)) × (opened ≤ around) × (around + depth ≤ 12) × ((isContainer kind && eqb depth 0) ≡ false) ⌝ }
+    requires { ⌜ (words ≤ length (now state)) × (opened ≤ around) × (around + depth ≤ gateLimits .containers) × ((isContainer kind && eqb depth 0) ≡ false) ⌝ }
     ensures { λ r. ⌜ r ≡ openInside (insideCode slot kind arg) opened ⌝ }
     ensures { λ _. ⌜ now (state .exit) ≡ wordsInside (insideCode slot kind arg) (now (state .entry)) opened around ⌝ }
 {
@@ -269,7 +269,7 @@ fn settle(
     from: usize,
     to: usize,
 ) -> usize
-    requires { ⌜ (words ≤ length (now state)) × (opened ≤ f .around) × (f .around ≤ containers) × (containers ≤ 12) × ((isContainer kind && eqb (containers - f .around) 0) ≡ false) ⌝ }
+    requires { ⌜ (words ≤ length (now state)) × (opened ≤ f .around) × (f .around ≤ containers) × (containers ≤ gateLimits .containers) × ((isContainer kind && eqb (containers - f .around) 0) ≡ false) ⌝ }
     ensures { λ r. ⌜ r ≡ openAfter f kind arg opened ⌝ }
     ensures { λ _. ⌜ now (state .exit) ≡ wordsAfter f kind arg (now (state .entry)) opened from to ⌝ }
 {
@@ -294,7 +294,7 @@ fn advance(
     count: usize,
     opened: usize,
 ) -> Stop
-    requires { ⌜ (words ≤ length (now state)) × (length (now s) ≤ limits .bytes) × (limits .bytes < 65536) × (limits .containers ≤ 12) ⌝ }
+    requires { ⌜ (words ≤ length (now state)) × (length (now s) ≤ limits .bytes) × (limits .bytes < 65536) × (limits .containers ≤ gateLimits .containers) ⌝ }
     ensures { λ r. ⌜ Advanced limits (now (s .entry)) (now (state .entry)) at count opened r (now (state .exit)) ⌝ }
 {
     let mut p = at;
@@ -339,7 +339,7 @@ fn stand(state: &mut [u64], number: u8, place: usize) -> Fed
 
 // The heads from the place on that the state has come to.
 fn go_on(s: &[u8], limits: Limits, state: &mut [u64]) -> Stop
-    requires { ⌜ (words ≤ length (now state)) × (length (now s) ≤ limits .bytes) × (limits .bytes < 65536) × (limits .containers ≤ 12) ⌝ }
+    requires { ⌜ (words ≤ length (now state)) × (length (now s) ≤ limits .bytes) × (limits .bytes < 65536) × (limits .containers ≤ gateLimits .containers) ⌝ }
     ensures { λ r. ⌜ Advanced limits (now (s .entry)) (now (state .entry)) (word (now (state .entry)) 4) (word (now (state .entry)) 5) (word (now (state .entry)) 6) r (now (state .exit)) ⌝ }
 {
     let at = state[NEXT] as usize;
@@ -350,7 +350,7 @@ fn go_on(s: &[u8], limits: Limits, state: &mut [u64]) -> Stop
 
 // All bytes that were received are within the limit.
 fn walk(s: &[u8], limits: Limits, state: &mut [u64]) -> Fed
-    requires { ⌜ (words ≤ length (now state)) × (length (now s) ≤ limits .bytes) × (limits .bytes < 65536) × (limits .containers ≤ 12) ⌝ }
+    requires { ⌜ (words ≤ length (now state)) × (length (now s) ≤ limits .bytes) × (limits .bytes < 65536) × (limits .containers ≤ gateLimits .containers) ⌝ }
     ensures { λ r. ⌜ Walks limits (now (s .entry)) (now (state .entry)) r (now (state .exit)) ⌝ }
 {
     match go_on(s, limits, state) {
@@ -372,7 +372,7 @@ fn walk(s: &[u8], limits: Limits, state: &mut [u64]) -> Fed
 
 // There are more than the limit, and these are the first: what refuses them stands if no more bytes can change it, and otherwise that they are too many.
 fn overflow(s: &[u8], limits: Limits, state: &mut [u64]) -> Fed
-    requires { ⌜ (words ≤ length (now state)) × (length (now s) ≤ limits .bytes) × (limits .bytes < 65536) × (limits .containers ≤ 12) ⌝ }
+    requires { ⌜ (words ≤ length (now state)) × (length (now s) ≤ limits .bytes) × (limits .bytes < 65536) × (limits .containers ≤ gateLimits .containers) ⌝ }
     ensures { λ r. ⌜ Overflows limits (now (s .entry)) (now (state .entry)) r (now (state .exit)) ⌝ }
 {
     match go_on(s, limits, state) {
@@ -405,7 +405,7 @@ fn put_fragment(message: &mut [u8], at: usize, fragment: &[u8]) -> usize
 
 // A fragment goes behind the bytes that were received, and the message stays within the limit.
 fn append(limits: Limits, state: &mut [u64], message: &mut [u8], fragment: &[u8], end: usize) -> Fed
-    requires { ⌜ (words ≤ length (now state)) × (limits .bytes ≤ length (now message)) × (limits .bytes < 65536) × (limits .containers ≤ 12) ⌝ }
+    requires { ⌜ (words ≤ length (now state)) × (limits .bytes ≤ length (now message)) × (limits .bytes < 65536) × (limits .containers ≤ gateLimits .containers) ⌝ }
     requires { ⌜ (end ≡ word (now state) 0 + length (now fragment)) × (end ≤ limits .bytes) ⌝ }
     ensures { λ r. ⌜ Receives limits (now (state .entry)) (now (message .entry)) (now (fragment .entry)) r (now (state .exit)) (now (message .exit)) ⌝ }
 {
@@ -421,7 +421,7 @@ fn append(limits: Limits, state: &mut [u64], message: &mut [u8], fragment: &[u8]
 
 // A fragment of which there is more than the limit allows: its front fills the message up.
 fn fill(limits: Limits, state: &mut [u64], message: &mut [u8], fragment: &[u8], free: usize) -> Fed
-    requires { ⌜ (words ≤ length (now state)) × (limits .bytes ≤ length (now message)) × (limits .bytes < 65536) × (limits .containers ≤ 12) ⌝ }
+    requires { ⌜ (words ≤ length (now state)) × (limits .bytes ≤ length (now message)) × (limits .bytes < 65536) × (limits .containers ≤ gateLimits .containers) ⌝ }
     requires { ⌜ (word (now state) 0 ≤ limits .bytes) × (free ≡ limits .bytes - word (now state) 0) × (free < length (now fragment)) ⌝ }
     ensures { λ r. ⌜ Receives limits (now (state .entry)) (now (message .entry)) (now (fragment .entry)) r (now (state .exit)) (now (message .exit)) ⌝ }
 {
@@ -432,7 +432,7 @@ fn fill(limits: Limits, state: &mut [u64], message: &mut [u8], fragment: &[u8], 
 }
 
 fn receive(limits: Limits, state: &mut [u64], message: &mut [u8], fragment: &[u8]) -> Fed
-    requires { ⌜ (words ≤ length (now state)) × (limits .bytes ≤ length (now message)) × (limits .bytes < 65536) × (limits .containers ≤ 12) ⌝ }
+    requires { ⌜ (words ≤ length (now state)) × (limits .bytes ≤ length (now message)) × (limits .bytes < 65536) × (limits .containers ≤ gateLimits .containers) ⌝ }
     ensures { λ r. ⌜ Receives limits (now (state .entry)) (now (message .entry)) (now (fragment .entry)) r (now (state .exit)) (now (message .exit)) ⌝ }
 {
     let n = state[RECEIVED] as usize;
@@ -490,7 +490,7 @@ pub fn feed_within(limits: Limits, state: &mut [u64], message: &mut [u8], fragme
 }
 
 pub fn feed(state: &mut [u64], message: &mut [u8], fragment: &[u8]) -> Fed
-    ensures { λ r. ⌜ Feeds firstLimits (now (state .entry)) (now (message .entry)) (now (fragment .entry)) r (now (state .exit)) (now (message .exit)) ⌝ }
+    ensures { λ r. ⌜ Feeds gateLimits (now (state .entry)) (now (message .entry)) (now (fragment .entry)) r (now (state .exit)) (now (message .exit)) ⌝ }
 {
     feed_within(ari::LIMITS, state, message, fragment)
 }
@@ -586,7 +586,7 @@ pub fn close_within(limits: Limits, state: &mut [u64], message: &[u8], out: &mut
 }
 
 pub fn close(state: &mut [u64], message: &[u8], out: &mut [u8]) -> Listed
-    ensures { λ r. ⌜ Closes firstLimits (now (state .entry)) (now (message .entry)) (now (out .entry)) r (now (state .exit)) (now (out .exit)) ⌝ }
+    ensures { λ r. ⌜ Closes gateLimits (now (state .entry)) (now (message .entry)) (now (out .entry)) r (now (state .exit)) (now (out .exit)) ⌝ }
 {
     close_within(ari::LIMITS, state, message, out)
 }

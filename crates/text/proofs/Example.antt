@@ -11,7 +11,7 @@ use Rattle.ari.specs.Name.{startsName, continuesName, identifier, namespaceName
 use Rattle.ari.specs.Table.{types, rule, members}
 use Rattle.ari.specs.Reader.{judge, judgeContent, judgeGot, takeStep, visit, run, read}
 use Rattle.ari.specs.Decode.{traceGot, trace, build, decode}
-use Rattle.ari.specs.Limits.{firstLimits}
+use Rattle.ari.specs.Limits.{gateLimits}
 use Rattle.text.specs.Chars.{ascii, integer, hex, bare, escape, textString, byteString, simpleText, literalText, nameText}
 use Rattle.text.specs.Text.{names, typeName, spell, isRelative, textOf, isFloat, isSet, form}
 use Rattle.text.specs.Parse.{ends, inWord, startsBy, number, unhex, unescape, unhexes, inner, integerOf, literalOf, startsNumber, nameOf, typeNumber, typeOf, opened, commas, count, parts, takeAri, takeAt, level, parse, candidate}
@@ -24,9 +24,9 @@ pub data Example : Type 0 where
 
 abbrev pub Hold : List Example → Type 0
 Hold [] = Unit {0}
-Hold (both b n t ∷ es) = (writeText firstLimits b ≡ output (ascii t) n) × (readText firstLimits (ascii t) ≡ output b n) × Hold es
-Hold (unwritten b p ∷ es) = (writeText firstLimits b ≡ refused 14 p) × Hold es
-Hold (unread t ∷ es) = (readText firstLimits (ascii t) ≡ refused 15 0) × Hold es
+Hold (both b n t ∷ es) = (writeText gateLimits b ≡ output (ascii t) n) × (readText gateLimits (ascii t) ≡ output b n) × Hold es
+Hold (unwritten b p ∷ es) = (writeText gateLimits b ≡ refused 14 p) × Hold es
+Hold (unread t ∷ es) = (readText gateLimits (ascii t) ≡ refused 15 0) × Hold es
 
 abbrev pub examples : List Example
 examples =

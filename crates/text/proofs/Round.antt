@@ -17,7 +17,7 @@ use Rattle.ari.specs.Reader.{Answer, refuse, accept, read}
 use Rattle.ari.specs.Items.{Items, encode, heads}
 use Rattle.ari.specs.Decode.{decode}
 use Rattle.ari.specs.Rules.{Is}
-use Rattle.ari.specs.Limits.{firstLimits, capped}
+use Rattle.ari.specs.Limits.{gateLimits, capped}
 use Rattle.ari.specs.Shortened.{shortened, shortForm}
 use Rattle.ari.proofs.Shortened.{shortened-is}
 use Rattle.ari.proofs.Demand.{stands-fit, demand-two, unique, is-read}
@@ -216,13 +216,13 @@ module _ (m : Limits) where
             rw (q, y, count-of z)
 
 -- Within limits that are none above the gate's own, no text is longer than the gate's own limit.
-pub capped-longest : (m : Limits) (n : ℕ) → longest (capped m) n ≤ firstLimits .text
+pub capped-longest : (m : Limits) (n : ℕ) → longest (capped m) n ≤ gateLimits .text
 capped-longest m n = omega arith
 
 -- Within the gate's own limits every written text is read again.
-module _ (t b : List ℕ) (n : ℕ) (o : all isByte b ≡ true) (e : writeText firstLimits b ≡ output t n) where
-  pub first-short : length t ≤ firstLimits .text
-  first-short = omega (arith, text-short firstLimits t b n o e)
+module _ (t b : List ℕ) (n : ℕ) (o : all isByte b ≡ true) (e : writeText gateLimits b ≡ output t n) where
+  pub first-short : length t ≤ gateLimits .text
+  first-short = omega (arith, text-short gateLimits t b n o e)
 
-  pub first-write-read : readText firstLimits t ≡ output (shortForm b) n
-  first-write-read = write-read firstLimits t b n o e (omega arith)
+  pub first-write-read : readText gateLimits t ≡ output (shortForm b) n
+  first-write-read = write-read gateLimits t b n o e (omega arith)

@@ -4,7 +4,7 @@ ghost use mathlib.Core.Bool.{cond};
 ghost use Prim.Native.Nat.{_<_, _≤_};
 ghost use lib.ListN.{length, drop};
 ghost use Rattle.ari.specs.Table.{due};
-ghost use Rattle.ari.specs.Limits.{firstLimits, capped};
+ghost use Rattle.ari.specs.Limits.{gateLimits, capped};
 ghost use Rattle.ari.specs.Items.{encode};
 ghost use Rattle.grammar.specs.Code.{slotOf};
 ghost use Rattle.grammar.specs.Code.{IsSlot};
@@ -185,7 +185,7 @@ fn read_in(
 }
 
 fn read_long(limits: Limits, t: &[u8], out: &mut [u8]) -> Written
-    requires { ⌜ (length (now t) ≤ limits .text) × (limits .bytes ≤ firstLimits .bytes) × (limits .text ≤ firstLimits .text) ⌝ }
+    requires { ⌜ (length (now t) ≤ limits .text) × (limits .bytes ≤ gateLimits .bytes) × (limits .text ≤ gateLimits .text) ⌝ }
     ensures { λ r. ⌜ r ≡ writtenOf (lent (length (now (out .entry))) (readText limits (now (t .entry)))) ⌝ }
     ensures { λ r. ⌜ now (out .exit) ≡ roomAfter (now (out .entry)) (lent (length (now (out .entry))) (readText limits (now (t .entry)))) ⌝ }
 {
@@ -199,7 +199,7 @@ const SHORT: usize = 128;
 
 // A short text, with little room to clear: should its candidate fill that room, the text is read as a long one.
 fn read_short(limits: Limits, t: &[u8], out: &mut [u8]) -> Written
-    requires { ⌜ (length (now t) < short) × (length (now t) ≤ limits .text) × (limits .bytes ≤ firstLimits .bytes) × (limits .text ≤ firstLimits .text) ⌝ }
+    requires { ⌜ (length (now t) < short) × (length (now t) ≤ limits .text) × (limits .bytes ≤ gateLimits .bytes) × (limits .text ≤ gateLimits .text) ⌝ }
     ensures { λ r. ⌜ r ≡ writtenOf (lent (length (now (out .entry))) (readText limits (now (t .entry)))) ⌝ }
     ensures { λ r. ⌜ now (out .exit) ≡ roomAfter (now (out .entry)) (lent (length (now (out .entry))) (readText limits (now (t .entry)))) ⌝ }
 {
@@ -232,8 +232,8 @@ pub fn read_text_within(limits: Limits, t: &[u8], out: &mut [u8]) -> Written
 
 // The binary form of the single ARI that a text is.
 pub fn read_text(t: &[u8], out: &mut [u8]) -> Written
-    ensures { λ r. ⌜ r ≡ writtenOf (lent (length (now (out .entry))) (readText firstLimits (now (t .entry)))) ⌝ }
-    ensures { λ r. ⌜ now (out .exit) ≡ roomAfter (now (out .entry)) (lent (length (now (out .entry))) (readText firstLimits (now (t .entry)))) ⌝ }
+    ensures { λ r. ⌜ r ≡ writtenOf (lent (length (now (out .entry))) (readText gateLimits (now (t .entry)))) ⌝ }
+    ensures { λ r. ⌜ now (out .exit) ≡ roomAfter (now (out .entry)) (lent (length (now (out .entry))) (readText gateLimits (now (t .entry)))) ⌝ }
 {
     read_text_within(ari::LIMITS, t, out)
 }

@@ -14,7 +14,7 @@ ghost use Rattle.reader.specs.Walks.{insideLevel};
 ghost use Rattle.buffer.specs.Put.{Put};
 ghost use Rattle.text_write_item.specs.Spellings.{spellingAt, beforeBy, afterBy};
 ghost use Rattle.text_write.specs.Walks.{ItemAt, Writes};
-ghost use Rattle.ari.specs.Limits.{firstLimits, capped};
+ghost use Rattle.ari.specs.Limits.{gateLimits, capped};
 ghost use Rattle.ari.specs.declared.Input.the-variants.{Single};
 ghost use Rattle.ari.specs.Rules.{Is};
 ghost use Rattle.ari.specs.Decode.{decode};
@@ -364,9 +364,18 @@ fn write_small(limits: Limits, s: &[u8], out: &mut [u8]) -> Written
     write_in(limits, s, &mut scratch, out)
 }
 
+fn write_large(limits: Limits, s: &[u8], out: &mut [u8]) -> Written
+    requires { ⌜ (limits .bytes ≤ gateLimits .bytes) × (limits .items ≤ gateLimits .items) ⌝ }
+    ensures { λ r. ⌜ r ≡ writtenOf (lent (length (now (out .entry))) (writeText limits (now (s .entry)))) ⌝ }
+    ensures { λ r. ⌜ now (out .exit) ≡ roomAfter (now (out .entry)) (lent (length (now (out .entry))) (writeText limits (now (s .entry)))) ⌝ }
+{
+    let mut scratch = [0u8; ari::TEXT];
+    write_in(limits, s, &mut scratch, out)
+}
+
 // The most bytes that the text of an ARI of this size has.
 fn longest(limits: Limits, size: usize) -> usize
-    requires { ⌜ (limits .bytes ≤ firstLimits .bytes) × (limits .items ≤ firstLimits .items) ⌝ }
+    requires { ⌜ (limits .bytes ≤ gateLimits .bytes) × (limits .items ≤ gateLimits .items) ⌝ }
     ensures { λ r. ⌜ r ≡ longest limits size ⌝ }
 {
     4 + 3 * buffer::least(size, limits.bytes) + 16 * buffer::least(size, limits.items)
@@ -385,14 +394,13 @@ pub fn write_text_within(limits: Limits, s: &[u8], out: &mut [u8]) -> Written
     if s.len() <= SMALL {
         return write_small(most, s, out);
     }
-    let mut scratch = [0u8; ari::TEXT];
-    write_in(most, s, &mut scratch, out)
+    write_large(most, s, out)
 }
 
 // The text of a single ARI in binary form is written into lent room.
 pub fn write_text(s: &[u8], out: &mut [u8]) -> Written
-    ensures { λ r. ⌜ r ≡ writtenOf (lent (length (now (out .entry))) (writeText firstLimits (now (s .entry)))) ⌝ }
-    ensures { λ r. ⌜ now (out .exit) ≡ roomAfter (now (out .entry)) (lent (length (now (out .entry))) (writeText firstLimits (now (s .entry)))) ⌝ }
+    ensures { λ r. ⌜ r ≡ writtenOf (lent (length (now (out .entry))) (writeText gateLimits (now (s .entry)))) ⌝ }
+    ensures { λ r. ⌜ now (out .exit) ≡ roomAfter (now (out .entry)) (lent (length (now (out .entry))) (writeText gateLimits (now (s .entry)))) ⌝ }
 {
     write_text_within(ari::LIMITS, s, out)
 }

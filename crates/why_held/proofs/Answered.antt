@@ -12,7 +12,7 @@ use mir.Val.{Fits}
 use borrow.Author.Tests.{lt-ltb, le-ltb}
 use Rattle.ari.specs.declared.Limits.{Limits}
 use Rattle.ari.specs.declared.Input.the-variants.{Message}
-use Rattle.ari.specs.Limits.{firstLimits}
+use Rattle.ari.specs.Limits.{gateLimits}
 use Rattle.ari.specs.Reader.{read, refuse, accept}
 use Rattle.ari.specs.Reader as reader
 use Rattle.ari.specs.Listing.{Space, Entry, listing}
@@ -53,8 +53,8 @@ translated-at published own [] k h = absurd (omega arith)
 translated-at published own (e ∷ es) zero h = refl
 translated-at published own (e ∷ es) (suc k) h = translated-at published own es k (omega arith)
 
-room-of : (ls : List Link) → length ls ≤ firstLimits .containers → length (inRoom ls) ≡ firstLimits .containers
-room-of ls h = simp length-append (omega (arith, length-replicate (firstLimits .containers - length ls) noLink))
+room-of : (ls : List Link) → length ls ≤ gateLimits .containers → length (inRoom ls) ≡ gateLimits .containers
+room-of ls h = simp length-append (omega (arith, length-replicate (gateLimits .containers - length ls) noLink))
 
 module _ (b published own : List ℕ) (k : ℕ) (h : k < length (listing b)) {p : Place} (e : p ≡ placeOf (getD (translated published own b) k noEntry)) where
   pub its-ends : IsListed b (p .first) (p .after)
@@ -71,10 +71,10 @@ module _ (b published own : List ℕ) (k : ℕ) (h : k < length (listing b)) {p 
     pub held-is : _≡_ {A = Why} (record { outcome = Held k (p .reason) (c .count); links = c .links }) (whyBy b published own (no k))
     held-is = rw (f, e)
 
-    pub held-few : {m : Limits} {n : ℕ} {t : List ℕ} → Tabled m Message b n t → m .containers ≤ firstLimits .containers
+    pub held-few : {m : Limits} {n : ℕ} {t : List ℕ} → Tabled m Message b n t → m .containers ≤ gateLimits .containers
         → Few (record { outcome = Held k (p .reason) (c .count); links = c .links })
     held-few d l =
-        let z : length (chain b (p .first) (p .after)) ≤ firstLimits .containers = omega (arith, few-links (d .is) its-ends) in
+        let z : length (chain b (p .first) (p .after)) ≤ gateLimits .containers = omega (arith, few-links (d .is) its-ends) in
         record { links = rw f z; room = rw f (room-of (chain b (p .first) (p .after)) z) }
 
 -- release says no of an accepted message, with one of its entries
@@ -152,7 +152,7 @@ module _ {m : Limits} {b : List ℕ} {k : ℕ} (h : IsHeld m b k) {a : Answer} (
 
 -- what is held, in the lent room
 module _ {w : Why} (few : Few w) {k r n : ℕ} (e : w .outcome ≡ Held k r n) where
-  few-is : n ≤ firstLimits .containers
+  few-is : n ≤ gateLimits .containers
   few-is = rw e at (few .links)
 
   pub need-fits : Fits w64 (n * 24)
@@ -181,7 +181,7 @@ pub ruleset writings = (need-fits, links-there, too-short, enough, links-fit, re
 
 -- the room after it, in the terms of the definition
 first-links : (ls : List Link) → take (length ls) (inRoom ls) ≡ ls
-first-links ls = take-at ls (replicate (firstLimits .containers - length ls) noLink) (length ls) refl
+first-links ls = take-at ls (replicate (gateLimits .containers - length ls) noLink) (length ls) refl
 
 module _ (b published own : List ℕ) where
   written-is : (x : Release) (out : List ℕ)

@@ -16,7 +16,7 @@ use Rattle.cbor.specs.Head.{array, isContainer}
 use Rattle.ari.specs.Table.{rule, isReference}
 use Rattle.ari.specs.declared.Limits.{Limits}
 use Rattle.ari.specs.declared.Input.the-variants.{Message}
-use Rattle.ari.specs.Limits.{firstLimits}
+use Rattle.ari.specs.Limits.{gateLimits}
 use Rattle.ari.specs.Items.{Spot, spotsOf}
 use Rattle.ari.specs.Decode.{decode}
 use Rattle.ari.specs.Rules.{Is}
@@ -180,23 +180,23 @@ module _ {m : Limits} {b t : List ℕ} {n : ℕ} (c : Tabled m Message b n t) (f
       linked = g .whole ∙ rw (from-here, le-leb (y .first) first (omega (arith, first-is)), le-leb after (y .after) (omega (arith, after-is)))
 
       -- there is room for it
-      pub roomy : m .containers ≤ firstLimits .containers → IsListed b first after → i < firstLimits .containers
+      pub roomy : m .containers ≤ gateLimits .containers → IsListed b first after → i < gateLimits .containers
       roomy few s =
           let z : length (chain b first after) ≡ length (g .done) + suc (length rest) = ap length linked ∙ length-append (g .done) _ in
           omega (arith, few-links (c .is) s, g .count, z)
 
-      pub roomy-fits : m .containers ≤ firstLimits .containers → IsListed b first after → Fits w64 (i * 32)
+      pub roomy-fits : m .containers ≤ gateLimits .containers → IsListed b first after → Fits w64 (i * 32)
       roomy-fits few s = let z = roomy few s in omega arith
 
-      pub roomy-next : m .containers ≤ firstLimits .containers → IsListed b first after → Fits w64 (i + 1)
+      pub roomy-next : m .containers ≤ gateLimits .containers → IsListed b first after → Fits w64 (i + 1)
       roomy-next few s = let z = roomy few s in omega arith
 
-      pub one-link : i < firstLimits .containers → {a : ℕ} → a ≡ meaningBy m′ (x .slot) → {z : Link} → z ≡ linkBy (x .first) (x .after) a p
+      pub one-link : i < gateLimits .containers → {a : ℕ} → a ≡ meaningBy m′ (x .slot) → {z : Link} → z ≡ linkBy (x .first) (x .after) a p
           → Going b first after (set links i z) (i + 1) a (x .first) (k + 1)
       one-link few {a} ea {z} ez =
           let a-is : a ≡ meaningOf m′ (y .slot) = ea ∙ meaning-is m′ in
           let z-is : z ≡ linkOf (meaningOf m′ (y .slot)) p y = ez ∙ rw (first-is, after-is, a-is) in
-          let left : firstLimits .containers - length (g .done) ≡ suc (firstLimits .containers - length (g .done ++ (z ∷ []))) =
+          let left : gateLimits .containers - length (g .done) ≡ suc (gateLimits .containers - length (g .done ++ (z ∷ []))) =
           simp length-append (omega (arith, g .count)) in
           record {
             done = g .done ++ (z ∷ []);

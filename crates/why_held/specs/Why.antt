@@ -7,7 +7,7 @@ use lib.ListN.{length, getD, drop, replicate}
 use lib.Dec.{ltb}
 use Rattle.buffer.specs.Bytes.{be}
 use Rattle.ari.specs.Table.{max64}
-use Rattle.ari.specs.Limits.{firstLimits}
+use Rattle.ari.specs.Limits.{gateLimits}
 use Rattle.ari.specs.declared.Limits.{Limits}
 use Rattle.ari.specs.Listing.{Space, number, name, relative, Entry}
 use Rattle.names.specs.Translated.{translated}
@@ -32,7 +32,7 @@ noLink = record { first = 0; after = 0; meaning = 0; key = max64 }
 
 -- links in a room for as many as containers may be open
 abbrev pub inRoom : List Link → List Link
-inRoom ls = ls ++ replicate (firstLimits .containers - length ls) noLink
+inRoom ls = ls ++ replicate (gateLimits .containers - length ls) noLink
 
 abbrev pub outcomeOf : List ℕ → List ℕ → List ℕ → Release → Outcome
 outcomeOf b published own yes = Released
@@ -54,12 +54,12 @@ why m b t published own s = whyBy b published own (releaseBytes m b t published 
 -- R174: the links of a chain are no more than containers may be open, so they have room
 abbrev pub FewBy : Outcome → Type 0
 FewBy Released = Unit {0}
-FewBy (Held k r n) = n ≤ firstLimits .containers
+FewBy (Held k r n) = n ≤ gateLimits .containers
 FewBy (Refused r p) = Unit {0}
 
 pub record Few (w : Why) : Type 0 where
   pub links : FewBy (w .outcome)
-  pub room : length (w .links) ≡ firstLimits .containers
+  pub room : length (w .links) ≡ gateLimits .containers
 
 -- R177: the links as bytes; places are far below 2^32
 unfoldable pub linkBytes : Link → List ℕ

@@ -4,7 +4,7 @@ ghost use mathlib.Core.List.{[], _++_};
 ghost use Prim.Native.Nat.{_*_, _<_, _≤_, min};
 ghost use lib.ListN.{length, take, drop, getD};
 ghost use Rattle.ari.specs.declared.Input.the-variants as input;
-ghost use Rattle.ari.specs.Limits.{firstLimits, capped};
+ghost use Rattle.ari.specs.Limits.{gateLimits, capped};
 ghost use Rattle.buffer.specs.Put.{Put};
 ghost use Rattle.ari.specs.Listing.{listing};
 ghost use Rattle.item_table.specs.Entries.{Tabled};
@@ -215,7 +215,7 @@ fn chain_to(
     after: usize,
 ) -> Chain
     requires { ⌜ Tabled limits input.Message (now s) count (now entries) ⌝ }
-    requires { ⌜ limits .containers ≤ firstLimits .containers ⌝ }
+    requires { ⌜ limits .containers ≤ gateLimits .containers ⌝ }
     requires { ⌜ IsListed (now s) first after ⌝ }
     ensures { λ r. ⌜ r ≡ chainBy (now (s .entry)) first after ⌝ }
 {
@@ -315,7 +315,7 @@ fn held_table<'a>(
     entry: usize,
 ) -> Why
     requires { ⌜ Tabled limits input.Message (now s) count (now entries) ⌝ }
-    requires { ⌜ limits .containers ≤ firstLimits .containers ⌝ }
+    requires { ⌜ limits .containers ≤ gateLimits .containers ⌝ }
     requires { ⌜ entry < length (listing (now s)) ⌝ }
     ensures { λ r. ⌜ r ≡ whyBy (now (s .entry)) (now (published .entry)) (now (own .entry)) (no entry) ⌝ }
     ensures { λ r. ⌜ Few r ⌝ }
@@ -351,7 +351,7 @@ fn held_in<'a>(
     entries: &mut [u64],
 ) -> Why
     requires { ⌜ (min (limits .items) (length (now s)) ≤ length (now entries)) × (limits .bytes < 65536) × (limits .containers < 256) ⌝ }
-    requires { ⌜ limits .containers ≤ firstLimits .containers ⌝ }
+    requires { ⌜ limits .containers ≤ gateLimits .containers ⌝ }
     requires { ⌜ IsHeld limits (now s) entry ⌝ }
     ensures { λ r. ⌜ r ≡ whyBy (now (s .entry)) (now (published .entry)) (now (own .entry)) (no entry) ⌝ }
     ensures { λ r. ⌜ Few r ⌝ }
@@ -365,7 +365,7 @@ fn held_in<'a>(
 // A message has no more items than bytes: a table of 128 serves a small one, and is cleared in a fraction of the time.
 fn held_small<'a>(s: &[u8], limits: Limits, published: &'a [u8], own: &'a [u8], entry: usize) -> Why
     requires { ⌜ (length (now s) ≤ 128) × (limits .bytes < 65536) × (limits .containers < 256) ⌝ }
-    requires { ⌜ limits .containers ≤ firstLimits .containers ⌝ }
+    requires { ⌜ limits .containers ≤ gateLimits .containers ⌝ }
     requires { ⌜ IsHeld limits (now s) entry ⌝ }
     ensures { λ r. ⌜ r ≡ whyBy (now (s .entry)) (now (published .entry)) (now (own .entry)) (no entry) ⌝ }
     ensures { λ r. ⌜ Few r ⌝ }
@@ -375,7 +375,7 @@ fn held_small<'a>(s: &[u8], limits: Limits, published: &'a [u8], own: &'a [u8], 
 }
 
 fn held<'a>(s: &[u8], limits: Limits, published: &'a [u8], own: &'a [u8], entry: usize) -> Why
-    requires { ⌜ (limits .bytes ≤ firstLimits .bytes) × (limits .items ≤ firstLimits .items) × (limits .containers ≤ firstLimits .containers) ⌝ }
+    requires { ⌜ (limits .bytes ≤ gateLimits .bytes) × (limits .items ≤ gateLimits .items) × (limits .containers ≤ gateLimits .containers) ⌝ }
     requires { ⌜ IsHeld limits (now s) entry ⌝ }
     ensures { λ r. ⌜ r ≡ whyBy (now (s .entry)) (now (published .entry)) (now (own .entry)) (no entry) ⌝ }
     ensures { λ r. ⌜ Few r ⌝ }
@@ -414,7 +414,7 @@ pub fn why_message<'a>(
     own: &'a [u8],
     subscriber: u64,
 ) -> Why
-    ensures { λ r. ⌜ r ≡ why firstLimits (now (s .entry)) (now (grants .entry)) (now (published .entry)) (now (own .entry)) subscriber ⌝ }
+    ensures { λ r. ⌜ r ≡ why gateLimits (now (s .entry)) (now (grants .entry)) (now (published .entry)) (now (own .entry)) subscriber ⌝ }
     ensures { λ r. ⌜ Few r ⌝ }
 {
     why_within(ari::LIMITS, s, grants, published, own, subscriber)
@@ -432,7 +432,7 @@ fn put_link(out: &mut [u8], at: usize, l: Link) -> usize
 
 // The bytes of the first links, where there is room for them.
 fn put_links(out: &mut [u8], links: [Link; ari::CONTAINERS], count: usize)
-    requires { ⌜ (count ≤ length links) × (24 * count ≤ length (now out)) × (length links ≡ firstLimits .containers) ⌝ }
+    requires { ⌜ (count ≤ length links) × (24 * count ≤ length (now out)) × (length links ≡ gateLimits .containers) ⌝ }
     ensures { λ _. ⌜ now (out .exit) ≡ linksBytes (take count links) ++ drop (24 * count) (now (out .entry)) ⌝ }
 {
     let mut at = 0;
@@ -502,8 +502,8 @@ pub fn why_bytes<'a>(
     subscriber: u64,
     out: &mut [u8],
 ) -> Outcome
-    ensures { λ r. ⌜ r ≡ outcomeIn (why firstLimits (now (s .entry)) (now (grants .entry)) (now (published .entry)) (now (own .entry)) subscriber .outcome) (length (now (out .entry))) ⌝ }
-    ensures { λ r. ⌜ now (out .exit) ≡ whyRoom firstLimits (now (s .entry)) (now (grants .entry)) (now (published .entry)) (now (own .entry)) subscriber (now (out .entry)) ⌝ }
+    ensures { λ r. ⌜ r ≡ outcomeIn (why gateLimits (now (s .entry)) (now (grants .entry)) (now (published .entry)) (now (own .entry)) subscriber .outcome) (length (now (out .entry))) ⌝ }
+    ensures { λ r. ⌜ now (out .exit) ≡ whyRoom gateLimits (now (s .entry)) (now (grants .entry)) (now (published .entry)) (now (own .entry)) subscriber (now (out .entry)) ⌝ }
 {
     why_bytes_within(ari::LIMITS, s, grants, published, own, subscriber, out)
 }

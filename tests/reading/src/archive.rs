@@ -69,6 +69,9 @@ functions! {
     "same" surfbodkin_same(
         first: *const u8, first_length: usize, second: *const u8, second_length: usize
     );
+    "day_upgrade" surfbodkin_day_upgrade(
+        file: *const u8, length: usize, out: *mut u8, out_length: usize
+    );
     "stream_open" surfbodkin_stream_open(state: *mut u64, words: usize);
     "stream_feed" surfbodkin_stream_feed(
         state: *mut u64, words: usize, message: *mut u8, room: usize,
@@ -222,6 +225,13 @@ pub fn day_search(
             room.as_mut_ptr(),
             room.len(),
         )
+    }
+}
+
+#[inline]
+pub fn day_upgrade(file: &[u8], room: &mut [u8]) -> u64 {
+    unsafe {
+        functions::surfbodkin_day_upgrade(file.as_ptr(), file.len(), room.as_mut_ptr(), room.len())
     }
 }
 

@@ -1,10 +1,10 @@
 //! The day file: messages back to back from byte 0, a table with the first byte of each,
-//! and a trailer of 8 bytes. Messages are numbered from 0.
+//! and a trailer of 8 bytes. Messages are numbered from 0. There are two versions.
 
 use std::ops::Range;
 
 use crate::names::{check_names, number_of};
-use crate::{listing_within, put, walk_message, Limits, Refusal, Test, LIMITS};
+use crate::{listing_within, put, walk_message, Limits, Refusal, Test, FIRST_LIMITS, LIMITS};
 
 /// What a version of the file is like.
 #[derive(Clone, Copy, Debug, PartialEq, Eq)]
@@ -20,17 +20,25 @@ pub struct Form {
     pub limits: Limits,
 }
 
-/// Its limits are its own: they stay where those of other inputs move.
-pub const VERSION_1: Form = Form {
-    version: 1,
-    offset: 2,
-    bytes: 65_535,
-    messages: 65_535,
-    limits: Limits { bytes: 4_096, items: 1_024, containers: 12, ..LIMITS },
-};
+/// "Version 1 files keep the old limits, also for each message in them or added"
+pub const VERSION_1: Form =
+    Form { version: 1, offset: 2, bytes: 65_535, messages: 65_535, limits: FIRST_LIMITS };
+
+/// "version 2 has 4-byte offsets and is otherwise the same"
+pub const VERSION_2: Form =
+    Form { version: 2, offset: 4, bytes: 1 << 20, messages: 65_535, limits: LIMITS };
 
 /// "version 1, a zero byte, the count in 2 bytes, the table's start in 4"
 pub const TRAILER: usize = 8;
+
+/// The form that a file is read in, by its trailer's first byte. One of no version is
+/// refused in any form.
+pub fn form_of(file: &[u8]) -> Form {
+    match file.len().checked_sub(TRAILER) {
+        Some(trailer) if file[trailer] == VERSION_2.version => VERSION_2,
+        _ => VERSION_1,
+    }
+}
 
 fn refuse<T>(test: Test, place: usize) -> Result<T, Refusal> {
     Err(Refusal { test, place })
@@ -131,7 +139,7 @@ pub fn part<'a>(file: &'a [u8], k: u64, form: &Form) -> &'a [u8] {
     find(file, k, form).map_or(&[], |part| &file[part])
 }
 
-/// A file that was written with one message more.
+/// A file that was written: with one message more, or in another version.
 #[derive(Clone, Copy, Debug, PartialEq, Eq)]
 pub struct Added {
     pub messages: usize,
@@ -153,6 +161,19 @@ pub fn added(file: &[u8], message: &[u8], form: &Form) -> Result<Vec<u8>, Refusa
 pub fn add(file: &[u8], message: &[u8], room: &mut [u8], form: &Form) -> Result<Added, Refusal> {
     let new = added(file, message, form)?;
     let (messages, _) = trailer(&new, form)?;
+    put(&new, new.len(), room)?;
+    Ok(Added { messages, bytes: new.len() })
+}
+
+/// "a call rewrites 1 as 2 with the same messages": the file, if room is of no account.
+pub fn upgraded(file: &[u8]) -> Result<Vec<u8>, Refusal> {
+    Ok(file_of(&messages_of(file, &VERSION_1)?, &VERSION_2))
+}
+
+/// The same, written to room; 16 counts bytes.
+pub fn upgrade(file: &[u8], room: &mut [u8]) -> Result<Added, Refusal> {
+    let new = upgraded(file)?;
+    let (messages, _) = trailer(&new, &VERSION_2)?;
     put(&new, new.len(), room)?;
     Ok(Added { messages, bytes: new.len() })
 }

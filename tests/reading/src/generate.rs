@@ -469,6 +469,7 @@ pub fn settings(random: &mut Random) -> Settings {
     let items = match random.below(20) {
         0..=9 => 10 + random.below(40),
         10..=16 => 20 + random.below(200),
+        17 | 18 => 100 + random.below(LIMITS.items / 4),
         _ => 100 + random.below(LIMITS.items),
     };
     Settings {

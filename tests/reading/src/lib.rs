@@ -47,7 +47,7 @@ pub use walk::{walk_message, walk_single, Visitor};
 
 /// "at most 4,096 bytes, at most 1,024 items (one item is one head), at most
 /// 12 containers (arrays and maps, empty ones counted) open at once [...]. A
-/// text has at most 32,768 bytes."
+/// text has at most 32,768 bytes." Request (x) has raised each.
 #[derive(Clone, Copy, Debug, PartialEq, Eq)]
 pub struct Limits {
     pub bytes: usize,
@@ -56,7 +56,13 @@ pub struct Limits {
     pub text: usize,
 }
 
-pub const LIMITS: Limits = Limits { bytes: 4_096, items: 1_024, containers: 12, text: 32_768 };
+/// "Raise every binary input to 16,384 bytes, 4,096 items and 24 open containers, and the
+/// text to 131,072 bytes."
+pub const LIMITS: Limits = Limits { bytes: 16_384, items: 4_096, containers: 24, text: 131_072 };
+
+/// Those of document 01, which the messages of some day files keep.
+pub const FIRST_LIMITS: Limits =
+    Limits { bytes: 4_096, items: 1_024, containers: 12, text: 32_768 };
 
 /// The tests of 'Order of the tests', and those of the change requests, by number. No call
 /// here is asked for an item, so 17 is of a day file's messages only.
@@ -71,9 +77,9 @@ pub enum Test {
     NotInUse = 3,
     /// "Refusal 4 is now given for floats only": not the shortest, or another NaN
     NotShortest = 4,
-    /// "this would be item 1,025"
+    /// "this would be item 1,025"; now 4,097
     TooManyItems = 5,
-    /// "this would be open container 13"
+    /// "this would be open container 13"; now 25
     TooManyContainers = 6,
     /// "kind, range or array length [...] not allowed here"
     NotAllowed = 7,

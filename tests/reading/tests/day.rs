@@ -1,4 +1,4 @@
-//! The day file beside request (v).
+//! The day file beside requests (v) and (x).
 
 use reading::archive::{packed_added, packed_low, packed_part, unpacked};
 use reading::day::*;
@@ -385,7 +385,8 @@ fn days_built_by_adding() {
                     break;
                 }
                 Err(refusal) => {
-                    assert_eq!(check_message(&message), Answer::from(Err(refusal)));
+                    let own = walk_message(&message, &FIRST_LIMITS, &mut ());
+                    assert_eq!(own, Err(refusal));
                     continue;
                 }
             };
@@ -518,8 +519,9 @@ fn searches_beside_the_listing() {
         let (file, lists) = days::named_file(&mut random);
         let (published, own) = &lists;
         let namespace = days::namespace(&mut random, &file, &lists);
-        let answer = found(&file, published, own, namespace, &VERSION_1);
-        let messages = match messages_of(&file, &VERSION_1) {
+        let form = form_of(&file);
+        let answer = found(&file, published, own, namespace, &form);
+        let messages = match messages_of(&file, &form) {
             Ok(messages) => messages,
             Err(refusal) => {
                 refused += 1;
@@ -558,7 +560,7 @@ fn searches_beside_the_listing() {
             start += bytes.len();
         }
         for found in &expected {
-            let part = find(&file, found.message as u64, &VERSION_1).unwrap();
+            let part = find(&file, found.message as u64, &form).unwrap();
             assert!(part.start < found.first && found.after <= part.end);
         }
         assert_eq!(answer, Ok(expected));
@@ -606,7 +608,7 @@ fn numbers_of_names() {
 /// What is made occurs: right files with few and many messages, and each refusal.
 #[test]
 fn what_is_made() {
-    for bytes in (5..=600).chain(4_000..=4_096).chain([1]) {
+    for bytes in (5..=600).chain(4_000..=4_096).chain([1, 16_384]) {
         let message = message_of_length(bytes);
         assert_eq!(message.len(), bytes);
         assert!(matches!(check_message(&message), Answer::Accepted(_)), "{bytes}");
@@ -614,10 +616,12 @@ fn what_is_made() {
     let mut random = Random::new(34);
     let (mut empty, mut few, mut many, mut full, mut tests) = (0, 0, 0, 0, [0; 24]);
     let mut later = [0; 24];
-    let mut over = 0;
-    for _ in 0..1_500 {
+    let (mut over, mut versions) = (0, [0; 2]);
+    for _ in 0..2_500 {
         let file = days::file(&mut random);
-        match check(&file, &VERSION_1) {
+        let form = form_of(&file);
+        versions[usize::from(form.version) - 1] += usize::from(check(&file, &form).is_ok());
+        match check(&file, &form) {
             Ok(0) => empty += 1,
             Ok(1..=20) => few += 1,
             Ok(_) => many += 1,
@@ -627,8 +631,9 @@ fn what_is_made() {
             }
         }
         full += usize::from(file.len() == 65_535 && check(&file, &VERSION_1).is_ok());
-        over += usize::from(file.len() == 65_536);
+        over += usize::from(file.len() == 65_536 && form == VERSION_1);
     }
+    assert!(versions.iter().all(|times| *times > 400), "{versions:?}");
     assert!(empty > 20 && few > 400 && many > 40, "{empty} {few} {many}");
     assert!(full > 4 && over > 4, "{full} {over}");
     assert!(tests[20..23].iter().all(|times| *times > 100), "{tests:?}");
@@ -641,7 +646,7 @@ fn what_is_made() {
         let message = generate::message(&mut random, settings);
         let file = days::file_for(&mut random, &message);
         let bytes = file.len() + message.len() + 2;
-        match added(&file, &message, &VERSION_1) {
+        match added(&file, &message, &form_of(&file)) {
             Ok(new) => {
                 accepted += 1;
                 just_full += usize::from(new.len() == 65_535);
@@ -657,10 +662,11 @@ fn what_is_made() {
 
     let mut numbers = [0; 3];
     for _ in 0..400 {
-        let messages = days::messages(&mut random, &[]);
-        let file = file_of(&messages, &VERSION_1);
+        let form = days::form(&mut random);
+        let messages = days::messages(&mut random, &[], &form);
+        let file = file_of(&messages, &form);
         let k = days::message_number(&mut random, &file);
-        numbers[match find(&file, k, &VERSION_1) {
+        numbers[match find(&file, k, &form) {
             Ok(_) => 0,
             Err(Refusal { test: Test::Number, .. }) if k == messages.len() as u64 => 1,
             Err(_) => 2,
@@ -669,30 +675,120 @@ fn what_is_made() {
     assert!(numbers.iter().all(|times| *times > 20), "{numbers:?}");
 }
 
-/// Version, width, limits are arguments: another version's file, with wider offsets.
+/// "version 2 has 4-byte offsets and is otherwise the same"
 #[test]
-fn other_forms() {
-    let limits = Limits { bytes: 16_384, items: 4_096, containers: 24, ..LIMITS };
-    let wide = Form { version: 2, offset: 4, bytes: 1 << 20, limits, ..VERSION_1 };
-    assert_eq!(file_of::<Vec<u8>>(&[], &wide), hex("02 00 0000 00000000"));
-    assert_eq!(check(&EMPTY, &wide).unwrap_err().to_string(), "refused 20 0");
-    assert_eq!(checked(&hex("02 00 0000 00000000")), "refused 20 0");
+fn version_2() {
+    let empty = hex("02 00 0000 00000000");
+    assert_eq!(file_of::<Vec<u8>>(&[], &VERSION_2), empty);
+    assert_eq!(said(check(&EMPTY, &VERSION_2)), "refused 20 0");
+    assert_eq!(checked(&empty), "refused 20 0");
+    assert_eq!((form_of(&EMPTY), form_of(&empty)), (VERSION_1, VERSION_2));
+    let two = added(&added(&empty, &[1], &VERSION_2).unwrap(), &hex(C), &VERSION_2).unwrap();
+    assert_eq!(two, hex(&format!("01 {C} 00000000 00000001 02 00 0002 00000013")));
+    assert_eq!(form_of(&two), VERSION_2);
+    assert_eq!(find(&two, 1, &VERSION_2), Ok(1..19));
+    assert_eq!(said(find(&two, 2, &VERSION_2)), "refused 17 2");
+    let wrong = hex(&format!("01 {C} 00000000 01000001 02 00 0002 00000013"));
+    assert_eq!(said(check(&wrong, &VERSION_2)), "refused 21 1");
+    let wrong = hex("01 02 00000000 00000001 02 00 0002 00000002");
+    assert_eq!(said(check(&wrong, &VERSION_2)), "refused 22 1");
+
     let messages = vec![message_of_length(16_384); 63];
-    let file = file_of(&messages, &wide);
-    assert_eq!(messages_of(&file, &wide).unwrap(), messages);
-    assert_eq!(find(&file, 62, &wide), Ok(62 * 16_384..63 * 16_384));
-    let left = wide.bytes - file.len() - 4;
-    assert_eq!(added(&file, &message_of_length(left), &wide).unwrap().len(), wide.bytes);
-    assert_eq!(said(added(&file, &message_of_length(left + 1), &wide)), "refused 23 0");
-    assert_eq!(said(added(&file, &message_of_length(16_385), &wide)), "refused 1 0");
-    // 23 also where the count is full.
-    let three = Form { messages: 3, ..VERSION_1 };
-    let mut file = EMPTY.to_vec();
-    for _ in 0..3 {
-        file = added(&file, &[1], &three).unwrap();
+    let file = file_of(&messages, &VERSION_2);
+    assert_eq!(messages_of(&file, &VERSION_2).unwrap(), messages);
+    assert_eq!(find(&file, 62, &VERSION_2), Ok(62 * 16_384..63 * 16_384));
+    let left = (1 << 20) - file.len() - 4;
+    let full = added(&file, &message_of_length(left), &VERSION_2).unwrap();
+    assert_eq!((full.len(), check(&full, &VERSION_2)), (1_048_576, Ok(64)));
+    let with = |bytes| said(added(&file, &message_of_length(bytes), &VERSION_2));
+    assert_eq!(with(left + 1), "refused 23 0");
+    assert_eq!(with(16_385), "refused 1 0");
+    let over = [messages, vec![message_of_length(left + 1)]].concat();
+    assert_eq!(said(check(&file_of(&over, &VERSION_2), &VERSION_2)), "refused 20 0");
+}
+
+/// Those of the gate in version 2, those of document 01 in version 1.
+#[test]
+fn limits_of_version_2() {
+    let mut random = Random::new(35);
+    let mut of = |limits: Limits, past: usize| {
+        [
+            (message_of_length(limits.bytes + past), 1),
+            (generate::counted_message(&[1], 1, limits.items + past), 5),
+            (generate::nested_message(&mut random, limits.containers + past), 6),
+        ]
+    };
+    let (within, first_past) = (of(LIMITS, 0), of(FIRST_LIMITS, 1));
+    for (message, number) in within.into_iter().chain(first_past) {
+        let file = file_of(&[&message], &VERSION_2);
+        assert_eq!(check(&file, &VERSION_2), Ok(1));
+        let empty = hex("02 00 0000 00000000");
+        assert_eq!(added(&empty, &message, &VERSION_2), Ok(file));
+        assert_eq!(checked(&file_of(&[&message], &VERSION_1)), "refused 22 0");
+        let refusal = added(&EMPTY, &message, &VERSION_1).unwrap_err();
+        let number = if message.len() > 4_096 { 1 } else { number };
+        assert_eq!(refusal.test as u8, number);
     }
-    assert_eq!(said(added(&file, &[1], &three)), "refused 23 0");
-    assert_eq!(said(added(&file, &[2], &three)), "refused 8 0");
+    for (message, number) in of(LIMITS, 1) {
+        let file = file_of(&[&message], &VERSION_2);
+        assert_eq!(said(check(&file, &VERSION_2)), "refused 22 0");
+        let refusal = added(&file_of(&[[1]], &VERSION_2), &message, &VERSION_2).unwrap_err();
+        assert_eq!(refusal.test as u8, number);
+    }
+}
+
+/// "23 also at 65,535 messages", which only version 2 has room for.
+#[test]
+fn as_many_messages_as_may_be() {
+    let most = file_of(&vec![[1]; 65_535], &VERSION_2);
+    assert_eq!(check(&most, &VERSION_2), Ok(65_535));
+    assert_eq!(find(&most, 65_534, &VERSION_2), Ok(65_534..65_535));
+    assert_eq!(said(added(&most, &[1], &VERSION_2)), "refused 23 0");
+    assert_eq!(said(added(&most, &[2], &VERSION_2)), "refused 8 0");
+    let fewer = file_of(&vec![[1]; 65_534], &VERSION_2);
+    assert_eq!(added(&fewer, &[1], &VERSION_2), Ok(most));
+    // The count of one more has no place in the trailer.
+    let more = file_of(&vec![[1]; 65_536], &VERSION_2);
+    assert_eq!(said(check(&more, &VERSION_2)), "refused 20 0");
+}
+
+/// "a call rewrites 1 as 2 with the same messages"; 20 "for a 2 given to be rewritten"
+#[test]
+fn rewritten_as_version_2() {
+    assert_eq!(upgraded(&EMPTY), Ok(hex("02 00 0000 00000000")));
+    let two = file(&["01", C]);
+    let new = hex(&format!("01 {C} 00000000 00000001 02 00 0002 00000013"));
+    assert_eq!(upgraded(&two), Ok(new.clone()));
+    assert_eq!(said(upgraded(&new)), "refused 20 0");
+    assert_eq!(said(upgraded(&[])), "refused 20 0");
+    assert_eq!(said(upgraded(&hex("03 00 0000 00000000"))), "refused 20 0");
+    assert_eq!(said(upgraded(&raw("01 01 0000 0000", 2, 2))), "refused 21 1");
+    assert_eq!(said(upgraded(&file(&["01", "02"]))), "refused 22 1");
+    let too_big = file_of(&[message_of_length(4_097)], &VERSION_1);
+    assert_eq!(said(upgraded(&too_big)), "refused 22 0");
+    for length in 0..new.len() + 3 {
+        let mut room = vec![0xee; length];
+        let answer = upgrade(&two, &mut room);
+        if length < new.len() {
+            assert_eq!(said(answer), format!("refused 16 {}", two.len() + 4));
+            assert_eq!(room, vec![0xee; length]);
+        } else {
+            assert_eq!(answer, Ok(Added { messages: 2, bytes: new.len() }));
+            assert_eq!(room, [&new[..], &vec![0xee; length - new.len()]].concat());
+        }
+    }
+    let mut random = Random::new(36);
+    for _ in 0..200 {
+        let messages = days::messages(&mut random, &[], &VERSION_1);
+        let old = file_of(&messages, &VERSION_1);
+        if old.len() > 65_535 {
+            assert_eq!(said(upgraded(&old)), "refused 20 0");
+            continue;
+        }
+        let new = upgraded(&old).unwrap();
+        assert_eq!(new.len(), old.len() + 2 * messages.len());
+        assert_eq!(messages_of(&new, &VERSION_2).unwrap(), messages);
+    }
 }
 
 /// The answers as the archive packs them.

@@ -404,7 +404,7 @@ fn all_of_all_classes() {
 /// An input for each refusal of a single ARI, with its place.
 fn refused_inputs() -> Vec<(Vec<u8>, &'static str)> {
     let items = generate::counted_message(&[0x01], 1, LIMITS.items + 2).split_off(1);
-    let mut nested = hex(&"82 11 81 ".repeat(6));
+    let mut nested = hex(&"82 11 81 ".repeat(12));
     nested.extend([0x81, 0x00]);
     vec![
         (vec![0xff; LIMITS.bytes + 1], "refused 1 0"),
@@ -412,8 +412,8 @@ fn refused_inputs() -> Vec<(Vec<u8>, &'static str)> {
         (hex("83 00 20"), "refused 2 3"),
         (hex("82 11 82 00 ff"), "refused 3 4"),
         (hex("82 09 fa3f800000"), "refused 4 2"),
-        (items, "refused 5 1026"),
-        (nested, "refused 6 18"),
+        (items, "refused 5 4098"),
+        (nested, "refused 6 36"),
         (hex("82 05 6161"), "refused 7 2"),
         (hex("82 11 82 00 6261"), "refused 9 4"),
         (hex("83 6161 20 6140"), "refused 10 4"),

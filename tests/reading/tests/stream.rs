@@ -23,7 +23,7 @@ fn fed(fragments: &[&[u8]]) -> String {
             Err(refusal) => format!("{refusal}; "),
         };
     }
-    words + &closed(stream.close(&mut [0; 512 * ENTRY], &LIMITS))
+    words + &closed(stream.close(&mut [0; LIMITS.items / 2 * ENTRY], &LIMITS))
 }
 
 fn fed_hex(fragments: &[&str]) -> String {
@@ -64,13 +64,13 @@ fn missing_bytes_may_come() {
 /// By each test other than 2 and 9, whatever comes behind, also past the limit.
 #[test]
 fn a_refusal_stands() {
-    let thousand_items = "01".to_string() + &"821481f6".repeat(256);
-    let twelve_open = "01821482f6".to_string() + &"84f6200081".repeat(5);
+    let many_items = "01".to_string() + &"821481f6".repeat(1_024);
+    let many_open = "01821482f6".to_string() + &"84f6200081".repeat(11);
     for (start, byte, refusal) in [
         ("01", "c1", "refused 3 1"),
         ("01821481fa000000", "00", "refused 4 4"),
-        (&thousand_items[..2 * 1_024], "f6", "refused 5 1024"),
-        (&twelve_open, "81", "refused 6 30"),
+        (&many_items[..2 * 4_096], "f6", "refused 5 4096"),
+        (&many_open, "81", "refused 6 60"),
         ("01", "80", "refused 7 1"),
         ("", "02", "refused 8 0"),
         ("01821482f68361", "20", "refused 10 6"),
@@ -79,9 +79,9 @@ fn a_refusal_stands() {
     ] {
         let (start, byte) = (hex(start), hex(byte));
         assert_eq!(fed(&[&start, &byte]), format!("on; {refusal}; {refusal}"));
-        let all = fed(&[&start, &byte, &[], &[0x01], &[0; 4_096], &[]]);
+        let all = fed(&[&start, &byte, &[], &[0x01], &[0; 16_384], &[]]);
         assert_eq!(all, "on; ".to_string() + &format!("{refusal}; ").repeat(5) + refusal);
-        let whole = [&start[..], &byte, &[0; 4_096]].concat();
+        let whole = [&start[..], &byte, &[0; 16_384]].concat();
         assert_eq!(fed(&[&whole]), format!("{refusal}; {refusal}"));
     }
 }
@@ -97,25 +97,25 @@ fn of_length(bytes: usize) -> Vec<u8> {
 
 #[test]
 fn at_the_limit_and_past_it() {
-    let whole = of_length(4_096);
+    let whole = of_length(16_384);
     assert_eq!(fed(&[&whole]), "on; items 13, entries 1");
     let accepted = [&whole[..], &[0x82]].concat();
     assert_eq!(fed(&[&accepted]), "refused 1 0; refused 1 0");
     assert_eq!(fed(&[&whole, &[], &[0x82], &[]]), "on; on; refused 1 0; refused 1 0; refused 1 0");
 
     // By 9: the last string ends one byte past the limit.
-    let long = of_length(4_097);
-    assert_eq!(closing(&long[..4_096], &LIMITS).unwrap_err().to_string(), "refused 9 15");
-    assert_eq!(fed(&[&long[..4_096], &long[4_096..]]), "on; refused 1 0; refused 1 0");
+    let long = of_length(16_385);
+    assert_eq!(closing(&long[..16_384], &LIMITS).unwrap_err().to_string(), "refused 9 15");
+    assert_eq!(fed(&[&long[..16_384], &long[16_384..]]), "on; refused 1 0; refused 1 0");
 
     // By 2: a set's head is the last byte within it.
-    let cut = [&of_length(4_095)[..], &[0x82, 0x14, 0x81, 0xf6]].concat();
-    assert_eq!(closing(&cut[..4_096], &LIMITS).unwrap_err().to_string(), "refused 2 4096");
+    let cut = [&of_length(16_383)[..], &[0x82, 0x14, 0x81, 0xf6]].concat();
+    assert_eq!(closing(&cut[..16_384], &LIMITS).unwrap_err().to_string(), "refused 2 16384");
     assert_eq!(fed(&[&cut]), "refused 1 0; refused 1 0");
 
     // By 7, by the last byte within the limit and by the first past it.
-    let wrong = [&of_length(4_095)[..], &[0x83, 0x00]].concat();
-    assert_eq!(fed(&[&wrong]), "refused 7 4095; refused 7 4095");
+    let wrong = [&of_length(16_383)[..], &[0x83, 0x00]].concat();
+    assert_eq!(fed(&[&wrong]), "refused 7 16383; refused 7 16383");
     let later = [&whole[..], &[0x83]].concat();
     assert_eq!(fed(&[&later]), "refused 1 0; refused 1 0");
 }

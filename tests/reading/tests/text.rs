@@ -13,7 +13,7 @@ fn written(digits: &str) -> String {
 }
 
 fn read(text: &str) -> String {
-    let mut room = [0; 4_096];
+    let mut room = [0; LIMITS.bytes];
     match read_text(text.as_bytes(), &mut room) {
         Ok(Written { size, .. }) => to_hex(&room[..size]),
         Err(refusal) => refusal.to_string(),
@@ -107,7 +107,7 @@ fn every_text_is_read_back() {
 /// What is read is the text of what it gives: every text one byte from a good one.
 #[test]
 fn one_byte_away() {
-    let mut room = [0; 4_096];
+    let mut room = [0; LIMITS.bytes];
     let (mut refused, mut other) = (0, 0);
     let mut is_own_text = |text: &[u8]| match read_text(text, &mut room) {
         Ok(Written { size, items }) => {

@@ -107,7 +107,9 @@ const DEEPEST: &str = "
                         00 20 00  # 25, 26, 27
                         a1        # 28 parameter map
                           6161    # 29 key a
-                          81 01   # 31 its value";
+                          82 11 81 82 11 81 82 11 81 # 31 its value, lists in lists
+                          82 11 81 82 11 81 82 11 81 # 40
+                          81 01   # 49 the innermost one's member";
 
 /// An empty set, then two reports, the second one's source relative.
 const REPORTS: &str = "
@@ -244,13 +246,16 @@ fn counted_through_the_sets() {
 fn as_many_links_as_containers() {
     assert_eq!(
         told(DEEPEST, &[0], "", ""),
-        "3 NotGranted, 1 33 Set(0), 3 33 TypedValue, 6 33 Report(0), 12 33 ReportItem(0), \
-         14 33 TypedValue, 15 33 CollectionMember(0), 17 33 TypedValue, 19 33 MapValue { key: 18 }, \
-         23 33 ParameterList, 24 33 Parameter(0), 28 33 ParameterMap, 31 33 MapValue { key: 29 }"
+        "3 NotGranted, 1 51 Set(0), 3 51 TypedValue, 6 51 Report(0), 12 51 ReportItem(0), \
+         14 51 TypedValue, 15 51 CollectionMember(0), 17 51 TypedValue, 19 51 MapValue { key: 18 }, \
+         23 51 ParameterList, 24 51 Parameter(0), 28 51 ParameterMap, 31 51 MapValue { key: 29 }, \
+         33 51 TypedValue, 34 51 CollectionMember(0), 36 51 TypedValue, 37 51 CollectionMember(0), \
+         39 51 TypedValue, 40 51 CollectionMember(0), 42 51 TypedValue, 43 51 CollectionMember(0), \
+         45 51 TypedValue, 46 51 CollectionMember(0), 48 51 TypedValue, 49 51 CollectionMember(0)"
     );
     // One more is refused, as release refuses it.
     let deeper = DEEPEST.replace("81 01 ", "84 01 20 00 81 00");
-    assert_eq!(told(&deeper, &[0], "", ""), "refused 6 35");
+    assert_eq!(told(&deeper, &[0], "", ""), "refused 6 53");
 }
 
 /// "what release refuses is refused alike": the message, 19, 18.
@@ -261,7 +266,7 @@ fn refusals() {
         asked(message, table, published, own, 7).unwrap_err().to_string()
     };
     assert_eq!(answer(&hex("02"), &ragged, "a", "b"), "refused 8 0");
-    assert_eq!(answer(&[1; 4_097], &ragged, "a", "b"), "refused 1 0");
+    assert_eq!(answer(&[1; 16_385], &ragged, "a", "b"), "refused 1 0");
     assert_eq!(answer(&message, &ragged, "a=1\nb\n", "c"), "refused 19 4");
     assert_eq!(answer(&message, &ragged, "a=1\n", "b=2\n\n"), "refused 19 8");
     assert_eq!(answer(&message, &ragged, "a=1\n", "b=2\n"), "refused 18 1");

@@ -8,7 +8,7 @@ use Rattle.day_search.proofs.count_day.Statement.{statement}
 use Rattle.day_search.proofs.count_day.Tie as tie
 
 abbrev Inv-loop : tie.InvT-loop
-Inv-loop format limits file count published own word table₀ found₀ k₀ table found k = (k ≤ count) × (found ≤ 1024 * k) × (length table ≡ length table₀) × Tallied format limits file published own word count k found
+Inv-loop format limits file count published own word table₀ found₀ k₀ table found k = (k ≤ count) × (found ≤ 4096 * k) × (length table ≡ length table₀) × Tallied format limits file published own word count k found
 
 abbrev μ-loop : tie.MeasureT-loop
 μ-loop format limits file count published own word table₀ found₀ k₀ table found k = count - k

@@ -10,7 +10,7 @@ abbrev Inv-loop : tie.InvT-loop
 Inv-loop state₀ message₀ piece₀ out₀ total₀ state message piece out total = (length state ≡ length state₀) × (length message ≡ length message₀) × (length piece ≡ length piece₀) × (length out ≡ length out₀)
 
 abbrev μ-loop : tie.MeasureT-loop
-μ-loop state₀ message₀ piece₀ out₀ total₀ state message piece out total = 4097 - total
+μ-loop state₀ message₀ piece₀ out₀ total₀ state message piece out total = 16385 - total
 
 pub is-received-spec : {M : Type 1} → statement M
 is-received-spec =

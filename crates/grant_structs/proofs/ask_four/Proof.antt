@@ -7,7 +7,7 @@ use Rattle.grant_structs.proofs.Walk.{nothing, Contract, Triple, calls-
 use denote.Array.{array-tells, array-lawful}
 use denote.Struct.Laws as LL
 use denote.Enum.Laws as EL
-use Rattle.ari.specs.Limits.{firstLimits}
+use Rattle.ari.specs.Limits.{gateLimits}
 use Rattle.ari.specs.Listing.{number}
 use Rattle.grants.specs.Grants.{check, granted as grantedBy}
 use Rattle.grants.specs.declared.Verdict.{Verdict}
@@ -93,7 +93,7 @@ module _ {M : Type 1} (𝓤 : URA M) (H : Heap 𝓤) (A : Atoms 𝓤) (W : Given
   Found f = f ≡ grantedBy (grants xs) s (number z)
 
   abbrev Judged : Released → Type 0
-  Judged r = r ≡ countedRows firstLimits (w .now) (grants xs) (p .now) (o .now) s
+  Judged r = r ≡ countedRows gateLimits (w .now) (grants xs) (p .now) (o .now) s
 
   exits : (r : Answers) → Sound r → Checked (r .check) × Found (r .granted) × Judged (r .release) → ent 𝓤 (⋆ 𝓤 H A (‵ (flft κ q) ∷ [])) (Post (val r))
   exits r ir e =

@@ -4,7 +4,7 @@ use Rattle.grant_structs.proofs.Walk.{WpFn, Tables, Atoms, Fun, factI, 
 use Rattle.grant_structs.proofs.Walk.{stop, from, load, lit, and-then, no-more, assigns, land, returns, enter, alloc1, alloc0, params1, pass1, pass0, free1, free0, fmOf, owns, Is, uint-vals, uint-tells, u8, u64, RefT, Room}
 use Rattle.grant_structs.proofs.Walk.{ShrSlice, slice-vals, shr-slice-tells, only, nothing, Contract, Triple, calls-at, Vals, onEntry, Meets, tripleOf, entered, cited, walkOf}
 use denote.Enum.Laws as EL
-use Rattle.ari.specs.Limits.{firstLimits}
+use Rattle.ari.specs.Limits.{gateLimits}
 use Rattle.release.specs.declared.Released.{Released}
 use Rattle.release.specs.Compared.{countedRows}
 use Rattle.release.proofs.Released as S
@@ -27,8 +27,8 @@ use Rattle.grant_structs.proofs.release_grants.Code as code
 abbrev val : Released → Val
 val = EL.val S.the-type S′.the-laws
 
-abbrev fine : FineLimits firstLimits
-fine = fine-limits firstLimits (omega arith) (omega arith) (omega arith) (omega arith)
+abbrev fine : FineLimits gateLimits
+fine = fine-limits gateLimits (omega arith) (omega arith) (omega arith) (omega arith)
 
 module _ {M : Type 1} (𝓤 : URA M) (H : Heap 𝓤) (A : Atoms 𝓤) (mem : Memory → SProp 𝓤) (run : Routine → Fun 𝓤) where
   abbrev Within : Contract 𝓤
@@ -43,7 +43,7 @@ module _ {M : Type 1} (𝓤 : URA M) (H : Heap 𝓤) (A : Atoms 𝓤) (W : Given
   v′ = slice-of a
 
   abbrev answer : Released
-  answer = countedRows firstLimits (b .now) (grants (a .now)) (p .now) (o .now) s
+  answer = countedRows gateLimits (b .now) (grants (a .now)) (p .now) (o .now) s
 
   abbrev at : Vals release-grants.signature (κ, (κ′, tt))
   at = (v ∷ [], (v′ ∷ [], (slice-of p ∷ [], (slice-of o ∷ [], (vint w64 s ∷ [], tt)))))
@@ -57,12 +57,12 @@ module _ {M : Type 1} (𝓤 : URA M) (H : Heap 𝓤) (A : Atoms 𝓤) (W : Given
       (EL.makes S.the-type S′.the-plain 𝓤 H A c _ ic) (factI 𝓤 _ (emp 𝓤) e)
 
   abbrev to : Within 𝓤 H A mem run .Ghost
-  to = (((κ, (κ′, tt)), (q, (q′, tt)), tt, (firstLimits, (b, (a, (p, (o, (s, tt)))))), (low-limits firstLimits ∷ [], at)), tt)
+  to = (((κ, (κ′, tt)), (q, (q′, tt)), tt, (gateLimits, (b, (a, (p, (o, (s, tt)))))), (low-limits gateLimits ∷ [], at)), tt)
 
   asked : ent 𝓤 (⋆ 𝓤 H A ((‵ (flft κ q) ⊛ ‵ (flft κ′ q′) ⊛ ‵ ftrue) ∷ ‵ (Bytes κ b) ∷ ‵ (Own κ′ a) ∷ ‵ (Bytes κ p) ∷ ‵ (Bytes κ o) ∷ [])) (Within 𝓤 H A mem run .pre to)
   asked =
       qed W ((‵ (flft κ q) ⊛ ‵ (flft κ′ q′) ⊛ ‵ ftrue) ∷ ‵ (Bytes κ b) ∷ ‵ (Own κ′ a) ∷ ‵ (Bytes κ p) ∷ ‵ (Bytes κ o) ∷ []) ∵ nothing ! $
-      own-word ! s gs $ fjoin ! $ move ! (5 ∷ 0 ∷ []) $ fjoin ! $ move ! (4 ∷ 0 ∷ []) $ fjoin ! $ move ! (3 ∷ 0 ∷ []) $ fjoin ! $ move ! (2 ∷ 0 ∷ []) $ fjoin ! $ own-limits ! firstLimits fine $ fjoin ! $ move ! (1 ∷ 0 ∷ []) $ join ! $ frame ! $ done !
+      own-word ! s gs $ fjoin ! $ move ! (5 ∷ 0 ∷ []) $ fjoin ! $ move ! (4 ∷ 0 ∷ []) $ fjoin ! $ move ! (3 ∷ 0 ∷ []) $ fjoin ! $ move ! (2 ∷ 0 ∷ []) $ fjoin ! $ own-limits ! gateLimits fine $ fjoin ! $ move ! (1 ∷ 0 ∷ []) $ join ! $ frame ! $ done !
 
   walk : (𝓣 : Tables 𝓤 H) → Triple 𝓤 (𝓣 .C #grant-structs·release-grants-within) (Within 𝓤 H A mem run)
       → ent 𝓤 (onEntry 𝓤 H A release-grants.signature (κ, (κ′, tt)) (q, (q′, tt)) (b, (a, (p, (o, (s, tt))))) at) (WpFn 𝓤 H (𝓣 .C) (𝓣 .Λ) code.function (v ∷ v′ ∷ slice-of p ∷ slice-of o ∷ vint w64 s ∷ []) Post)
@@ -73,7 +73,7 @@ module _ {M : Type 1} (𝓤 : URA M) (H : Heap 𝓤) (A : Atoms 𝓤) (W : Given
       pass1 ! (init ! 10 refl (tt, (tt, (record { fits = gb .0 }, tt)))) $ pass1 ! (init ! 8 refl (tt, (tt, (record { fits = ga .0 }, tt)))) $
       pass1 ! (init ! 6 refl (tt, (tt, (record { fits = gp .0 }, tt)))) $ pass1 ! (init ! 4 refl (tt, (tt, (record { fits = go .0 }, tt)))) $ pass1 ! (init ! 2 refl (tt, record { fits = gs })) $ pass0 ! $
       assigns ! (agg ! (and-then ! (big-lit ! (record { fits = omega arith })) (and-then ! (big-lit ! (record { fits = omega arith })) (and-then ! (lit ! tt) (and-then ! (big-lit ! (record { fits = omega arith })) (no-more !))))))
-      (from ! (stop !)) (init ! 0 refl (limits-typed W firstLimits fine)) $
+      (from ! (stop !)) (init ! 0 refl (limits-typed W gateLimits fine)) $
       -- [what is asked; _6; …; _5; …; _0; …]
       move ! (14 ∷ []) $ calls-at ! (fmOf 𝓤 H (W .laws) 𝓣) (Within 𝓤 H A mem run) known to
       (and-then ! (load ! (from ! (stop !)) (look ! 1 refl)) (and-then ! (load ! (from ! (stop !)) (look ! 11 refl)) (and-then ! (load ! (from ! (stop !)) (look ! 9 refl))

@@ -56,7 +56,7 @@ byte = tyInt w8
 
 -- the room for a listing
 abbrev room : ℕ
-room = 12288
+room = 49152
 
 -- the machine values of an answer, and of a listing's
 abbrev val : Released → Val
@@ -93,7 +93,7 @@ module _ {M : Type 1} (𝓤 : URA M) (H : Heap 𝓤) (A : Atoms 𝓤) (mem : Mem
     abbrev to-listed : ListedIn .Ghost
     to-listed = (((κ, (κ′, tt)), (q, (q′, tt)), tt, (m, (b, (p, (o, (x, tt))))), (low-limits m ∷ [], (slice-of b ∷ [], (slice-of p ∷ [], (slice-of o ∷ [], (slice-of x ∷ [], tt)))))), tt)
 
-    asked-listed : Given 𝓤 H A → FineLimits m → 12288 ≤ length (x .now) → ent 𝓤 (⋆ 𝓤 H A ((‵ (flft κ q) ⊛ ‵ (flft κ′ q′) ⊛ ‵ ftrue) ∷ ‵ (Bytes κ b) ∷ ‵ (Bytes κ p) ∷ ‵ (Bytes κ o) ∷ ‵ (Mut κ′ x) ∷ [])) (ListedIn .pre to-listed)
+    asked-listed : Given 𝓤 H A → FineLimits m → 49152 ≤ length (x .now) → ent 𝓤 (⋆ 𝓤 H A ((‵ (flft κ q) ⊛ ‵ (flft κ′ q′) ⊛ ‵ ftrue) ∷ ‵ (Bytes κ b) ∷ ‵ (Bytes κ p) ∷ ‵ (Bytes κ o) ∷ ‵ (Mut κ′ x) ∷ [])) (ListedIn .pre to-listed)
     asked-listed W im room =
         qed W ((‵ (flft κ q) ⊛ ‵ (flft κ′ q′) ⊛ ‵ ftrue) ∷ ‵ (Bytes κ b) ∷ ‵ (Bytes κ p) ∷ ‵ (Bytes κ o) ∷ ‵ (Mut κ′ x) ∷ []) ∵ says ! room $ nothing ! $
         move ! (5 ∷ 0 ∷ []) $ fjoin ! $ move ! (4 ∷ 0 ∷ []) $ fjoin ! $ move ! (3 ∷ 0 ∷ []) $ fjoin ! $ move ! (2 ∷ 0 ∷ []) $ fjoin ! $ own-limits ! m im $ fjoin ! $ move ! (1 ∷ 0 ∷ []) $ frame ! $ done !

@@ -9,5 +9,7 @@ surfbodkin-day-add-spec =
     (tie.spec
     (λ c κs. search needs)
     (λ c κs. search needs)
+    (λ c κs. search needs)
+    (λ c κs. search needs)
     (λ c. search needs)
     (λ c. (cc, cc)))

@@ -1,7 +1,7 @@
 -- `surfbodkin::surfbodkin_release` meets its contract: the answer's code, and its count.
 use mathlib.Core.Path.{_∙_, ap}
 use borrow.Author.Needs.{needs}
-use Rattle.ari.specs.Limits.{firstLimits}
+use Rattle.ari.specs.Limits.{gateLimits}
 use Rattle.release.specs.declared.Released.{Released}
 use Rattle.release.specs.Release.{answerOf}
 use Rattle.release.specs.Compared.{countAfter}
@@ -15,7 +15,7 @@ returns c =
     let a = c .before .before .before .before .before .before .before .before .args in
     let is = c .before .before .before .release-message .ensures in (
       c .release-code .ensures ∙ ap (λ (x : Released). releaseCode (answerOf x)) is
-          ∙ ap releaseCode (bytes-without-count firstLimits (a .message .now) (a .published .now) (a .own .now) (a .subscriber) (a .table .now)),
+          ∙ ap releaseCode (bytes-without-count gateLimits (a .message .now) (a .published .now) (a .own .now) (a .subscriber) (a .table .now)),
       c .before .put-compared .ensures ∙ ap (λ (x : Released). countAfter x (a .compared .now)) is,
     )
 

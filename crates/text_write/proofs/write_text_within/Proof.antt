@@ -16,7 +16,6 @@ write-text-within-spec =
     (λ c κs. search needs)
     (λ c. search needs)
     (λ c. (cc, cc))
-    (λ c. search needs)
     (λ c κs. search needs)
     (λ c. search needs)
     (λ c. (cc, cc)))

@@ -159,11 +159,11 @@ fn cases() -> Vec<(Vec<u8>, Vec<usize>)> {
         cases.push((hex(digits), sizes));
     }
     // At the limit, past it with an accepted front, past it with a string that is cut.
-    cases.push((full.clone(), vec![512; 8]));
-    cases.push(([&full[..], &[0x82]].concat(), vec![2_000, 2_000, 96, 1]));
-    let mut string = hex("0182148159 0ffa");
+    cases.push((full.clone(), vec![2_048; 8]));
+    cases.push(([&full[..], &[0x82]].concat(), vec![8_000, 8_000, 384, 1]));
+    let mut string = hex("0182148159 3ffa");
     string.resize(LIMITS.bytes + 1, 0);
-    cases.push((string, vec![4_000, 97]));
+    cases.push((string, vec![16_000, 385]));
     cases
 }
 

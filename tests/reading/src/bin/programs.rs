@@ -185,6 +185,10 @@ fn items(program: &Program, random: &mut Random) -> Result<String, String> {
 fn text(program: &Program, random: &mut Random) -> Result<String, String> {
     let mut aris = fixed(Call::Write);
     let mut strings = fixed(Call::Read);
+    // Those too that are longer than a line of the fixed inputs.
+    let pairs = vectors::texts::long_pairs().into_iter().map(|(_, text)| text);
+    let others = vectors::texts::long_not_text().into_iter().map(|(text, _)| text);
+    strings.extend(pairs.chain(others).map(String::into_bytes));
     let fixed = aris.len() + strings.len();
     for _ in 0..500 {
         let settings = generate::settings(random);

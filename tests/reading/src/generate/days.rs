@@ -1,15 +1,18 @@
-//! Day files: empty, with a few messages or many, about as long as the limit; damaged in
-//! the trailer, the table and the messages, and cut. Also files whose references go by
+//! Day files of both versions: empty, with a few messages or many, about as long as the
+//! limit; damaged in the trailer, the table and the messages, and cut. Also files whose references go by
 //! names of lists, numbers to ask them for, and namespaces to search them for.
 
 use super::names::{lists, lists_with, names_of, rename, Lists};
 use super::tables::shuffle;
 use super::{full_message, put_head, random_input, settings, Random, Settings, NAMESPACES};
-use crate::day::{file_of, messages_of, Form, TRAILER, VERSION_1};
+use crate::day::{file_of, form_of, messages_of, Form, TRAILER, VERSION_1, VERSION_2};
 use crate::names::{name_at, number_of};
 use crate::{items_message, listing_within, walk_message, Namespace};
 
-const FORM: Form = VERSION_1;
+/// One of the two versions.
+pub fn form(random: &mut Random) -> Form {
+    random.pick(&[VERSION_1, VERSION_2])
+}
 
 /// An accepted message of exactly that many bytes, 1 or at least 5: a set whose nonce, a
 /// byte string, fills it.
@@ -44,35 +47,54 @@ enum Size {
 }
 
 /// An accepted message. Some of its references go by the names.
-fn message(random: &mut Random, size: Size, names: &[Vec<u8>]) -> Vec<u8> {
+fn message(random: &mut Random, size: Size, names: &[Vec<u8>], form: &Form) -> Vec<u8> {
+    let limits = form.limits;
     loop {
         let any = settings(random);
         let few_namespaces = random.chance(60);
-        let with = |items| Settings { items, few_namespaces, ..any };
+        let containers = any.containers.min(limits.containers);
+        let with = |items: usize| Settings {
+            items: items.min(limits.items),
+            bytes: limits.bytes,
+            containers,
+            few_namespaces,
+            ..any
+        };
         let mut message = match size {
             Size::Tiny => return message_of_length(random.pick(&[1, 1, 1, 5, 6, 7])),
             Size::Short => super::message(random, with(10 + any.items % 30)),
             Size::Any => super::message(random, with(any.items)),
-            Size::Full => full_message(random, with(1_000), FORM.limits.bytes),
+            Size::Full => full_message(random, with(limits.items - 24), limits.bytes),
         };
         let percent = random.pick(&[0, 50, 100]);
         rename(random, &mut message, names, percent);
-        if walk_message(&message, &FORM.limits, &mut ()).is_ok() {
+        if walk_message(&message, &limits, &mut ()).is_ok() {
             return message;
         }
     }
 }
 
 /// Messages whose file has exactly that many bytes, 15 at least.
-fn messages_of_bytes(random: &mut Random, bytes: usize, names: &[Vec<u8>]) -> Vec<Vec<u8>> {
-    let size = random.pick(&[Size::Tiny, Size::Short, Size::Any, Size::Full, Size::Full]);
+pub fn messages_of_bytes(
+    random: &mut Random,
+    bytes: usize,
+    names: &[Vec<u8>],
+    form: &Form,
+) -> Vec<Vec<u8>> {
+    let sizes = [Size::Tiny, Size::Short, Size::Any, Size::Full, Size::Full];
+    // Only so many of the tiny ones may stand in a file.
+    let size = random.pick(if bytes > 1 << 17 { &sizes[1..] } else { &sizes });
     let mut left = bytes - TRAILER;
-    let mut messages = Vec::new();
+    let mut messages: Vec<Vec<u8>> = Vec::new();
     // A last one takes what is left, so it has to be enough.
-    let least = FORM.offset + 5;
+    let least = form.offset + 5;
     loop {
-        let next = message(random, size, names);
-        let taken = next.len() + FORM.offset;
+        // In a long file they come again, which is quicker.
+        let next = match messages.len() >= 40 && bytes > 1 << 17 {
+            true => messages[random.below(messages.len())].clone(),
+            false => message(random, size, names, form),
+        };
+        let taken = next.len() + form.offset;
         if left < taken + least {
             break;
         }
@@ -80,40 +102,41 @@ fn messages_of_bytes(random: &mut Random, bytes: usize, names: &[Vec<u8>]) -> Ve
         left -= taken;
     }
     while left > 0 {
-        let length = match left - FORM.offset {
-            length if length <= FORM.limits.bytes => length,
-            _ => FORM.limits.bytes / 2,
+        let length = match left - form.offset {
+            length if length <= form.limits.bytes => length,
+            _ => form.limits.bytes / 2,
         };
         messages.push(message_of_length(length));
-        left -= length + FORM.offset;
+        left -= length + form.offset;
     }
     shuffle(random, &mut messages);
     messages
 }
 
-/// One below the limit of a file, on it, or one past it; the last is refused.
+/// One below the limit of a file of version 1, on it, or one past it, which is refused in
+/// version 1 alone. Files as long as one of version 2 may be take too long to be many.
 fn near_limit(random: &mut Random) -> usize {
-    FORM.bytes - 1 + random.below(3)
+    VERSION_1.bytes - 1 + random.below(3)
 }
 
 /// The messages of a day; most days have few.
-pub fn messages(random: &mut Random, names: &[Vec<u8>]) -> Vec<Vec<u8>> {
+pub fn messages(random: &mut Random, names: &[Vec<u8>], form: &Form) -> Vec<Vec<u8>> {
     let (size, count) = match random.below(40) {
         0 | 1 => return Vec::new(),
         2 | 3 => {
             let bytes = near_limit(random);
-            return messages_of_bytes(random, bytes, names);
+            return messages_of_bytes(random, bytes, names, form);
         }
         4 | 5 => (Size::Tiny, random.below(400)),
         6 | 7 => (Size::Short, random.below(60)),
         8..=14 => (Size::Any, 1 + random.below(12)),
         _ => (Size::Short, 1 + random.below(6)),
     };
-    (0..count).map(|_| message(random, size, names)).collect()
+    (0..count).map(|_| message(random, size, names, form)).collect()
 }
 
 /// Damages some message, most often so that it is refused.
-fn damage_message(random: &mut Random, messages: &mut [Vec<u8>]) {
+fn damage_message(random: &mut Random, messages: &mut [Vec<u8>], form: &Form) {
     if messages.is_empty() {
         return;
     }
@@ -124,7 +147,8 @@ fn damage_message(random: &mut Random, messages: &mut [Vec<u8>]) {
         // An empty one: its offset is that of the next one, or the table's start.
         0 => message.clear(),
         1 => *message = random_input(random),
-        2 => *message = message_of_length(FORM.limits.bytes + random.below(3)),
+        // In version 1 those of version 2 are refused too.
+        2 => *message = message_of_length(form.limits.bytes + random.below(3)),
         3 => message.extend(other),
         4 if !message.is_empty() => message[0] = random.pick(&[0x00, 0x02, 0x17, 0x81]),
         5 => drop(message.pop()),
@@ -140,12 +164,12 @@ fn read(bytes: &[u8]) -> usize {
 }
 
 /// Damages the trailer of a file that has one.
-fn damage_trailer(random: &mut Random, file: &mut [u8]) {
+fn damage_trailer(random: &mut Random, file: &mut [u8], form: &Form) {
     let trailer = file.len() - TRAILER;
     let (count, start) = (read(&file[trailer + 2..trailer + 4]), read(&file[trailer + 4..]));
     let (count, start) = match random.below(8) {
         0 => {
-            file[trailer] = random.pick(&[0, 2, 3, 0x81, 0xff]);
+            file[trailer] = random.pick(&[0, 1, 2, 3, 0x81, 0x82, 0xff]);
             (count, start)
         }
         1 => {
@@ -155,8 +179,8 @@ fn damage_trailer(random: &mut Random, file: &mut [u8]) {
         2 => (count.wrapping_add(random.pick(&[1, usize::MAX])), start),
         3 => (count, start.wrapping_add(random.pick(&[1, 2, usize::MAX, 1 << 16, 1 << 31]))),
         // They still add up.
-        4 => (count.wrapping_sub(1), start + FORM.offset),
-        5 => (count + 1, start.wrapping_sub(FORM.offset)),
+        4 => (count.wrapping_sub(1), start + form.offset),
+        5 => (count + 1, start.wrapping_sub(form.offset)),
         6 => (0, trailer),
         _ => {
             file[trailer + random.below(TRAILER)] = random.word() as u8;
@@ -168,13 +192,17 @@ fn damage_trailer(random: &mut Random, file: &mut [u8]) {
 }
 
 /// Damages the table of a file that has one as long as its trailer says.
-fn damage_table(random: &mut Random, file: &mut [u8]) {
+fn damage_table(random: &mut Random, file: &mut [u8], form: &Form) {
     let Some(trailer) = file.len().checked_sub(TRAILER) else { return };
     let (count, start) = (read(&file[trailer + 2..trailer + 4]), read(&file[trailer + 4..]));
-    if count == 0 || start + count * FORM.offset != trailer {
+    if count == 0 || start + count * form.offset != trailer {
         return;
     }
-    let place = |k: usize| start + k * FORM.offset;
+    let put = |file: &mut [u8], at: usize, value: usize| {
+        let bytes = &(value as u64).to_be_bytes()[8 - form.offset..];
+        file[at..at + form.offset].copy_from_slice(bytes);
+    };
+    let place = |k: usize| start + k * form.offset;
     let entry = |k: usize| match k < count {
         true => read(&file[place(k)..place(k + 1)]),
         false => start,
@@ -193,12 +221,12 @@ fn damage_table(random: &mut Random, file: &mut [u8]) {
         _ => {
             let other = random.below(count);
             let value = entry(other);
-            let swapped = (entry(k) as u16).to_be_bytes();
-            file[place(other)..place(other + 1)].copy_from_slice(&swapped);
+            let swapped = entry(k);
+            put(file, place(other), swapped);
             value
         }
     };
-    file[place(k)..place(k + 1)].copy_from_slice(&(value as u16).to_be_bytes());
+    put(file, place(k), value);
 }
 
 /// Cuts a file, or puts bytes into it; now and then it is something else altogether.
@@ -215,38 +243,45 @@ fn damage_length(random: &mut Random, file: &mut Vec<u8>) {
         7 => *file = (0..random.below(40)).map(|_| random.word() as u8).collect(),
         8 => *file = random_input(random),
         _ => {
-            let bytes = FORM.bytes - 2 + random.below(5);
+            let bytes = VERSION_1.bytes - 2 + random.below(5);
             file.splice(0..0, vec![0x01; bytes.saturating_sub(file.len())]);
         }
     }
 }
 
 /// The file with these messages, damaged `percent` times in a hundred.
-pub fn file_with(random: &mut Random, mut messages: Vec<Vec<u8>>, percent: usize) -> Vec<u8> {
+pub fn file_with(
+    random: &mut Random,
+    mut messages: Vec<Vec<u8>>,
+    percent: usize,
+    form: &Form,
+) -> Vec<u8> {
     if !random.chance(percent) {
-        return file_of(&messages, &FORM);
+        return file_of(&messages, form);
     }
     let kind = random.below(10);
     if kind < 4 {
         for _ in 0..random.pick(&[1, 1, 2, 3]) {
-            damage_message(random, &mut messages);
+            damage_message(random, &mut messages, form);
         }
     }
     let form = match random.below(30) {
-        0 => Form { version: 2, offset: 4, ..FORM },
-        1 => Form { offset: 4, ..FORM },
-        2 => Form { version: 2, ..FORM },
-        _ => FORM,
+        // The other version, and one of no version.
+        0 => Form { version: 3 - form.version, offset: 6 - form.offset, ..*form },
+        1 => Form { offset: 6 - form.offset, ..*form },
+        2 => Form { version: 3 - form.version, ..*form },
+        3 => Form { version: 3, ..*form },
+        _ => *form,
     };
     let mut file = file_of(&messages, &form);
     // In the order of the refusals, of which the first counts.
     if matches!(kind, 3..=6) {
         for _ in 0..random.pick(&[1, 1, 2]) {
-            damage_table(random, &mut file);
+            damage_table(random, &mut file, &form);
         }
     }
     match kind {
-        7 => damage_trailer(random, &mut file),
+        7 => damage_trailer(random, &mut file, &form),
         8 => damage_length(random, &mut file),
         9 if !file.is_empty() => {
             let at = random.below(file.len());
@@ -259,34 +294,45 @@ pub fn file_with(random: &mut Random, mut messages: Vec<Vec<u8>>, percent: usize
 
 /// Any file; about a half is damaged.
 pub fn file(random: &mut Random) -> Vec<u8> {
-    let messages = messages(random, &[]);
-    file_with(random, messages, 50)
+    let form = form(random);
+    let messages = messages(random, &[], &form);
+    file_with(random, messages, 50, &form)
+}
+
+/// A file to be rewritten as version 2, most often one of version 1.
+pub fn old_file(random: &mut Random) -> Vec<u8> {
+    let form = if random.chance(10) { VERSION_2 } else { VERSION_1 };
+    let messages = messages(random, &[], &form);
+    file_with(random, messages, 25, &form)
 }
 
 /// A file for a message to be added to; some are so long that the message just has its
 /// place, or just has none.
 pub fn file_for(random: &mut Random, message: &[u8]) -> Vec<u8> {
     if random.below(25) == 0 {
-        let taken = message.len().min(FORM.limits.bytes) + FORM.offset;
+        let form = VERSION_1;
+        let taken = message.len().min(form.limits.bytes) + form.offset;
         let bytes = near_limit(random) - taken + random.pick(&[0, 0, 0, taken.min(9)]);
-        let messages = messages_of_bytes(random, bytes, &[]);
-        return file_with(random, messages, 5);
+        let messages = messages_of_bytes(random, bytes, &[], &form);
+        return file_with(random, messages, 5, &form);
     }
-    let messages = messages(random, &[]);
-    file_with(random, messages, 20)
+    let form = form(random);
+    let messages = messages(random, &[], &form);
+    file_with(random, messages, 20, &form)
 }
 
 /// A file whose references go by names, and lists that have them, most often all.
 pub fn named_file(random: &mut Random) -> (Vec<u8>, Lists) {
     let (published, own) = lists(random);
     let known = [names_of(&published), names_of(&own)].concat();
-    let messages = messages(random, &known);
+    let form = form(random);
+    let messages = messages(random, &known, &form);
     if random.chance(10) {
-        return (file_with(random, messages, 15), lists(random));
+        return (file_with(random, messages, 15, &form), lists(random));
     }
     let mut names: Vec<Vec<u8>> = Vec::new();
     for message in &messages {
-        let entries = listing_within(message, &FORM.limits).unwrap_or_default().entries;
+        let entries = listing_within(message, &form.limits).unwrap_or_default().entries;
         for entry in entries {
             if let Namespace::Name(place) = entry.namespace {
                 let name = name_at(message, place);
@@ -300,15 +346,16 @@ pub fn named_file(random: &mut Random) -> (Vec<u8>, Lists) {
         names.swap_remove(random.below(names.len()));
     }
     let lists = lists_with(random, &names);
-    (file_with(random, messages, 15), lists)
+    (file_with(random, messages, 15, &form), lists)
 }
 
 /// A namespace to search for; most often one that is found.
 pub fn namespace(random: &mut Random, file: &[u8], (published, own): &Lists) -> i64 {
-    let messages = messages_of(file, &FORM).unwrap_or_default();
+    let form = form_of(file);
+    let messages = messages_of(file, &form).unwrap_or_default();
     if !messages.is_empty() && random.chance(80) {
         let message = random.pick(&messages);
-        let entries = listing_within(message, &FORM.limits).unwrap_or_default().entries;
+        let entries = listing_within(message, &form.limits).unwrap_or_default().entries;
         if !entries.is_empty() {
             let entry = random.pick(&entries);
             if let Some(number) = number_of(message, entry.namespace, published, own) {
@@ -327,7 +374,7 @@ pub fn namespace(random: &mut Random, file: &[u8], (published, own): &Lists) -> 
 
 /// A number of a message to ask a file for; some differ from one only in high bits.
 pub fn message_number(random: &mut Random, file: &[u8]) -> u64 {
-    let count = messages_of(file, &FORM).map_or(3, |messages| messages.len()) as u64;
+    let count = messages_of(file, &form_of(file)).map_or(3, |messages| messages.len()) as u64;
     let below = random.below(count as usize) as u64;
     match random.below(10) {
         0 => count,

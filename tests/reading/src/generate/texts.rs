@@ -7,7 +7,12 @@ use crate::{text_of, Limits, LIMITS};
 /// may be.
 pub fn text(random: &mut Random) -> Vec<u8> {
     // Past a limit it is a text all the same, only not an accepted ARI's.
-    let past = Limits { bytes: 8_192, items: 2_048, containers: 14, ..LIMITS };
+    let past = Limits {
+        bytes: 2 * LIMITS.bytes,
+        items: 2 * LIMITS.items,
+        containers: LIMITS.containers + 2,
+        ..LIMITS
+    };
     loop {
         let settings = Settings { floats: false, ..settings(random) };
         let ari = match random.below(40) {
@@ -17,7 +22,7 @@ pub fn text(random: &mut Random) -> Vec<u8> {
             }
             1 => {
                 let bytes = LIMITS.bytes - 2 + random.below(5);
-                full_list(random, Settings { items: 900, ..settings }, bytes)
+                full_list(random, Settings { items: LIMITS.items - 124, ..settings }, bytes)
             }
             2 => {
                 let items = LIMITS.items + random.below(16);

@@ -355,38 +355,39 @@ pub fn long_pairs() -> Vec<(String, String)> {
             format!("84 784121{digits} 20 00 81 820e 7840{digits}"),
             format!("ari://!{name}/-1/0(/LABEL/{name})"),
         ),
-        (byte_string(4_096), format!("ari:h%27{}%27", "5a".repeat(4_093))),
-        (head(3, 4_093) + &"7f".repeat(4_093), format!("ari:%22{}%22", "%7F".repeat(4_093))),
-        (list(1_021, "00"), format!("ari:/AC/{}", zeros(1_021))),
-        nested(6, "80", ""),
+        (byte_string(16_384), format!("ari:h%27{}%27", "5a".repeat(16_381))),
+        (head(3, 16_381) + &"7f".repeat(16_381), format!("ari:%22{}%22", "%7F".repeat(16_381))),
+        (head(3, 9_000) + &"7f".repeat(9_000), format!("ari:%22{}%22", "%7F".repeat(9_000))),
+        (list(4_093, "00"), format!("ari:/AC/{}", zeros(4_093))),
+        nested(12, "80", ""),
     ]
 }
 
 /// As [`NO_TEXT`], but long.
 pub fn long_no_text() -> Vec<(String, &'static str)> {
-    vec![("00".repeat(4_097), "refused 1 0"), (list(1_022, "00"), "refused 5 1026")]
+    vec![("00".repeat(16_385), "refused 1 0"), (list(4_094, "00"), "refused 5 4098")]
 }
 
 /// What reading refuses that is long: "input too long" is 1, and a text whose binary
 /// form would pass a limit is no text of an accepted ARI.
 pub fn long_not_text() -> Vec<(String, &'static str)> {
     let name = "a".repeat(65);
-    let zeros = format!("ari:/AC/(0{})", ",0".repeat(1_021));
+    let zeros = format!("ari:/AC/(0{})", ",0".repeat(4_093));
     vec![
-        ("a".repeat(32_769), "refused 1 0"),
-        ("a".repeat(32_768), "refused 15 0"),
+        ("a".repeat(131_073), "refused 1 0"),
+        ("a".repeat(131_072), "refused 15 0"),
         (format!("./{name}/0"), "refused 15 0"),
         (format!("./-1/{name}"), "refused 15 0"),
         (format!("ari://{name}/"), "refused 15 0"),
         (format!("ari://!{name}/"), "refused 15 0"),
         (format!("ari://!{name}/-1/0"), "refused 15 0"),
         (format!("./-1/0(/LABEL/{name})"), "refused 15 0"),
-        (format!("ari:h%27{}%27", "00".repeat(4_094)), "refused 15 0"),
-        (format!("ari:%22{}%22", "a".repeat(4_094)), "refused 15 0"),
+        (format!("ari:h%27{}%27", "00".repeat(16_382)), "refused 15 0"),
+        (format!("ari:%22{}%22", "a".repeat(16_382)), "refused 15 0"),
         (zeros, "refused 15 0"),
-        (nested(7, "80", "").1, "refused 15 0"),
+        (nested(13, "80", "").1, "refused 15 0"),
         (nested(5_000, "80", "").1, "refused 15 0"),
-        // [ns] within the last group would be container 13.
-        (nested(6, "81 81 00", "//0/").1, "refused 15 0"),
+        // [ns] within the last group would be container 25.
+        (nested(12, "81 81 00", "//0/").1, "refused 15 0"),
     ]
 }

@@ -1,8 +1,8 @@
 //! Compares the archive's answers, and what it leaves in lent memory, with the
 //! reading's: on inputs from the grammar, near the limits, damaged and random,
 //! with tables that grant most of what is named, and rooms from none to enough;
-//! day files, whole and damaged; messages that nest down to the reference by which they
-//! are held; pairs of ARIs, most of them alike; and messages that are fed in fragments.
+//! day files of both versions, whole and damaged; messages that nest down to the reference
+//! by which they are held; pairs of ARIs, most of them alike; and messages that are fed in fragments.
 //!
 //! `agree [--count N] [--seed S]`: N inputs in all (200,000), for each function
 //! that the archive has the same number, the stream's three counted as one; the
@@ -21,7 +21,7 @@ use std::time::{Instant, SystemTime, UNIX_EPOCH};
 use lent::Lent;
 use reading::archive::{self, packed, packed_plain, packed_release, packed_written, unpacked};
 use reading::archive::{packed_added, packed_low, packed_part, packed_why};
-use reading::day::{FOUND, VERSION_1};
+use reading::day::{form_of, FOUND};
 use reading::generate::{self, days, names, nests, tables, texts, Random, Settings};
 use reading::vectors::to_hex;
 use reading::{Entry, Namespace, Record, Written, ENTRY, LIMITS};
@@ -44,6 +44,7 @@ enum Call {
     Number,
     Why,
     Same,
+    DayUpgrade,
 }
 
 /// What a call is lent. Most use only a part of it.
@@ -66,7 +67,7 @@ struct Case {
 
 impl Call {
     /// In the order of the archive's declarations.
-    const ALL: [Call; 15] = [
+    const ALL: [Call; 16] = [
         Call::Single,
         Call::Message,
         Call::List,
@@ -82,6 +83,7 @@ impl Call {
         Call::Number,
         Call::Why,
         Call::Same,
+        Call::DayUpgrade,
     ];
 
     fn function(self) -> &'static str {
@@ -106,6 +108,7 @@ impl Call {
             Call::Number => vec![0],
             Call::Why => (0..=12).chain([16, 18, 19, archive::NO]).collect(),
             Call::Same => (0..=7).chain(9..=13).collect(),
+            Call::DayUpgrade => vec![0, 16, 20, 21, 22],
         }
     }
 
@@ -129,13 +132,13 @@ impl Call {
             Call::Write => packed_written(reading::write_text(input, room)),
             Call::Read => packed_written(reading::read_text(input, room)),
             Call::Names => packed_plain(reading::names::check_names(published, own)),
-            Call::DayCheck => packed_low(reading::day::check(input, &VERSION_1)),
-            Call::DayFind => packed_part(reading::day::find(input, *number, &VERSION_1)),
-            Call::DayAdd => packed_added(reading::day::add(input, other, room, &VERSION_1)),
+            Call::DayCheck => packed_low(reading::day::check(input, &form_of(input))),
+            Call::DayFind => packed_part(reading::day::find(input, *number, &form_of(input))),
+            Call::DayAdd => packed_added(reading::day::add(input, other, room, &form_of(input))),
             Call::DaySearch => {
                 let namespace = *number as i64;
                 let search = reading::day::search;
-                packed_low(search(input, published, own, namespace, room, &VERSION_1))
+                packed_low(search(input, published, own, namespace, room, &form_of(input)))
             }
             Call::Number => {
                 let number = reading::names::name_number(published, own, other);
@@ -148,6 +151,7 @@ impl Call {
                 packed_why(why::answer(case).and_then(|answer| reading::why::write(answer, room)))
             }
             Call::Same => packed_low(reading::same(input, other, &LIMITS).map(usize::from)),
+            Call::DayUpgrade => packed_added(reading::day::upgrade(input, room)),
         }
     }
 
@@ -174,6 +178,7 @@ impl Call {
             }
             Call::Why => archive::why(input, table, published, own, number, room),
             Call::Same => archive::same(input, other),
+            Call::DayUpgrade => archive::day_upgrade(input, room),
         }
     }
 
@@ -342,6 +347,7 @@ impl Call {
                 damage_lists(random, &mut case.lists);
                 case.number = days::namespace(random, &case.input, &case.lists) as u64;
             }
+            Call::DayUpgrade => case.input = days::old_file(random),
             Call::Number => {
                 case.lists = names::lists(random);
                 case.other = names::sought(random, &case.lists);
@@ -361,7 +367,7 @@ impl Call {
         let size = match self {
             Call::List => ENTRY,
             Call::DaySearch => FOUND,
-            Call::Write | Call::Read | Call::DayAdd | Call::Why => 1,
+            Call::Write | Call::Read | Call::DayAdd | Call::Why | Call::DayUpgrade => 1,
             Call::Release | Call::Number => {
                 case.room = random.word().to_ne_bytes().to_vec();
                 return case;
@@ -625,6 +631,15 @@ fn main() -> ExitCode {
             Ok(compared) => println!("strings of 0 to 80 bytes, whole and damaged: {compared}"),
             Err(words) => {
                 println!("DISAGREE at the strings: {words}");
+                return ExitCode::FAILURE;
+            }
+        }
+    }
+    if day::CALLS.iter().all(|call| calls.contains(call)) {
+        match day::compare_limits(&mut Random::new(seed), &mut tally.days) {
+            Ok(compared) => println!("day files at the limits of either version: {compared}"),
+            Err(words) => {
+                println!("DISAGREE at the day files of seed {seed}: {words}");
                 return ExitCode::FAILURE;
             }
         }

@@ -301,7 +301,11 @@ fn some_bytes(random: &mut Random, length: usize) -> Vec<u8> {
 fn pieces(random: &mut Random, length: usize) -> Vec<usize> {
     let large = 2 * length.div_ceil(1 + random.below(4));
     // The reading starts from the front at each piece, so most long messages have few.
-    let most: &[usize] = match random.below(if length <= 400 { 4 } else { 12 }) {
+    let most: &[usize] = match random.below(match length {
+        0..=400 => 4,
+        401..=4_096 => 12,
+        _ => 60,
+    }) {
         0 => &[1],
         1 => &[20],
         2 => &[1, 1, 20, large],
@@ -412,7 +416,10 @@ pub fn compare_prefixes(
             continue;
         }
         *left -= 1;
-        for length in 0..=message.len() {
+        // Of a long one some: the reading starts from the front at each.
+        let step = 1 + message.len() / 4_096 * 3;
+        let last = message.len().saturating_sub(64);
+        for length in (0..=message.len()).filter(|length| length % step == 0 || *length >= last) {
             let mut streams = Streams::new(random)?;
             streams.feed(&message[..length], random.below(16), tally)?;
             streams.close_whole(random, tally)?;
