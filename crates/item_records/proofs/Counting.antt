@@ -102,7 +102,7 @@ module _ {m : Limits} {i : Input} {b : List ℕ} {n : ℕ} {t : List ℕ} (c : T
       go true h = omega (arith, h)
       go false h = omega (arith, h)
 
-  slot-back : (k : ℕ) → k < n → isTargetBy (slotNumber (spotNumber i b k .slot)) ≡ isTarget (spotNumber i b k .slot)
+  pub slot-back : (k : ℕ) → k < n → isTargetBy (slotNumber (spotNumber i b k .slot)) ≡ isTarget (spotNumber i b k .slot)
   unfolding isTargetBy
   slot-back k h =
       let f = fine-at c k h in

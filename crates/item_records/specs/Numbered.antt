@@ -1,5 +1,5 @@
 -- The target or report of an item (R168, R169) from the words of the item table: counted from the front, an item lies in the last one before it, or in
--- none. Interface: passedBy, targetsTo; that these give the number of R169 is proofs/Counting. Private to src/: isTargetBy, targetBy.
+-- none. Interface: isTargetBy, passedBy, targetsTo; that these give the number of R169 is proofs/Counting. Private to src/: targetBy.
 use Prim.Native.Nat.{ℕ, zero, suc, _+_, _-_, min}
 use mathlib.Core.Bool.{Bool, true, false, cond}
 use mathlib.Core.List.{List}

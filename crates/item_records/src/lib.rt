@@ -106,7 +106,7 @@ fn kind_at(slot: u64, h: cbor::Head) -> Kind
 }
 
 // Whether a target or a report is due at a slot.
-fn is_target(slot: u64) -> bool
+pub fn is_target(slot: u64) -> bool
     ensures { λ r. ⌜ r ≡ isTargetBy slot ⌝ }
 {
     if slot == grammar::TARGET {

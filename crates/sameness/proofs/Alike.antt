@@ -32,7 +32,7 @@ module _ {m : Limits} {i : Input} {b : List ℕ} {n : ℕ} {t : List ℕ} (c : T
   abbrev x : Spot
   x = spotNumber i b k
 
-  slot-back : slotOf (slotNumber (x .slot)) ≡ x .slot
+  pub slot-back : slotOf (slotNumber (x .slot)) ≡ x .slot
   slot-back =
       let f = fine-at c k h in
       ap slotOf (ap slotNumber (sym (f .slot-is)) ∙ number-slot (f .number) (f .is-slot)) ∙ f .slot-is

@@ -1,0 +1,5 @@
+pub mod Runs
+pub mod Pairing
+pub mod Words
+pub mod Walking
+pub mod Going
