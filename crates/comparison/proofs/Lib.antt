@@ -3,3 +3,4 @@ pub mod Pairing
 pub mod Words
 pub mod Walking
 pub mod Going
+pub mod Demand

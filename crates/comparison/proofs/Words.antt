@@ -82,6 +82,25 @@ module _ (t : List ℕ) (k : ℕ) where
 
 pub ruleset behinds = (behind-one, behind-all)
 
+next-from : (k : ℕ) (ws : List ℕ) → k ≤ nextFrom k ws
+next-from k [] = omega arith
+next-from k (w ∷ ws) = go (isTargetWord w) (next-from (suc k) ws)
+  where
+    go : (r : Bool) → suc k ≤ nextFrom (suc k) ws → k ≤ cond r k (nextFrom (suc k) ws)
+    go true h = omega arith
+    go false h = omega arith
+
+module _ (t : List ℕ) (k : ℕ) where
+  pub behind-later : k ≤ targetBehind t k
+  behind-later = go (ltb k (length t))
+    where
+      go : (r : Bool) → k ≤ cond r (nextTarget t (suc k)) k
+      go true = omega (arith, next-from (suc k) (drop (suc k) t))
+      go false = omega arith
+
+  pub behind-further : k < length t → k < targetBehind t k
+  behind-further h = rw (lt-ltb k (length t) h) (omega (arith, next-from (suc k) (drop (suc k) t)))
+
 -- the targets and reports from item k on
 abbrev pub partsAt : List ℕ → ℕ → List Part
 partsAt b k = partsFrom k (drop k (spotsOf Message (decode b)))

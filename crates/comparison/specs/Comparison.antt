@@ -112,11 +112,14 @@ different (e ∷ es) = let r = different es in cond (eqb (whatOf e) 0) r (suc r)
 abbrev pub enoughFor : List Entry → ℕ → Compared
 enoughFor es room = cond (ltb room (length es)) (Refused 16 (length es)) (Entries (different es) (length es))
 
--- R200: the first's refusal, then the second's, then 16
+-- R200: before that the first's refusal, then the second's
+abbrev pub secondBy : Answer → List Entry → ℕ → Compared
+secondBy (refuse r p) es room = Refused r p
+secondBy (accept n) es room = enoughFor es room
+
 abbrev pub comparedBy : Answer → Answer → List Entry → ℕ → Compared
 comparedBy (refuse r p) second es room = Refused r p
-comparedBy (accept n) (refuse r p) es room = Refused r p
-comparedBy (accept n) (accept k) es room = enoughFor es room
+comparedBy (accept n) second es room = secondBy second es room
 
 unfoldable pub compareMessages : Limits → List ℕ → List ℕ → ℕ → Compared
 compareMessages m a b room = comparedBy (read m Message a) (read m Message b) (comparison a b) room

@@ -7,10 +7,10 @@ ghost use lib.ListN.{length, drop};
 ghost use Rattle.buffer.specs.Bytes.{be};
 ghost use Rattle.buffer.specs.Put.{Put};
 ghost use Rattle.ari.specs.declared.Input.the-variants as input;
-ghost use Rattle.ari.specs.Reader.{accept, read};
+ghost use Rattle.ari.specs.Reader.{read};
 ghost use Rattle.ari.specs.Limits.{gateLimits, capped};
 ghost use Rattle.item_table.specs.Entries.{itemOf};
-ghost use Rattle.comparison.specs.Comparison.{parts, entryOf, entryBytes, entriesBytes, comparison, enoughFor, comparedBy, compareMessages, roomAfter};
+ghost use Rattle.comparison.specs.Comparison.{parts, entryOf, entryBytes, entriesBytes, comparison, enoughFor, secondBy, compareMessages, roomAfter};
 ghost use Rattle.comparison.specs.Code.{Table, isTargetWord, targetsIn, nextTarget, targetBehind, Reached, Both, partAt, entryAt, withoutItems, differenceOf, differenceBytes, isDifferent, tallyOf};
 use ari::Input;
 use ari::Limits;
@@ -256,7 +256,7 @@ fn compare_second(
 ) -> Compared
     requires { ⌜ Table (now a) (now xs) ⌝ }
     requires { ⌜ (min (limits .items) (length (now b)) ≤ length (now ys)) × (limits .bytes < 65536) × (limits .containers < 256) ⌝ }
-    ensures { λ r. ⌜ r ≡ comparedBy (accept (length (now (xs .entry)))) (read limits input.Message (now (b .entry))) (comparison (now (a .entry)) (now (b .entry))) (length (now (out .entry)) / 24) ⌝ }
+    ensures { λ r. ⌜ r ≡ secondBy (read limits input.Message (now (b .entry))) (comparison (now (a .entry)) (now (b .entry))) (length (now (out .entry)) / 24) ⌝ }
     ensures { λ r. ⌜ now (out .exit) ≡ roomAfter r (comparison (now (a .entry)) (now (b .entry))) (now (out .entry)) ⌝ }
 {
     match reader::keep(Input::Message, limits, b, ys) {

@@ -1,70 +1,72 @@
+-- `comparison::put_entries` meets its contract: what is put, and what is left to compare from i and j on, are all entries.
+use Prim.Native.Nat.{_+_, _-_, _<_}
+use mathlib.Core.Logic.{_⊎_, inl, inr}
+use native.Mathlib.Omega.{arith}
+use lib.ListN.{length}
+use borrow.Author.Needs.{needs}
+use borrow.Author.Tests.{ltb-true, ltb-false}
+use Rattle.comparison.proofs.Going.{Gone, gone-none, gone-first, gone-second, gone-few, gone-size, gone-less, gone-on, gone-tally, gone-room, either, one-at-most}
 use Rattle.comparison.proofs.put_entries.Statement.{statement}
 use Rattle.comparison.proofs.put_entries.Tie as tie
-use Rattle.comparison.proofs.put_entries.Reads as reads
-use Rattle.comparison.proofs.put_entries.Lts as lts
-use Rattle.comparison.proofs.entry_at.Reads as entry-at-reads
-use Rattle.comparison.proofs.is_different.Reads as is-different-reads
-use Rattle.comparison.proofs.next_target.Reads as next-target-reads
-use Rattle.comparison.proofs.put_entry.Reads as put-entry-reads
-use Rattle.comparison.proofs.target_behind.Reads as target-behind-reads
 
 abbrev Inv-loop : tie.InvT-loop
-Inv-loop a b xs ys out₀ i₀ j₀ p₀ different₀ out i j p different = ?
+Inv-loop a b xs ys out₀ i₀ j₀ p₀ different₀ out i j p different = Gone a xs b ys out₀ out i j p different
 
 abbrev μ-loop : tie.MeasureT-loop
-μ-loop a b xs ys out₀ i₀ j₀ p₀ different₀ out i j p different = ?
+μ-loop a b xs ys out₀ i₀ j₀ p₀ different₀ out i j p different = (length xs - i) + (length ys - j)
 
--- src/lib.rt:198:9
 next-target-requires : tie.Need-next-target-requires Inv-loop μ-loop
-next-target-requires c κs = ?
+next-target-requires c κs = search needs
 
--- src/lib.rt:199:9
 next-target-requires-2 : tie.Need-next-target-requires-2 Inv-loop μ-loop
-next-target-requires-2 c κs = ?
+next-target-requires-2 c κs = search needs
 
--- src/lib.rt:202:5
 loop-holds : tie.Need-loop-holds Inv-loop μ-loop
-loop-holds c = ?
+loop-holds c = search (gone-none, needs)
 
--- src/lib.rt:203:13
 entry-at-requires : tie.Need-entry-at-requires Inv-loop μ-loop
-entry-at-requires c κs = ?
+entry-at-requires c κs = (gone-first (c .before .loop .inv), gone-second (c .before .loop .inv))
 
--- src/lib.rt:204:9
 put-entry-requires : tie.Need-put-entry-requires Inv-loop μ-loop
-put-entry-requires c κs = ?
+put-entry-requires c κs = search needs
 
--- src/lib.rt:205:22
 is-different-requires : tie.Need-is-different-requires Inv-loop μ-loop
-is-different-requires c κs = ?
+is-different-requires c κs = search needs
 
--- src/lib.rt:205:9
 add-different : tie.Need-add-different Inv-loop μ-loop
-add-different c = ?
+add-different c =
+    let entry = c .before .before .before .before .before in
+    let turn = entry .before .before in
+    record { fits = omega (arith, gone-few (turn .loop .inv), one-at-most (entry .entry-at .result), c .is-different .ensures) }
 
--- src/lib.rt:206:9
 target-behind-requires : tie.Need-target-behind-requires Inv-loop μ-loop
-target-behind-requires c κs = ?
+target-behind-requires c κs = search needs
 
--- src/lib.rt:207:9
 target-behind-requires-2 : tie.Need-target-behind-requires-2 Inv-loop μ-loop
-target-behind-requires-2 c κs = ?
+target-behind-requires-2 c κs = search needs
 
--- src/lib.rt:202:5
 loop-less : tie.Need-loop-less Inv-loop μ-loop
-loop-less c = ?
+loop-less c =
+    let reached = c .before .before .before .before .before .before .before .before in
+    gone-less (reached .before .loop .inv) (either (reached .if1 .came) (λ x. inl (x .taken)) (λ y. inr (ltb-true _ _ (y .1 .taken))))
+    (c .before .target-behind .ensures) (c .target-behind2 .ensures)
 
--- src/lib.rt:202:5
 loop-again : tie.Need-loop-again Inv-loop μ-loop
-loop-again c = ?
+loop-again c =
+    let entry = c .before .before .before .before .before .before .before in
+    let reached = entry .before in
+    gone-on (reached .before .loop .inv) (either (reached .if1 .came) (λ x. inl (x .taken)) (λ y. inr (ltb-true _ _ (y .1 .taken))))
+    (c .before .target-behind .ensures) (c .target-behind2 .ensures) (entry .entry-at .ensures) (c .before .before .before .before .before .put-entry .ensures)
+    (c .before .before .is-different .ensures)
 
--- src/lib.rt:192:1
 same-length : tie.Need-same-length Inv-loop μ-loop
-same-length c = ?
+same-length c = search (gone-size, needs)
 
--- src/lib.rt:192:1
 returns : tie.Need-returns Inv-loop μ-loop
-returns c = ?
+returns c =
+    let turn = c .before .before in
+    let none-left = ltb-false _ _ (c .if2 .left) in
+    (gone-tally (turn .loop .inv) (c .before .if1 .left) none-left, gone-room (turn .loop .inv) (c .before .if1 .left) none-left)
 
 pub put-entries-spec : {M : Type 1} → statement M
 put-entries-spec =
