@@ -1,4 +1,4 @@
--- Answers as one number: R114 to R119; of the day file, R154 to R164; of a name, R142; of two ARIs, R188. Interface: all of it.
+-- Answers as one number: R114 to R119; of the day file, R154 to R164; of a name, R142; of two ARIs, R188; of two messages, R200. Interface: all of it.
 use Prim.Native.Nat.{ℕ, _+_, _-_, _*_, _^_, min}
 use mathlib.Core.Path.{_≡_}
 use mathlib.Core.List.{List}
@@ -13,6 +13,8 @@ use Rattle.listing.specs.declared.Listed.{Listed}
 use Rattle.listing.specs.declared.Listed.the-variants as listed
 use Rattle.sameness.specs.declared.Sameness.{Sameness}
 use Rattle.sameness.specs.declared.Sameness.the-variants as sameness
+use Rattle.comparison.specs.declared.Compared.{Compared}
+use Rattle.comparison.specs.declared.Compared.the-variants as compared
 use Rattle.names.specs.declared.Names.{Names}
 use Rattle.names.specs.declared.Names.the-variants.{Passes}
 use Rattle.names.specs.declared.Names.the-variants as names
@@ -77,6 +79,11 @@ abbrev pub sameCode : Sameness → ℕ
 sameCode sameness.Same = countCode 0 1
 sameCode sameness.Different = countCode 0 0
 sameCode (sameness.Refused r p) = refusalCode r p
+
+-- R200: the entries that are not 'same', and all entries
+abbrev pub compareCode : Compared → ℕ
+compareCode (compared.Entries d k) = countCode d k
+compareCode (compared.Refused r p) = refusalCode r p
 
 -- 19 with the first byte of the first wrong line
 abbrev pub namesCode : Names → ℕ

@@ -4,8 +4,9 @@ ghost use Prim.Native.Nat.{_-_};
 ghost use Rattle.grants.specs.Verdict.{checkOf};
 ghost use Rattle.release.specs.Release.{answerOf as releasedOf};
 ghost use Rattle.release.specs.Compared.{countAfter};
-ghost use Rattle.answer_codes.specs.Code.{refusalCode, countCode, checkCode, listCode, tableCode, releaseCode, heldCode, whyCode, textCode, fedCode, sameCode, namesCode, numberCode, numberAfter, dayCode, findCode, addCode, searchCode};
+ghost use Rattle.answer_codes.specs.Code.{refusalCode, countCode, checkCode, listCode, tableCode, releaseCode, heldCode, whyCode, textCode, fedCode, sameCode, compareCode, namesCode, numberCode, numberAfter, dayCode, findCode, addCode, searchCode};
 use buffer::Number;
+use comparison::Compared;
 use day_file::Added;
 use day_file::Day;
 use day_file::Found;
@@ -68,6 +69,15 @@ pub fn same_code(a: Sameness) -> u64
         Sameness::Same => 1,
         Sameness::Different => 0,
         Sameness::Refused { number, place } => refusal_code(number, place as u64),
+    }
+}
+
+pub fn compare_code(a: Compared) -> u64
+    ensures { λ r. ⌜ r ≡ compareCode a ⌝ }
+{
+    match a {
+        Compared::Entries { different, entries } => count_code(different, entries),
+        Compared::Refused { number, place } => refusal_code(number, place as u64),
     }
 }
 

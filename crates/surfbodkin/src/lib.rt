@@ -7,6 +7,7 @@ ghost use Rattle.ari.specs.Reader.{read};
 ghost use Rattle.ari.specs.Limits.{gateLimits};
 ghost use Rattle.reader.specs.Answers.{answerOf};
 ghost use Rattle.sameness.specs.Sameness.{sameness};
+ghost use Rattle.comparison.specs.Comparison.{comparison, compareMessages, roomAfter as comparedIn};
 ghost use Rattle.names.specs.Names.{checkNames, numberFor};
 ghost use Rattle.day_file.specs.Day.{checkDay, findDay, addDay, withMessage, roomAfter as fileIn};
 ghost use Rattle.day_file.specs.Versions.{formatOf, limitsOf};
@@ -20,7 +21,7 @@ ghost use Rattle.release.specs.Compared.{countAfter, countedBytes};
 ghost use Rattle.why_held.specs.Why.{why, outcomeIn, whyRoom};
 ghost use Rattle.text.specs.Answer.{writeText, readText, lent};
 ghost use Rattle.text_write.specs.Written.{writtenOf, roomAfter};
-ghost use Rattle.answer_codes.specs.Code.{checkCode, listCode, tableCode, releaseCode, whyCode, textCode, OpensAs, FeedsAs, ClosesAs, sameCode, namesCode, numberCode, numberAfter, dayCode, findCode, addCode, searchCode};
+ghost use Rattle.answer_codes.specs.Code.{checkCode, listCode, tableCode, releaseCode, whyCode, textCode, OpensAs, FeedsAs, ClosesAs, sameCode, compareCode, namesCode, numberCode, numberAfter, dayCode, findCode, addCode, searchCode};
 
 #[no_mangle]
 pub extern "C" fn surfbodkin_check_single(input: &[u8]) -> u64
@@ -74,6 +75,14 @@ pub extern "C" fn surfbodkin_same(first: &[u8], second: &[u8]) -> u64
     ensures { λ r. ⌜ r ≡ sameCode (sameness gateLimits (now (first .entry)) (now (second .entry))) ⌝ }
 {
     answer_codes::same_code(sameness::same(first, second))
+}
+
+#[no_mangle]
+pub extern "C" fn surfbodkin_compare(first: &[u8], second: &[u8], out: &mut [u8]) -> u64
+    ensures { λ r. ⌜ r ≡ compareCode (compareMessages gateLimits (now (first .entry)) (now (second .entry)) (length (now (out .entry)) / 24)) ⌝ }
+    ensures { λ r. ⌜ now (out .exit) ≡ comparedIn (compareMessages gateLimits (now (first .entry)) (now (second .entry)) (length (now (out .entry)) / 24)) (comparison (now (first .entry)) (now (second .entry))) (now (out .entry)) ⌝ }
+{
+    answer_codes::compare_code(comparison::compare(first, second, out))
 }
 
 #[no_mangle]
