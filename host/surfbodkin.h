@@ -35,10 +35,10 @@
 
    An acceptance has the number of items (CBOR heads) of the input in bits 32 to 55,
    and in bits 0 to 31 the size of what was written to `out`, 0 for a check; those of
-   a day file and of name_number have there what is said with them, and 0 where nothing
-   is said. The yes of a release, a table that passes and a stream that goes on are
-   plain 0. The functions surfbodkin_number, _place, _count and _low below take an
-   answer apart. */
+   a day file, of compare and of name_number have there what is said with them, and 0
+   where nothing is said. The yes of a release, a table that passes and a stream that
+   goes on are plain 0. The functions surfbodkin_number, _place, _count and _low below
+   take an answer apart. */
 #ifndef SURFBODKIN_H
 #define SURFBODKIN_H
 
@@ -57,8 +57,11 @@ enum surfbodkin_size {
   SURFBODKIN_CONTAINERS = 24,     /* arrays and maps open at once */
   SURFBODKIN_TEXT_BYTES = 131072, /* of a text; every text that is written fits */
   SURFBODKIN_ROW = 16,            /* bytes of a row in a grant table */
-  SURFBODKIN_ENTRY = 24,          /* bytes of an entry in a listing */
+  SURFBODKIN_ENTRY = 24,          /* bytes of an entry in a listing, a comparison or
+                                     a search */
   SURFBODKIN_ENTRIES = 2048,      /* no listing has more: an entry takes two items */
+  SURFBODKIN_POSITIONS = 1024,    /* no message has more targets and reports: each takes
+                                     four items */
   SURFBODKIN_LINK = 24,           /* bytes of a link in the chain that why writes */
   SURFBODKIN_LINKS = 24,          /* no chain has more: each link is an open container */
   SURFBODKIN_STREAM_WORDS = 127,  /* of a stream's state, each a uint64_t */
@@ -181,6 +184,21 @@ uint64_t surfbodkin_stream_close(uint64_t *state, size_t words,
      refused    1 to 7, 9 to 13, of the first, or else of the second */
 uint64_t surfbodkin_same(const uint8_t *first, size_t first_length,
                          const uint8_t *second, size_t second_length);
+
+/* Compares two messages, target by target: the targets of EXECSETs and the reports of
+   RPTSETs, counted together from 0 through each message. Writes an entry for each
+   position that either has, SURFBODKIN_ENTRY bytes each, to be read with
+   surfbodkin_get_difference. Two are the same as surfbodkin_same has it; a target and a
+   report never are. Nonces, the times of sets, and where one set ends and the next
+   begins are not compared.
+     accepted   count: the entries that are not SURFBODKIN_SAME, 0 if nothing differs;
+                low: the entries written
+     refused    1 to 12 as check_message, of the first, or else of the second
+                16, place: the number of entries, if `out` holds fewer whole ones.
+                SURFBODKIN_POSITIONS * SURFBODKIN_ENTRY bytes always suffice */
+uint64_t surfbodkin_compare(const uint8_t *first, size_t first_length,
+                            const uint8_t *second, size_t second_length,
+                            uint8_t *out, size_t out_length);
 
 /* Checks two lists of names, the published one and a subscriber's own; either may be
    empty. Each is a run of lines: a namespace name, "=", a number in plain decimal from
@@ -455,6 +473,32 @@ static inline struct surfbodkin_link surfbodkin_get_link(const uint8_t *out, siz
   link.meaning = surfbodkin_get_number(at + 8, 8);
   link.key = surfbodkin_get_number(at + 16, 8);
   return link;
+}
+
+/* What an entry of a comparison says of a position. */
+enum surfbodkin_what {
+  SURFBODKIN_SAME = 0,
+  SURFBODKIN_CHANGED = 1,
+  SURFBODKIN_ONLY_FIRST = 2,  /* the second message has no target or report there */
+  SURFBODKIN_ONLY_SECOND = 3
+};
+
+/* An entry that surfbodkin_compare writes. */
+struct surfbodkin_difference {
+  uint64_t what;   /* an enum surfbodkin_what */
+  uint64_t first;  /* if it is changed, the number of the first item that differs, */
+  uint64_t second; /* counted from 0 through each message; else UINT64_MAX */
+};
+
+/* Entry k, counted from 0, of what surfbodkin_compare has written to `out`. */
+static inline struct surfbodkin_difference surfbodkin_get_difference(const uint8_t *out,
+                                                                     size_t k) {
+  const uint8_t *at = out + k * SURFBODKIN_ENTRY;
+  struct surfbodkin_difference difference;
+  difference.what = surfbodkin_get_number(at, 8);
+  difference.first = surfbodkin_get_number(at + 8, 8);
+  difference.second = surfbodkin_get_number(at + 16, 8);
+  return difference;
 }
 
 /* An entry that surfbodkin_day_search writes. */

@@ -404,10 +404,10 @@ module _ {m m′ : Limits} {a b : List ℕ} {n n′ : ℕ} (c : Is m Message a (
       let s = numbers-of p q u v (z .entry-is) in
       let w = apart h g (s .0) in
       let items : (o : ℕ) → o < length (itemsOf (p .spot)) → o < length (itemsOf (q .spot))
-          → alike (spotNumber Message a (p .number + o)) (spotNumber Message b (q .number + o)) ≡ alike (getD (itemsOf (p .spot)) o noSpot) (getD (itemsOf (q .spot)) o noSpot)
+      → alike (spotNumber Message a (p .number + o)) (spotNumber Message b (q .number + o)) ≡ alike (getD (itemsOf (p .spot)) o noSpot) (getD (itemsOf (q .spot)) o noSpot)
       = λ o l r.
-          ap (λ (t : Spot). alike t (spotNumber Message b (q .number + o))) (owned c i h .item-is o l)
-          ∙ ap (alike (getD (itemsOf (p .spot)) o noSpot)) (owned d i g .item-is o r) in
+      ap (λ (t : Spot). alike t (spotNumber Message b (q .number + o))) (owned c i h .item-is o l)
+      ∙ ap (alike (getD (itemsOf (p .spot)) o noSpot)) (owned d i g .item-is o r) in
       record {
         passed = k;
         first-is = s .1;
