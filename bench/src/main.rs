@@ -7,7 +7,7 @@ use std::hint::black_box;
 use std::time::Instant;
 
 use reading::archive::{self, packed, packed_added, packed_low, packed_release};
-use reading::archive::{packed_why, packed_written};
+use reading::archive::{packed_compared, packed_why, packed_written};
 use reading::day::{self, file_of, form_of, Form, VERSION_1, VERSION_2};
 use reading::generate::days::message_of_length;
 use reading::generate::{self, Random, Settings};
@@ -756,6 +756,20 @@ fn main() {
     time_call("g  4,096 bytes, repeated", &same, &aris[..1]);
     time_call("g  500 like it", &same, &aris);
     time_call("g  16,384 bytes, repeated", &same, &largest_aris[..1]);
+
+    // Beside itself, as above.
+    let compare = Call {
+        function: "surfbodkin_compare",
+        archive: &|message, room| archive::compare(message, message, room),
+        reading: &|message, room| {
+            let list = reading::compare::compare(message, message, &LIMITS);
+            packed_compared(list.and_then(|list| reading::compare::write(&list, room)))
+        },
+    };
+    time_call("l  C compared with itself", &compare, &c);
+    time_call("l  4,096 bytes, repeated", &compare, &large[..1]);
+    time_call("l  500 like it", &compare, &large);
+    time_call("l  16,384 bytes, repeated", &compare, &largest[..1]);
 
     time_days(&large, &largest, &few, &published, &own);
 

@@ -24,16 +24,21 @@
 #pragma weak surfbodkin_same
 #pragma weak surfbodkin_day_upgrade
 
+/* As its request has it: the header may not say otherwise. */
+uint64_t surfbodkin_compare(const uint8_t *first, size_t first_length, const uint8_t *second,
+                            size_t second_length, uint8_t *out, size_t out_length);
+#pragma weak surfbodkin_compare
+
 enum call {
   SINGLE, MESSAGE, LIST, TABLE, RELEASE, WRITE, READ, LISTS, STREAM,
-  DAY_CHECK, DAY_FIND, DAY_ADD, DAY_SEARCH, NAME, WHY, SAME, DAY_UPGRADE, CALLS
+  DAY_CHECK, DAY_FIND, DAY_ADD, DAY_SEARCH, NAME, WHY, SAME, DAY_UPGRADE, COMPARE, CALLS
 };
 static int there[CALLS];
 static unsigned long calls_made;
 
 struct arguments {
   enum call call;
-  struct bytes input, table; /* of day_add the file and the message, of same the two ARIs */
+  struct bytes input, table; /* of day_add the file and the message, of same the two ARIs, of compare the messages */
   uint64_t subscriber;       /* of a day's file the message's number or the namespace */
   size_t room;
   struct bytes published, own;
@@ -46,7 +51,7 @@ static size_t written_by(enum call call, uint64_t answer) {
   }
   if (surfbodkin_number(answer) != SURFBODKIN_ACCEPTED) return 0;
   switch (call) {
-    case LIST: case STREAM: case DAY_SEARCH: return surfbodkin_low(answer) * (size_t)SURFBODKIN_ENTRY;
+    case LIST: case STREAM: case DAY_SEARCH: case COMPARE: return surfbodkin_low(answer) * (size_t)SURFBODKIN_ENTRY;
     case WRITE: case READ: case DAY_ADD: case DAY_UPGRADE: return surfbodkin_low(answer);
     default: return 0;
   }
@@ -146,6 +151,14 @@ static uint64_t make(const struct arguments *a, enum way way, const uint8_t *out
     case DAY_UPGRADE:
       answer = surfbodkin_day_upgrade(in.at, in.length, to.at, to.length);
       break;
+    case COMPARE:
+      answer = surfbodkin_compare(in.at, in.length, rows.at, rows.length, to.at, to.length);
+      /* One memory as both: no room, so that nothing is written, but what is refused is. */
+      itself = surfbodkin_compare(in.at, in.length, in.at, in.length, NULL, 0);
+      if (itself != 0 && surfbodkin_number(itself) != SURFBODKIN_ROOM && itself != answer) {
+        fail("differs from itself, or refused otherwise");
+      }
+      break;
     default: fail("no such call");
   }
   calls_made++;
@@ -192,7 +205,7 @@ static const char *const NAMES[CALLS] = {"check_single", "check_message", "list"
                                          "read_text",    "check_names",   "stream_close",
                                          "day_check",    "day_find",      "day_add",
                                          "day_search",   "name_number",   "why",
-                                         "same",         "day_upgrade"};
+                                         "same",         "day_upgrade",   "compare"};
 
 /* A check, and each beginning of its input with whatever answer. */
 static void check(enum call call, const char *input, uint64_t answer) {
@@ -317,6 +330,22 @@ static void with_day(enum call call, const char *file, const char *message, uint
   free(written.at);
 }
 
+/* Long messages, in rooms around the need. */
+static void compare_long(const char *first, const char *second, uint64_t answer, const char *out) {
+  if (!there[COMPARE]) return;
+  struct bytes written = bytes(out);
+  struct arguments a = {.call = COMPARE, .input = bytes(first), .table = bytes(second)};
+  const size_t rooms[] = {0, written.length - 1, written.length, written.length + 23};
+  for (int k = 0; k < 4; k++) {
+    a.room = rooms[k];
+    uint64_t none = refused(SURFBODKIN_ROOM, surfbodkin_low(answer));
+    expect(a, NAMES[COMPARE], "many", k < 2 ? none : answer, written.at);
+  }
+  free(a.input.at);
+  free(a.table.at);
+  free(written.at);
+}
+
 /* A text or hex with one part repeated, kept until the end. */
 static const char *repeated(const char *before, const char *part, int times, const char *after) {
   char *words = malloc(strlen(before) + strlen(part) * (size_t)times + strlen(after) + 1);
@@ -352,6 +381,13 @@ static const char *repeated(const char *before, const char *part, int times, con
   LINK("00000009", "00000010", "03") "0000000c 00000010 0000000000000005 000000000000000a"
 #define ROW_0 "0000000000000007 0000000000000000 "
 
+/* Entries of a comparison, with the numbers of the items. */
+#define NO_ITEM " ffffffffffffffff"
+#define ALIKE "0000000000000000" NO_ITEM NO_ITEM " "
+#define CHANGED(one, two) "0000000000000001 00000000000000" one " 00000000000000" two " "
+#define ONLY_FIRST "0000000000000002" NO_ITEM NO_ITEM " "
+#define ONLY_SECOND "0000000000000003" NO_ITEM NO_ITEM " "
+
 static uint64_t items(uint64_t count) { return count << 32; }
 
 static uint64_t held(uint64_t reason, uint64_t links, uint64_t entry) {
@@ -377,6 +413,7 @@ int main(void) {
   there[WHY] = surfbodkin_why != NULL;
   there[SAME] = surfbodkin_same != NULL;
   there[DAY_UPGRADE] = surfbodkin_day_upgrade != NULL;
+  there[COMPARE] = surfbodkin_compare != NULL;
   const char *before = "guards: skipped, not in the archive:";
   for (int call = 0; call < CALLS; call++) {
     if (there[call]) continue;
@@ -578,6 +615,28 @@ int main(void) {
   pair(repeated("59 3ffd", "ff", 16381, ""), repeated("59 3ffd", "ff", 16381, ""), 1);
   pair(repeated("79 3ffd", "61", 16381, ""), repeated("79 3ffd", "61", 16380, "41"), 0);
   pair(repeated("59 3ffe", "ff", 16382, ""), "00", refused(1, 0));
+
+  with_day(COMPARE, C, C, 0, "", "", 1, ALIKE);
+  with_day(COMPARE, "01", "01 82 14 81 f6", 0, "", "", 0, "");
+  with_day(COMPARE, C, "01", 0, "", "", (uint64_t)1 << 32 | 1, ONLY_FIRST);
+  with_day(COMPARE, C, ORDER, 0, "", "", (uint64_t)2 << 32 | 2, CHANGED("05", "05") ONLY_SECOND);
+  with_day(COMPARE, NAMED, "01 82 14 82 00 9803 6141 20 1800 82 14 82 f6 83 622141 20 00", 0, "", "", 2,
+           ALIKE ALIKE);
+  with_day(COMPARE, C, "01 82 14 81 f6 82 14 82 f6 84 1a00010000 22 00 81 83 33 2a 06", 0, "", "",
+           (uint64_t)1 << 32 | 1, CHANGED("0d", "11"));
+  with_day(COMPARE, "01 82 14 82 f6 84 f6 20 00 81 82 0e 6161", "01 82 14 82 f6 84 f6 20 00 81 82 0e 6141",
+           0, "", "", (uint64_t)1 << 32 | 1, CHANGED("0c", "0c"));
+  with_day(COMPARE, "01 82 15 83 f6 00 83 00 83 00 20 00 00", "01 82 14 82 f6 83 00 20 00", 0, "", "",
+           (uint64_t)1 << 32 | 1, CHANGED("08", "07"));
+  with_day(COMPARE, "02", "01 82", 0, "", "", refused(8, 0), "");
+  with_day(COMPARE, "01 82", "02", 0, "", "", refused(2, 2), "");
+  with_day(COMPARE, C, "01 82 14 80", 0, "", "", refused(7, 3), "");
+  const char *most_targets = repeated("01 82 14 99 03ff f6", "83 f6 20 00", 1022, "");
+  compare_long(most_targets, most_targets, 1022, repeated("", ALIKE, 1022, ""));
+  compare_long(most_targets, C, (uint64_t)1022 << 32 | 1022,
+               repeated(CHANGED("05", "05"), ONLY_FIRST, 1021, ""));
+  compare_long(most_items, most_items, 1, ALIKE);
+  compare_long("01", most_targets, (uint64_t)1022 << 32 | 1022, repeated("", ONLY_SECOND, 1022, ""));
 
   printf("guards: %lu calls, all as the header says\n", calls_made);
   return 0;

@@ -6,7 +6,7 @@ use std::ops::Range;
 
 use crate::day::Added;
 use crate::why::Why;
-use crate::{Answer, Refusal, Release, Written};
+use crate::{compare, Answer, Refusal, Release, Written};
 
 /// Declares the functions that the archive has, and puts one that panics in the
 /// place of each other.
@@ -72,6 +72,10 @@ functions! {
     "day_upgrade" surfbodkin_day_upgrade(
         file: *const u8, length: usize, out: *mut u8, out_length: usize
     );
+    "compare" surfbodkin_compare(
+        first: *const u8, first_length: usize, second: *const u8, second_length: usize,
+        out: *mut u8, out_length: usize
+    );
     "stream_open" surfbodkin_stream_open(state: *mut u64, words: usize);
     "stream_feed" surfbodkin_stream_feed(
         state: *mut u64, words: usize, message: *mut u8, room: usize,
@@ -113,6 +117,20 @@ pub fn check_message(input: &[u8]) -> u64 {
 pub fn same(first: &[u8], second: &[u8]) -> u64 {
     unsafe {
         functions::surfbodkin_same(first.as_ptr(), first.len(), second.as_ptr(), second.len())
+    }
+}
+
+/// The entries go to the room.
+pub fn compare(first: &[u8], second: &[u8], room: &mut [u8]) -> u64 {
+    unsafe {
+        functions::surfbodkin_compare(
+            first.as_ptr(),
+            first.len(),
+            second.as_ptr(),
+            second.len(),
+            room.as_mut_ptr(),
+            room.len(),
+        )
     }
 }
 
@@ -355,6 +373,13 @@ pub fn packed_part(answer: Result<Range<usize>, Refusal>) -> u64 {
 
 pub fn packed_added(answer: Result<Added, Refusal>) -> u64 {
     answer.map_or_else(refused, |Added { messages, bytes }| accepted(messages, bytes))
+}
+
+/// "count: entries that are not 'same', low: entries"
+pub fn packed_compared(answer: Result<compare::Written, Refusal>) -> u64 {
+    answer.map_or_else(refused, |compare::Written { different, entries }| {
+        accepted(different, entries)
+    })
 }
 
 /// A table's check, or a feed.

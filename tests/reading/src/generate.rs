@@ -5,6 +5,7 @@
 pub mod days;
 pub mod names;
 pub mod nests;
+pub mod pairs;
 pub mod tables;
 pub mod texts;
 

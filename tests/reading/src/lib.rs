@@ -10,12 +10,14 @@
 //! a single ARI to its text and back, `read_table` reads the text of a grant table. A
 //! [`Stream`] takes a message in fragments; [`names`] has the lists of names, and release
 //! by them; [`why`] says why a message was held; [`day`] has the file of a day's messages;
-//! `same` says whether two single ARIs are the same.
+//! `same` says whether two single ARIs are the same; [`compare`] says what differs between
+//! two messages.
 //!
 //! Not part of the reading: [`archive`] calls the gate, [`generate`] makes
 //! inputs for comparisons and times, [`vectors`] holds the fixed inputs,
 //! [`appendix`] RFC 8949's examples, [`printed`] is what programs print.
 
+pub mod compare;
 pub mod day;
 mod grants;
 mod head;

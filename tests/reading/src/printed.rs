@@ -1,7 +1,9 @@
-//! What the programs of `gate` print of a listing, of items, and of a message that was held.
+//! What the programs of `gate` print of a listing, of items, of a message that was held, and
+//! of two messages beside each other.
 
 use std::fmt::Write as _;
 
+use crate::compare::Position;
 use crate::names::name_number;
 use crate::why::{Link, Meaning, Reason, Why};
 use crate::{
@@ -13,15 +15,32 @@ use crate::{
 pub fn item_lines(records: &Result<Vec<Record>, Refusal>) -> String {
     match records {
         Err(refusal) => format!("{refusal}\n"),
-        Ok(records) => {
-            let mut lines = String::new();
-            for (k, record) in records.iter().enumerate() {
-                let indent = "  ".repeat(record.around);
-                let _ = writeln!(lines, "{k} {} {indent}{}", record.columns(), record.words());
+        Ok(records) => records.iter().enumerate().map(|(k, record)| item_line(k, record)).collect(),
+    }
+}
+
+fn item_line(k: usize, record: &Record) -> String {
+    let indent = "  ".repeat(record.around);
+    format!("{k} {} {indent}{}\n", record.columns(), record.words())
+}
+
+/// "a line for each position: its number, then `same`, `changed A B`, `only first` or `only
+/// second`; for a changed one the two items as `gate items` shows them"
+pub fn position_lines(first: &[Record], second: &[Record], positions: &[Position]) -> String {
+    let mut lines = String::new();
+    for (k, position) in positions.iter().enumerate() {
+        match *position {
+            Position::Same => lines += &format!("{k} same\n"),
+            Position::Changed { first: one, second: two } => {
+                lines += &format!("{k} changed {one} {two}\n");
+                lines += &item_line(one, &first[one]);
+                lines += &item_line(two, &second[two]);
             }
-            lines
+            Position::OnlyFirst => lines += &format!("{k} only first\n"),
+            Position::OnlySecond => lines += &format!("{k} only second\n"),
         }
     }
+    lines
 }
 
 /// "refs N", a line for each reference, "items N"; or the refusal's line.

@@ -103,11 +103,11 @@ pub enum Why {
 }
 
 /// An item of an accepted message with what it holds; a map has its keys and values in turn.
-struct Item {
-    first: usize,
-    after: usize,
-    kind: Kind,
-    members: Vec<Item>,
+pub(crate) struct Item {
+    pub first: usize,
+    pub after: usize,
+    pub kind: Kind,
+    pub members: Vec<Item>,
 }
 
 impl Item {
@@ -131,10 +131,15 @@ impl Item {
         }
         Item { first, after, kind, members }
     }
+
+    /// The items that it is, with all that it holds.
+    pub fn count(&self) -> usize {
+        1 + self.members.iter().map(Item::count).sum::<usize>()
+    }
 }
 
 /// The items of a message that stand in no other: the version, then the sets.
-fn outermost(message: &[u8]) -> Vec<Item> {
+pub(crate) fn outermost(message: &[u8]) -> Vec<Item> {
     let (mut items, mut at) = (Vec::new(), 0);
     while at < message.len() {
         let item = Item::read(message, at);

@@ -1,15 +1,16 @@
 //! `programs COMMAND PROGRAM [--seed S]`: gives the program of `gate list`, `items`, `stream`,
-//! `text`, `table`, `names`, `release`, `why` or `same` fixed inputs and made ones, and
-//! compares what it writes with the reading.
+//! `text`, `table`, `names`, `release`, `why`, `same` or `compare` fixed inputs and made ones,
+//! and compares what it writes with the reading.
 
 use std::fmt::Write as _;
 use std::io::Write as _;
 use std::process::{Command, ExitCode, Stdio};
 
+use reading::compare::compare;
 use reading::generate::names::{self as made, Lists};
-use reading::generate::{self, nests, tables, texts, Random};
+use reading::generate::{self, nests, pairs, tables, texts, Random};
 use reading::names::{self, check_names, find_line, lines};
-use reading::printed::{entry_line, item_lines, listing_lines, why_lines};
+use reading::printed::{entry_line, item_lines, listing_lines, position_lines, why_lines};
 use reading::vectors::{self, hex, to_hex, Call, Line};
 use reading::why::why;
 use reading::{
@@ -574,6 +575,30 @@ const PAIRS: [(&str, &str); 10] = [
     ("81 6161 00", "81 6140"),
 ];
 
+/// What a program says of two files that are no two, or cannot be read.
+fn compare_file_errors(
+    program: &Program,
+    files: &Files,
+    command: &str,
+    good: &str,
+    refused: &str,
+) -> Result<(), String> {
+    let usage = format!("usage: gate {command} FILE FILE\n");
+    for arguments in [&[][..], &[good], &[good, good, good], &[good, good, ""]] {
+        program.compare(arguments, b"", Printed::error(usage.clone()))?;
+    }
+    // Nothing is answered, not even for a first file that is refused.
+    let missing: &str = &files.path("missing")?;
+    let error = format!("{missing}: No such file or directory\n");
+    for arguments in [[missing, good], [good, missing], [refused, missing], [missing, "/"]] {
+        program.compare(&arguments, b"", Printed::error(error.clone()))?;
+    }
+    for arguments in [["/", good], [good, "/"], ["/", missing]] {
+        program.compare(&arguments, b"", Printed::error("/: Is a directory\n"))?;
+    }
+    Ok(())
+}
+
 /// "same" or "different"; or the refusal, and which file it is of on standard error.
 fn same_lines(first: &[u8], second: &[u8], files: &[String; 2]) -> Printed {
     match same(first, second, &LIMITS) {
@@ -638,23 +663,110 @@ fn compare_same(program: &Program, random: &mut Random) -> Result<String, String
     let due =
         Printed { error: format!("{refused}\n").into_bytes(), out: b"refused 13 1\n".to_vec() };
     program.compare(&[refused, refused], b"", due)?;
-    for arguments in [&[][..], &[ari], &[ari, ari, ari], &[ari, ari, ""]] {
-        program.compare(arguments, b"", Printed::error("usage: gate same FILE FILE\n"))?;
-    }
-    // Nothing is answered, not even for a first file that is refused.
-    let missing: &str = &files.path("missing")?;
-    let error = format!("{missing}: No such file or directory\n");
-    for arguments in [[missing, ari], [ari, missing], [refused, missing], [missing, "/"]] {
-        program.compare(&arguments, b"", Printed::error(error.clone()))?;
-    }
-    for arguments in [["/", ari], [ari, "/"], ["/", missing]] {
-        program.compare(&arguments, b"", Printed::error("/: Is a directory\n"))?;
-    }
+    compare_file_errors(program, &files, "same", ari, refused)?;
     let made = pairs.len() - fixed;
     let [alike, different, of_first, of_second] = answers;
     Ok(format!(
         "{fixed} fixed and {made} made pairs: {alike} the same, {different} different, {of_first} \
          refused for the first and {of_second} for the second"
+    ))
+}
+
+/// Messages by hand: equal, the same in other letters, heads and sets, with a changed item in
+/// each of the places of a target and of a report, in another order, longer, without targets.
+const MESSAGES: [(&str, &str); 14] = [
+    ("01", "01 82 14 81 f6"),
+    ("01 82 14 82 f6 83 6161 20 00", "1801 82 14 82 00 9803 6141 3800 1800"),
+    (
+        "01 82 14 83 f6 83 00 20 00 83 00 20 01",
+        "01 82 14 82 f6 83 00 20 00 82 14 82 f6 83 00 20 01",
+    ),
+    ("01 82 14 82 f6 83 00 20 00", "01 82 14 82 f6 83 01 20 00"),
+    ("01 82 14 82 f6 83 00 20 00", "01 82 14 81 f6 82 14 82 f6 83 00 21 00"),
+    ("01 82 14 82 f6 83 00 20 00", "01 82 15 83 f6 00 82 00 83 00 20 00"),
+    ("01 82 14 82 f6 84 00 20 00 81 82 0e 6161", "01 82 14 82 f6 84 00 20 00 81 82 0e 6141"),
+    ("01 82 14 82 f6 84 00 20 00 81 f93c00", "01 82 14 82 f6 84 00 20 00 81 fa3f800001"),
+    ("01 82 15 83 f6 00 83 00 83 00 20 00 40", "01 82 15 83 f6 01 83 00 83 00 20 00 60"),
+    ("01 82 14 83 f6 83 00 20 00 83 00 20 01", "01 82 14 83 f6 83 00 20 01 83 00 20 00"),
+    ("01 82 14 83 f6 83 00 20 00 83 00 20 01", "01 82 14 82 f6 83 00 20 00"),
+    ("02", "01 82 14 80"),
+    ("01", "02"),
+    ("01 82 14 82 f6 83 00 20 00", "83 00 20 00"),
+];
+
+/// A line for each position; or the refusal, and which file it is of on standard error.
+fn compared_lines(first: &[u8], second: &[u8], files: &[String; 2]) -> Printed {
+    match (compare(first, second, &LIMITS), items_message(first), items_message(second)) {
+        (Ok(positions), Ok(ones), Ok(twos)) => {
+            Printed::out(position_lines(&ones, &twos, &positions))
+        }
+        (Err(refusal), ones, _) => {
+            let file = &files[usize::from(ones.is_ok())];
+            Printed { error: format!("{file}\n").into_bytes(), ..line(refusal) }
+        }
+        _ => panic!("compared, but refused"),
+    }
+}
+
+fn compare_messages(program: &Program, random: &mut Random) -> Result<String, String> {
+    let files = Files::new()?;
+    let mut pairs = MESSAGES.map(|(first, second)| (hex(first), hex(second))).to_vec();
+    // Files that are longer than what is read of them.
+    pairs.push((vec![1; 4 * LIMITS.bytes], hex("01")));
+    pairs.push((hex("01"), vec![1; LIMITS.bytes + 2]));
+    // Each beside one that is made of it, or beside the last one that was accepted before.
+    let mut before = hex("01");
+    for input in fixed(Call::Message) {
+        let other = match items_message(&input) {
+            Ok(_) => {
+                before = input.clone();
+                pairs::beside(random, &input)
+            }
+            Err(_) => before.clone(),
+        };
+        pairs.push(if random.chance(50) { (input, other) } else { (other, input) });
+    }
+    let fixed = pairs.len();
+    for first in made_messages(random, 1_000) {
+        // Those at full width may be too long.
+        let mut second = match items_message(&first).is_ok() && random.chance(90) {
+            true => pairs::beside(random, &first),
+            false => first.clone(),
+        };
+        if random.chance(10) {
+            generate::damage(random, &mut second, &[], &first);
+        }
+        pairs.push(if random.chance(50) { (first, second) } else { (second, first) });
+    }
+    // Those without a difference, and those refused for the first and for the second.
+    let (mut none, mut refused) = (0, [0; 2]);
+    let mut positions = [0; 4];
+    for (first, second) in &pairs {
+        let paths = [files.put("first", first)?, files.put("second", second)?];
+        let due = compared_lines(first, second, &paths);
+        let words = String::from_utf8_lossy(&due.out);
+        if due.error.is_empty() {
+            let count = |word: &str| words.lines().filter(|line| line.contains(word)).count();
+            let all = ["same", "changed", "only first", "only second"].map(count);
+            none += usize::from(all[1..] == [0; 3]);
+            (0..4).for_each(|k| positions[k] += all[k]);
+        } else {
+            refused[usize::from(due.error.ends_with(b"second\n"))] += 1;
+        }
+        let contents = |words| format!("{words}\nfiles: {}, {}", to_hex(first), to_hex(second));
+        program.compare(&strings(&paths), b"", due).map_err(contents)?;
+    }
+    let [message, wrong]: [&str; 2] = [&files.put("message", &[1])?, &files.put("wrong", &[2])?];
+    program.compare(&[message, message], b"", Printed::out(""))?;
+    let due = Printed { error: format!("{wrong}\n").into_bytes(), out: b"refused 8 0\n".to_vec() };
+    program.compare(&[wrong, wrong], b"", due)?;
+    compare_file_errors(program, &files, "compare", message, wrong)?;
+    let made = pairs.len() - fixed;
+    let [of_first, of_second] = refused;
+    Ok(format!(
+        "{fixed} fixed and {made} made pairs: {none} without a difference, positions same, \
+         changed, only in the first and only in the second {positions:?}, {of_first} refused for \
+         the first and {of_second} for the second"
     ))
 }
 
@@ -677,11 +789,13 @@ fn main() -> ExitCode {
         "release" => Some(compare_released as _),
         "why" => Some(compare_why as _),
         "same" => Some(compare_same as _),
+        "compare" => Some(compare_messages as _),
         _ => None,
     });
     let (Some(seed), Some((command, program)), Some(compare)) = (seed, known, compare) else {
         eprintln!(
-            "usage: programs list|items|stream|text|table|names|release|why|same PROGRAM [--seed S]"
+            "usage: programs list|items|stream|text|table|names|release|why|same|compare PROGRAM \
+             [--seed S]"
         );
         return ExitCode::FAILURE;
     };

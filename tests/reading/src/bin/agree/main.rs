@@ -2,7 +2,8 @@
 //! reading's: on inputs from the grammar, near the limits, damaged and random,
 //! with tables that grant most of what is named, and rooms from none to enough;
 //! day files of both versions, whole and damaged; messages that nest down to the reference
-//! by which they are held; pairs of ARIs, most of them alike; and messages that are fed in fragments.
+//! by which they are held; pairs of ARIs, most of them alike, and of messages that differ in
+//! a few places; and messages that are fed in fragments.
 //!
 //! `agree [--count N] [--seed S]`: N inputs in all (200,000), for each function
 //! that the archive has the same number, the stream's three counted as one; the
@@ -10,6 +11,7 @@
 
 mod day;
 mod lent;
+mod messages;
 mod same;
 mod stream;
 mod tally;
@@ -20,9 +22,10 @@ use std::time::{Instant, SystemTime, UNIX_EPOCH};
 
 use lent::Lent;
 use reading::archive::{self, packed, packed_plain, packed_release, packed_written, unpacked};
-use reading::archive::{packed_added, packed_low, packed_part, packed_why};
+use reading::archive::{packed_added, packed_compared, packed_low, packed_part, packed_why};
+use reading::compare::POSITION;
 use reading::day::{form_of, FOUND};
-use reading::generate::{self, days, names, nests, tables, texts, Random, Settings};
+use reading::generate::{self, days, names, nests, pairs, tables, texts, Random, Settings};
 use reading::vectors::to_hex;
 use reading::{Entry, Namespace, Record, Written, ENTRY, LIMITS};
 use tally::Column;
@@ -45,6 +48,7 @@ enum Call {
     Why,
     Same,
     DayUpgrade,
+    Compare,
 }
 
 /// What a call is lent. Most use only a part of it.
@@ -53,7 +57,7 @@ struct Case {
     /// The message, the single ARI, the text or the day file.
     input: Vec<u8>,
     /// The message to be added to a day file, the name whose number is wanted, or the second
-    /// of two ARIs.
+    /// of two ARIs or messages.
     other: Vec<u8>,
     table: Vec<u8>,
     /// The published list of names and the subscriber's own.
@@ -67,7 +71,7 @@ struct Case {
 
 impl Call {
     /// In the order of the archive's declarations.
-    const ALL: [Call; 16] = [
+    const ALL: [Call; 17] = [
         Call::Single,
         Call::Message,
         Call::List,
@@ -84,6 +88,7 @@ impl Call {
         Call::Why,
         Call::Same,
         Call::DayUpgrade,
+        Call::Compare,
     ];
 
     fn function(self) -> &'static str {
@@ -109,6 +114,7 @@ impl Call {
             Call::Why => (0..=12).chain([16, 18, 19, archive::NO]).collect(),
             Call::Same => (0..=7).chain(9..=13).collect(),
             Call::DayUpgrade => vec![0, 16, 20, 21, 22],
+            Call::Compare => (0..=12).chain([16]).collect(),
         }
     }
 
@@ -152,6 +158,10 @@ impl Call {
             }
             Call::Same => packed_low(reading::same(input, other, &LIMITS).map(usize::from)),
             Call::DayUpgrade => packed_added(reading::day::upgrade(input, room)),
+            Call::Compare => {
+                let list = messages::answer(case);
+                packed_compared(list.and_then(|list| reading::compare::write(&list, room)))
+            }
         }
     }
 
@@ -179,6 +189,7 @@ impl Call {
             Call::Why => archive::why(input, table, published, own, number, room),
             Call::Same => archive::same(input, other),
             Call::DayUpgrade => archive::day_upgrade(input, room),
+            Call::Compare => archive::compare(input, other, room),
         }
     }
 
@@ -262,6 +273,7 @@ impl Call {
         let mut input = self.whole(random);
         let damaged = match self {
             Call::Single | Call::Message => 55,
+            Call::Compare => 10,
             _ => 25,
         };
         if random.chance(damaged) {
@@ -293,6 +305,27 @@ impl Call {
                 generate::rewritten(random, &like, 0, heads)
             }
             _ => generate::rewritten(random, input, letters, heads),
+        }
+    }
+
+    /// Two messages: the second most often a few changes of the first, and then a few damaged.
+    fn beside(self, random: &mut Random) -> (Vec<u8>, Vec<u8>) {
+        let first = self.binary(random);
+        if reading::items_message(&first).is_err() || random.chance(8) {
+            let second = self.binary(random);
+            return (first, second);
+        }
+        let mut second = match random.chance(5) {
+            true => first.clone(),
+            false => pairs::beside(random, &first),
+        };
+        if random.chance(8) {
+            let records = self.records(&second);
+            generate::damage(random, &mut second, &records, &first);
+        }
+        match random.chance(50) {
+            true => (first, second),
+            false => (second, first),
         }
     }
 
@@ -361,12 +394,14 @@ impl Call {
                 case.input = self.binary(random);
                 case.other = self.like(random, &case.input);
             }
+            Call::Compare => (case.input, case.other) = self.beside(random),
             _ => case.input = self.binary(random),
         }
         // The size of what test 16 counts.
         let size = match self {
             Call::List => ENTRY,
             Call::DaySearch => FOUND,
+            Call::Compare => POSITION,
             Call::Write | Call::Read | Call::DayAdd | Call::Why | Call::DayUpgrade => 1,
             Call::Release | Call::Number => {
                 case.room = random.word().to_ne_bytes().to_vec();
@@ -496,6 +531,7 @@ struct Tally {
     days: day::Tally,
     whys: why::Tally,
     pairs: same::Tally,
+    messages: messages::Tally,
 }
 
 impl Tally {
@@ -513,6 +549,7 @@ impl Tally {
             days: day::Tally::default(),
             whys: why::Tally::default(),
             pairs: same::Tally::default(),
+            messages: messages::Tally::default(),
         }
     }
 
@@ -521,6 +558,7 @@ impl Tally {
         match call {
             Call::Why => self.whys.add(case, answer),
             Call::Same => self.pairs.add(case, answer),
+            Call::Compare => self.messages.add(case, answer),
             _ => (),
         }
         for (_, column) in self.answers.iter_mut().filter(|(of, _)| *of == call) {
@@ -644,6 +682,17 @@ fn main() -> ExitCode {
             }
         }
     }
+    if calls.contains(&Call::Compare) {
+        match messages::compare_limits().and_then(|at| Ok((at, messages::compare_small()?))) {
+            Ok((at, small)) => {
+                println!("pairs of messages at the limits: {at}, small ones {small}")
+            }
+            Err(words) => {
+                println!("DISAGREE at the pairs of messages: {words}");
+                return ExitCode::FAILURE;
+            }
+        }
+    }
     if with_stream {
         let messages = count.div_ceil(500).min(400) as usize;
         if let Err(words) = stream::compare_prefixes(&mut Random::new(seed), messages, &mut streams)
@@ -659,11 +708,13 @@ fn main() -> ExitCode {
     }
     let with_days = day::CALLS.iter().all(|call| calls.contains(call));
     let (with_why, with_same) = (calls.contains(&Call::Why), calls.contains(&Call::Same));
+    let with_compare = calls.contains(&Call::Compare);
     let complete = tally::print(&columns)
         && (!with_stream || streams.is_complete())
         && (!with_days || tally.days.is_complete())
         && (!with_why || tally.whys.is_complete())
-        && (!with_same || tally.pairs.is_complete());
+        && (!with_same || tally.pairs.is_complete())
+        && (!with_compare || tally.messages.is_complete());
     println!(
         "refused at byte 16 or later {}, entries listed {}, yes with references {}, with names \
          {}, no past entry 0 {}, texts read back {}",
@@ -677,6 +728,9 @@ fn main() -> ExitCode {
     }
     if with_same {
         println!("{}", tally.pairs);
+    }
+    if with_compare {
+        println!("{}", tally.messages);
     }
     if with_stream {
         println!("{streams}");
