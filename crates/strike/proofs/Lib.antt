@@ -1,0 +1,9 @@
+pub mod Runs
+pub mod Sets
+pub mod Cutting
+pub mod Seeking
+pub mod Clearing
+pub mod Parts
+pub mod Striking
+pub mod Behind
+pub mod Ways

@@ -1,0 +1,2 @@
+pub mod Strike
+pub mod Code
