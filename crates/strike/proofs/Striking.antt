@@ -80,7 +80,7 @@ module _ {m : Limits} {b : List ℕ} {n : ℕ} (c : Is m Message b (decode b) n)
   pub its-spots : spotsOf Message (decode b) ≡ spotAt version 0 0 (x .lead) (x .str) none ∷ spots (x .sets) true done (setsPlace x) 0
   its-spots = ap (spotsOf Message) (x .whole) ∙ sent-spots (x .lead) (x .str) (x .sets)
 
-  sets-clear : All Clear (spots (x .sets) true done (setsPlace x) 0)
+  pub sets-clear : All Clear (spots (x .sets) true done (setsPlace x) 0)
   sets-clear = go (rw its-spots at (all-clear c))
     where
       go : All Clear (spotAt version 0 0 (x .lead) (x .str) none ∷ spots (x .sets) true done (setsPlace x) 0) → All Clear (spots (x .sets) true done (setsPlace x) 0)
@@ -119,7 +119,7 @@ module _ {m : Limits} {b : List ℕ} {n : ℕ} (c : Is m Message b (decode b) n)
     its-cut = ap (seek k 0 noSpot 0) its-spots ∙ seek-cut parts p noSpot 1 sets-clear
 
     -- the tree
-    struck-is : struck k (decode b) ≡ item (x .lead) (x .str) none (struckSets k (x .sets))
+    pub struck-is : struck k (decode b) ≡ item (x .lead) (x .str) none (struckSets k (x .sets))
     struck-is = ap (struck k) (x .whole)
 
     pub struck-stands : Stands Message (struck k (decode b))

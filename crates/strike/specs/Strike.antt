@@ -1,10 +1,10 @@
--- A message without one of its targets or reports: R202 to R207. Interface: all of it. Over the tree it is `struck`; over the bytes it is `cutBytes`, and
--- that both say the same is a theorem, `by-bytes`.
+-- A message without one of its targets or reports: R202, R203, R207. Interface: all of it. Over the tree it is `struck`; over the bytes it is `cutBytes`, and
+-- that both say the same is a theorem (crate `struck_messages`).
 use Prim.Native.Nat.{ℕ, zero, suc, _+_, _-_}
-use mathlib.Core.Bool.{Bool, not, _&&_, cond}
+use mathlib.Core.Bool.{cond}
 use mathlib.Core.List.{List, [], _∷_, _++_}
 use lib.ListN.{length, take, drop}
-use lib.Dec.{ltb, leb, eqb}
+use lib.Dec.{ltb, eqb}
 use Rattle.buffer.specs.Bytes.{part}
 use Rattle.cbor.specs.Head.{array, Lead, size, leadBytes, leadOf}
 use Rattle.ari.specs.declared.Limits.{Limits}
@@ -14,7 +14,6 @@ use Rattle.ari.specs.Reader as reader
 use Rattle.ari.specs.Items.{Items, none, item, encode, heads, Spot, spotsOf}
 use Rattle.ari.specs.Decode.{decode}
 use Rattle.ari.specs.Targets.{isTarget, targets}
-use Rattle.ari.specs.Listing.{Space, number, name, relative, Entry}
 use Rattle.item_table.specs.Entries.{noSpot}
 use Rattle.strike.specs.declared.Struck.{Struck}
 use Rattle.strike.specs.declared.Struck.the-variants as answers
@@ -91,32 +90,6 @@ headEnd c = c .inner .first + size (c .inner .lead)
 -- R203: what stands before the inner array's head, the new head, what stands between the old head and the struck part, and what stands behind it
 unfoldable pub cutBytes : List ℕ → Cut → List ℕ
 cutBytes b c = take (c .inner .first) b ++ (leadBytes (shorter (c .inner .lead)) ++ (part b (headEnd c) (c .struck .first) ++ drop (c .struck .after) b))
-
--- R205: the bytes removed before a place: those by which the head is shorter, and the struck part
-abbrev pub removed : Cut → ℕ → ℕ
-removed c p =
-    cond (leb (headEnd c) p) (size (c .inner .lead) - size (shorter (c .inner .lead))) 0
-    + cond (leb (c .struck .after) p) (c .struck .after - c .struck .first) 0
-
-abbrev pub moved : Cut → ℕ → ℕ
-moved c p = p - removed c p
-
-abbrev pub movedSpace : Cut → Space → Space
-movedSpace c (number z) = number z
-movedSpace c (name p s) = name (moved c p) s
-movedSpace c relative = relative
-
-abbrev pub movedEntry : Cut → Entry → Entry
-movedEntry c e = record { first = moved c (e .first); after = moved c (e .after); space = movedSpace c (e .space) }
-
--- R205: an entry inside the struck part
-abbrev pub isInside : Cut → Entry → Bool
-isInside c e = leb (c .struck .first) (e .first) && leb (e .after) (c .struck .after)
-
--- the entries that stay
-abbrev pub staying : Cut → List Entry → List Entry
-staying c [] = []
-staying c (e ∷ es) = let r = staying c es in cond (isInside c e) r (e ∷ r)
 
 -- R207: the message's refusal, 27 with the count of targets and reports, 16 with the bytes needed, or the items and bytes of the shorter message
 abbrev pub strikeBy : reader.Answer → ℕ → List ℕ → ℕ → Struck

@@ -1,0 +1,4 @@
+pub mod Moves
+pub mod Shorter
+pub mod Kept
+pub mod StruckDemand

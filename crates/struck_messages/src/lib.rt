@@ -1,0 +1,1 @@
+// The theorems about struck messages: no function of its own.
