@@ -1,6 +1,7 @@
 /* Surfbodkin: a gate that reads AMP messages, whole or as a link delivers them, and
    ARIs, lists the references in a message, says whether a subscriber's grants cover
-   them and why not, and keeps the messages of a day in one file.
+   them and why not, takes a target out of it, and keeps the messages of a day in one
+   file.
 
    To use it, link with libsurfbodkin.a (x86-64), which rt staticlib surfbodkin builds
    as target/staticlib/libsurfbodkin.a:
@@ -28,7 +29,7 @@
    ANSWERS are one uint64_t. Its top byte tells which:
 
      0          accepted; released; the table passes; the stream goes on
-     1 to 23    refused, by the test of that number (see enum surfbodkin_test);
+     1 to 27    refused, by the test of that number (see enum surfbodkin_test);
                 the other 56 bits are the place, or another number, that goes with it
      255        held back (release's no); the other 56 bits are the entry. Why
                 puts more beside it
@@ -106,6 +107,8 @@ enum surfbodkin_test {
   SURFBODKIN_DAY_TABLE = 21,          /* day file; place: an entry of its table */
   SURFBODKIN_DAY_MESSAGE = 22,        /* day file; place: a message's number */
   SURFBODKIN_DAY_FULL = 23,           /* no room in a day file; place 0 */
+  SURFBODKIN_NO_TARGET = 27,          /* no target or report of that number; place:
+                                         their count */
   SURFBODKIN_HELD = 255               /* not released; place: an entry */
 };
 
@@ -259,6 +262,19 @@ uint64_t surfbodkin_why(const uint8_t *message, size_t length,
                         const uint8_t *published, size_t published_length,
                         const uint8_t *own, size_t own_length,
                         uint64_t subscriber, uint8_t *out, size_t out_length);
+
+/* Writes a message without one of its targets or reports, which are numbered from 0
+   through all its sets. The array that held it has one member fewer, and its head is the
+   shortest for that; all other bytes stay as they are. The shorter message is accepted,
+   and released for whomever the longer one was; with `out` as the next message, more
+   can be struck.
+     accepted   count: the shorter message's items; low: its bytes
+     refused    1 to 12 as check_message
+                27, place: the number of targets and reports, if there is no such one
+                16, place: the bytes of the shorter message, if `out` has fewer.
+                `length` bytes always suffice */
+uint64_t surfbodkin_strike(const uint8_t *message, size_t length, uint64_t number,
+                           uint8_t *out, size_t out_length);
 
 /* A DAY FILE holds the messages that were released on one day: the messages back to
    back from byte 0, then a table with the first byte of each, then a trailer of 8

@@ -1,4 +1,4 @@
--- Answers as one number: R114 to R119; of the day file, R154 to R164; of a name, R142; of two ARIs, R188; of two messages, R200. Interface: all of it.
+-- Answers as one number: R114 to R119; of the day file, R154 to R164; of a name, R142; of two ARIs, R188; of two messages, R200; of a struck message, R207. Interface: all of it.
 use Prim.Native.Nat.{ℕ, _+_, _-_, _*_, _^_, min}
 use mathlib.Core.Path.{_≡_}
 use mathlib.Core.List.{List}
@@ -15,6 +15,8 @@ use Rattle.sameness.specs.declared.Sameness.{Sameness}
 use Rattle.sameness.specs.declared.Sameness.the-variants as sameness
 use Rattle.comparison.specs.declared.Compared.{Compared}
 use Rattle.comparison.specs.declared.Compared.the-variants as compared
+use Rattle.strike.specs.declared.Struck.{Struck}
+use Rattle.strike.specs.declared.Struck.the-variants as strikes
 use Rattle.names.specs.declared.Names.{Names}
 use Rattle.names.specs.declared.Names.the-variants.{Passes}
 use Rattle.names.specs.declared.Names.the-variants as names
@@ -142,3 +144,8 @@ searchCode (searched.Entries k) = countCode 0 k
 abbrev pub addCode : Added → ℕ
 addCode (added.Refused r p) = refusalCode r p
 addCode (added.File n k) = countCode n k
+
+-- R207: the shorter message's items and bytes
+abbrev pub strikeCode : Struck → ℕ
+strikeCode (strikes.Refused r p) = refusalCode r p
+strikeCode (strikes.Message n k) = countCode n k

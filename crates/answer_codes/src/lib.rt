@@ -4,7 +4,7 @@ ghost use Prim.Native.Nat.{_-_};
 ghost use Rattle.grants.specs.Verdict.{checkOf};
 ghost use Rattle.release.specs.Release.{answerOf as releasedOf};
 ghost use Rattle.release.specs.Compared.{countAfter};
-ghost use Rattle.answer_codes.specs.Code.{refusalCode, countCode, checkCode, listCode, tableCode, releaseCode, heldCode, whyCode, textCode, fedCode, sameCode, compareCode, namesCode, numberCode, numberAfter, dayCode, findCode, addCode, searchCode};
+ghost use Rattle.answer_codes.specs.Code.{refusalCode, countCode, checkCode, listCode, tableCode, releaseCode, heldCode, whyCode, textCode, fedCode, sameCode, compareCode, namesCode, numberCode, numberAfter, dayCode, findCode, addCode, searchCode, strikeCode};
 use buffer::Number;
 use comparison::Compared;
 use day_file::Added;
@@ -18,6 +18,7 @@ use reader::Answer;
 use release::Released;
 use sameness::Sameness;
 use stream::Fed;
+use strike::Struck;
 use text_write::Written;
 use why_held::Outcome;
 
@@ -221,5 +222,14 @@ pub fn search_code(a: Searched) -> u64
     match a {
         Searched::Entries(found) => count_code(0, found),
         Searched::Refused { number, place } => refusal_code(number, place as u64),
+    }
+}
+
+pub fn strike_code(a: Struck) -> u64
+    ensures { λ r. ⌜ r ≡ strikeCode a ⌝ }
+{
+    match a {
+        Struck::Message { items, bytes } => count_code(items, bytes),
+        Struck::Refused { number, place } => refusal_code(number, place as u64),
     }
 }

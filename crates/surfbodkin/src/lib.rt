@@ -8,6 +8,7 @@ ghost use Rattle.ari.specs.Limits.{gateLimits};
 ghost use Rattle.reader.specs.Answers.{answerOf};
 ghost use Rattle.sameness.specs.Sameness.{sameness};
 ghost use Rattle.comparison.specs.Comparison.{comparison, compareMessages, roomAfter as comparedIn};
+ghost use Rattle.strike.specs.Strike.{struckBytes, strike, roomAfter as struckIn};
 ghost use Rattle.names.specs.Names.{checkNames, numberFor};
 ghost use Rattle.day_file.specs.Day.{checkDay, findDay, addDay, withMessage, roomAfter as fileIn};
 ghost use Rattle.day_file.specs.Versions.{formatOf, limitsOf};
@@ -21,7 +22,7 @@ ghost use Rattle.release.specs.Compared.{countAfter, countedBytes};
 ghost use Rattle.why_held.specs.Why.{why, outcomeIn, whyRoom};
 ghost use Rattle.text.specs.Answer.{writeText, readText, lent};
 ghost use Rattle.text_write.specs.Written.{writtenOf, roomAfter};
-ghost use Rattle.answer_codes.specs.Code.{checkCode, listCode, tableCode, releaseCode, whyCode, textCode, OpensAs, FeedsAs, ClosesAs, sameCode, compareCode, namesCode, numberCode, numberAfter, dayCode, findCode, addCode, searchCode};
+ghost use Rattle.answer_codes.specs.Code.{checkCode, listCode, tableCode, releaseCode, whyCode, textCode, OpensAs, FeedsAs, ClosesAs, sameCode, compareCode, namesCode, numberCode, numberAfter, dayCode, findCode, addCode, searchCode, strikeCode};
 
 #[no_mangle]
 pub extern "C" fn surfbodkin_check_single(input: &[u8]) -> u64
@@ -227,4 +228,12 @@ pub extern "C" fn surfbodkin_day_upgrade(file: &[u8], out: &mut [u8]) -> u64
     ensures { λ r. ⌜ now (out .exit) ≡ fileIn (upgradeDay (now (file .entry)) (length (now (out .entry)))) (upgraded (now (file .entry))) (now (out .entry)) ⌝ }
 {
     answer_codes::add_code(day_upgrade::upgrade(file, out))
+}
+
+#[no_mangle]
+pub extern "C" fn surfbodkin_strike(message: &[u8], number: u64, out: &mut [u8]) -> u64
+    ensures { λ r. ⌜ r ≡ strikeCode (strike gateLimits number (now (message .entry)) (length (now (out .entry)))) ⌝ }
+    ensures { λ r. ⌜ now (out .exit) ≡ struckIn (strike gateLimits number (now (message .entry)) (length (now (out .entry)))) (struckBytes number (now (message .entry))) (now (out .entry)) ⌝ }
+{
+    answer_codes::strike_code(strike::strike_message(message, number as usize, out))
 }
