@@ -1,13 +1,12 @@
 -- Nothing inside a target or report of a message is one. The idea: it would have two numbers, its own and that of the one around it.
-use Prim.Native.Nat.{ℕ, zero, suc, _+_, _≤_, _<_}
-use mathlib.Core.Path.{_≡_, refl, sym, _∙_, ap, subst}
-use mathlib.Core.Logic.{_⊎_, inl, inr}
-use mathlib.Core.Bool.{Bool, true, false, cond}
-use mathlib.Core.List.{List, [], _∷_, _++_, List·Memᴰ, List·Memᴰ·head, List·Memᴰ·tail, Memᴰ·append-left, Memᴰ·append-right}
+use Prim.Native.Nat.{ℕ, suc, _+_, _<_}
+use mathlib.Core.Path.{_≡_, refl, sym, _∙_, ap}
+use mathlib.Core.Logic.{inl, inr}
+use mathlib.Core.Bool.{Bool, true, false}
+use mathlib.Core.List.{List, _∷_, List·Memᴰ, List·Memᴰ·head, List·Memᴰ·tail, Memᴰ·append-left, Memᴰ·append-right}
 use native.Mathlib.Omega.{arith}
 use lib.ListN.{length, getD}
-use Rattle.cbor.specs.Head.{Lead}
-use Rattle.ari.specs.Table.{message, Slot, ari, Level, done, due, rule, members}
+use Rattle.ari.specs.Table.{message, ari, Level, done, due, rule, members}
 use Rattle.ari.specs.declared.Limits.{Limits}
 use Rattle.ari.specs.declared.Input.the-variants.{Message}
 use Rattle.ari.specs.declared.Target.{Target}
@@ -15,7 +14,7 @@ use Rattle.ari.specs.declared.Target.the-variants.{None, Number}
 use Rattle.ari.specs.Items.{Items, none, item, encode, Spot, insideAt, spotAt, spots, spotsOf}
 use Rattle.ari.specs.Table.{version}
 use Rattle.ari.specs.Rules.{Is}
-use Rattle.ari.specs.Targets.{isTarget, targets, targetOf}
+use Rattle.ari.specs.Targets.{isTarget, targets}
 use Rattle.ari.proofs.Spots.{All, no-spot, spot-too, all-append, all-map, Between}
 use Rattle.ari.proofs.Members.{within, all-mems, all-of}
 use Rattle.ari.proofs.Targets.{Lies, numbered}

@@ -1,25 +1,22 @@
 -- A message that is cut. The idea: its sets fall into those before the struck one, that one and those behind it; its targets or reports into those before
 -- the struck one, that one and those behind it. So old and new bytes, and old and new items, are said part by part.
-use Prim.Native.Nat.{ℕ, zero, suc, _+_, _-_, _≤_, _<_}
-use mathlib.Core.Path.{_≡_, refl, sym, _∙_, ap}
-use mathlib.Core.Bool.{Bool, true, false, cond}
-use mathlib.Core.List.{List, [], _∷_, _++_, append-assoc}
+use Prim.Native.Nat.{ℕ, _+_, _-_, _≤_, _<_}
+use mathlib.Core.Path.{_≡_, refl, _∙_, ap}
+use mathlib.Core.Bool.{Bool, true, false}
+use mathlib.Core.List.{List, _∷_, _++_, append-assoc}
 use native.Mathlib.Omega.{arith}
-use lib.ListN.{length, length-append}
-use lib.Dec.{ltb, eqb}
-use borrow.Author.Tests.{ltb-true, ltb-false, ne-eqb, eq-eqb}
-use Rattle.cbor.specs.Head.{array, Lead, leadOf}
-use Rattle.ari.specs.Table.{Place, message, Slot, ari, type, value, Level, done, due, rule, members}
+use lib.ListN.{length}
+use lib.Dec.{ltb}
+use borrow.Author.Tests.{ltb-true, ltb-false}
+use Rattle.cbor.specs.Head.{array, Lead}
+use Rattle.ari.specs.Table.{Place, message, ari, type, value, done, rule}
 use Rattle.ari.specs.Items.{Items, none, item, encode, Spot, insideAt, spotAt, spots}
-use Rattle.ari.specs.Rules.{Ari, Sets, no-more, set}
-use Rattle.ari.specs.Targets.{isTarget}
+use Rattle.ari.specs.Rules.{Sets, no-more, set}
 use Rattle.ari.proofs.Join.{join}
 use Rattle.ari.proofs.Well.{trees}
-use Rattle.ari.proofs.Spots.{All, no-spot, spot-too, all-append, all-map}
-use Rattle.ari.proofs.Members.{within}
-use Rattle.strike.specs.Strike.{without, framing, shorter, countIn, struckSet, struckSets, Sought, cut, missing, seek}
-use Rattle.strike.proofs.Runs.{run, behind, run-join, sets-join, deep, Split, split-at, without-join}
-use Rattle.strike.proofs.Sets.{Frame, Inner, Set, set-of}
+use Rattle.strike.specs.Strike.{without, framing, shorter, countIn, struckSet, struckSets}
+use Rattle.strike.proofs.Runs.{run, behind, Split, split-at, without-join}
+use Rattle.strike.proofs.Sets.{Set, set-of}
 
 -- how many targets and reports sets have
 abbrev pub setCount : Items → ℕ

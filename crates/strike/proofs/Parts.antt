@@ -1,24 +1,23 @@
 -- A message's sets that are cut, part by part: their items, where they are cut, their bytes, heads and depth.
-use Prim.Native.Nat.{ℕ, zero, suc, _+_, _-_, _≤_, _<_, max}
-use mathlib.Core.Path.{_≡_, refl, sym, _∙_, ap}
+use Prim.Native.Nat.{ℕ, suc, _+_, _-_, _≤_, max}
+use mathlib.Core.Path.{_≡_, refl, _∙_, ap}
 use mathlib.Core.Bool.{Bool, true, false, cond}
 use mathlib.Core.List.{List, [], _∷_, _++_, append-assoc, append-nil}
 use native.Mathlib.Omega.{arith}
 use lib.ListN.{length, length-append}
-use borrow.Author.Tests.{ne-eqb, eq-eqb}
-use Rattle.cbor.specs.Head.{array, Lead, size, leadBytes, leadOf, isContainer}
+use borrow.Author.Tests.{eq-eqb}
+use Rattle.cbor.specs.Head.{array, Lead, leadBytes, leadOf, isContainer}
 use Rattle.cbor.proofs.HeadLaws.{length-lead}
-use Rattle.ari.specs.Table.{message, Slot, ari, done, rule, members}
-use Rattle.ari.specs.Items.{Items, none, item, encode, heads, depth, Spot, insideAt, spotAt, spots}
-use Rattle.ari.specs.Targets.{isTarget}
+use Rattle.ari.specs.Table.{done}
+use Rattle.ari.specs.Items.{Items, none, item, encode, heads, depth, Spot, spotAt, spots}
 use Rattle.ari.proofs.Join.{join, encode-join, heads-join}
 use Rattle.ari.proofs.Well.{trees}
-use Rattle.ari.proofs.Spots.{All, no-spot, spot-too, all-append, all-map}
+use Rattle.ari.proofs.Spots.{All, spot-too, all-append, all-map}
 use Rattle.ari.proofs.Members.{within}
-use Rattle.strike.specs.Strike.{without, framing, shorter, struckSets, Cut, Sought, cut, seek}
-use Rattle.strike.proofs.Runs.{run, behind, run-join, sets-join, bounds, run-bounds, Split, trees-join, depth-join}
-use Rattle.strike.proofs.Sets.{Frame, Inner, Set, shorter-size}
-use Rattle.strike.proofs.Cutting.{setCount, twoOf, set-whole, setSpot, typePlace, typeSpot, innerPlace, innerSpot, framePlace, frameSpots, bodyPlace, bodySpots, set-spots, Cutting}
+use Rattle.strike.specs.Strike.{without, shorter, struckSets, cut, seek}
+use Rattle.strike.proofs.Runs.{run, behind, run-join, sets-join, bounds, run-bounds, depth-join}
+use Rattle.strike.proofs.Sets.{Set}
+use Rattle.strike.proofs.Cutting.{setCount, twoOf, set-whole, setSpot, typeSpot, innerSpot, frameSpots, bodyPlace, bodySpots, Cutting}
 use Rattle.strike.proofs.Seeking.{Clear, all-apart, seek-run, seek-set, seek-sets, behindSet, whole-set}
 
 encode-set : (a : Items) (l : Lead) (s : List ℕ) (l₁ : Lead) (s₁ : List ℕ) (m₁ : Items) (h : Lead) (t : List ℕ) (f u r : Items) → t ≡ []

@@ -1,21 +1,17 @@
 -- Runs of items and their places: a level of one slot, runs joined, how far they reach, and what a run lists at another place.
 use Prim.Native.Nat.{ℕ, zero, suc, _+_, _-_, _≤_, _<_, max}
-use mathlib.Core.Path.{_≡_, refl, sym, _∙_, ap}
+use mathlib.Core.Path.{_≡_, refl, sym, ap}
 use mathlib.Core.Bool.{Bool, true, false, cond}
-use mathlib.Core.List.{List, [], _∷_, _++_, append-assoc, map}
+use mathlib.Core.List.{List, [], _∷_, _++_, append-assoc}
 use native.Mathlib.Omega.{arith}
 use lib.ListN.{length, length-append}
-use lib.Dec.{eqb}
-use Rattle.cbor.specs.Head.{unsigned, negative, text, Lead, isContainer}
+use Rattle.cbor.specs.Head.{Lead, isContainer}
 use Rattle.cbor.proofs.HeadLaws.{length-lead}
-use Rattle.ari.specs.Table.{message, Slot, ari, Level, done, due, many, rule, members, isReference}
+use Rattle.ari.specs.Table.{message, Slot, ari, Level, done, due, many, rule, members}
 use Rattle.ari.specs.Items.{Items, none, item, encode, depth, Spot, insideAt, spotAt, spots}
-use Rattle.ari.specs.Listing.{Space, number, name, relative, Entry, spaceIn, entryOf, referring}
-use Rattle.ari.specs.Targets.{isTarget, targets}
-use Rattle.ari.proofs.Join.{join, encode-join}
+use Rattle.ari.proofs.Join.{join}
 use Rattle.ari.proofs.Well.{trees}
 use Rattle.ari.proofs.Spots.{All, no-spot, spot-too, all-append, all-map, Between}
-use Rattle.ari.proofs.Referring.{referring-append}
 use Rattle.strike.specs.Strike.{without}
 
 -- the items of a level that all stand at one slot

@@ -1,26 +1,25 @@
 -- Where a message is cut, as `seek` finds it. The idea: of a set only its own targets or reports are counted, since nothing inside one of these is one; and
 -- before each of them the last item that lies directly in a set is the inner array.
-use Prim.Native.Nat.{ℕ, zero, suc, _+_, _-_, _≤_, _<_}
+use Prim.Native.Nat.{ℕ, suc, _+_, _-_, _≤_}
 use mathlib.Core.Path.{_≡_, refl, sym, _∙_, ap}
 use mathlib.Core.Bool.{Bool, true, false, cond}
 use mathlib.Core.List.{List, [], _∷_, _++_, append-assoc}
 use native.Mathlib.Omega.{arith}
 use lib.ListN.{length, length-append}
-use lib.Dec.{ltb, eqb}
-use borrow.Author.Tests.{ne-eqb, eq-eqb}
-use Rattle.cbor.specs.Head.{array, Lead, leadOf}
-use Rattle.ari.specs.Table.{message, Slot, ari, done, rule, members}
-use Rattle.ari.specs.Items.{Items, none, item, encode, Spot, insideAt, spotAt, spots}
-use Rattle.ari.specs.Rules.{Ari, Sets, no-more, set}
+use lib.Dec.{eqb}
+use borrow.Author.Tests.{ne-eqb}
+use Rattle.cbor.specs.Head.{Lead}
+use Rattle.ari.specs.Table.{Slot, done, members}
+use Rattle.ari.specs.Items.{Items, none, item, encode, Spot, insideAt, spots}
+use Rattle.ari.specs.Rules.{Sets, no-more, set}
 use Rattle.ari.specs.Targets.{isTarget, targets}
-use Rattle.ari.proofs.Join.{join}
 use Rattle.ari.proofs.Well.{trees}
-use Rattle.ari.proofs.Spots.{All, no-spot, spot-too, all-append, all-map}
+use Rattle.ari.proofs.Spots.{All, no-spot, spot-too, all-map}
 use Rattle.ari.proofs.Members.{within}
-use Rattle.strike.specs.Strike.{without, framing, shorter, countIn, Sought, cut, missing, seek}
-use Rattle.strike.proofs.Runs.{run, sets-join, deep}
-use Rattle.strike.proofs.Sets.{Frame, Inner, Set, set-of}
-use Rattle.strike.proofs.Cutting.{setCount, twoOf, set-whole, set-count, setSpot, typePlace, typeSpot, innerPlace, innerSpot, framePlace, frameSpots, bodyPlace, bodySpots, set-spots}
+use Rattle.strike.specs.Strike.{countIn, seek}
+use Rattle.strike.proofs.Runs.{run, deep}
+use Rattle.strike.proofs.Sets.{Frame, Set, set-of}
+use Rattle.strike.proofs.Cutting.{setCount, twoOf, set-whole, set-count, setSpot, typeSpot, innerSpot, framePlace, frameSpots, bodyPlace, bodySpots, set-spots}
 
 pub all-apart : {P : Spot → Type 0} (xs : List Spot) {ys : List Spot} → All P (xs ++ ys) → All P xs × All P ys
 all-apart [] a = (no-spot, a)

@@ -1,27 +1,27 @@
 -- A set's inner array: what stands before its targets or reports, and these as a run of one slot; one of them may be left out. The idea: EXECSET and RPTSET
 -- differ in what stands before, and in the slot; all else is said once of both.
-use Prim.Native.Nat.{ℕ, zero, suc, _+_, _-_, _≤_, _<_, _^_}
+use Prim.Native.Nat.{ℕ, zero, suc, _+_, _-_, _≤_, _<_}
 use mathlib.Core.Logic.{_⊎_, inl, inr}
-use mathlib.Core.Path.{_≡_, refl, sym, _∙_, ap, subst}
-use mathlib.Core.Bool.{Bool, true, false, not, _&&_, _||_, cond, true≢false}
-use mathlib.Core.List.{List, [], _∷_, _++_, append-assoc, append-nil}
+use mathlib.Core.Path.{_≡_, refl, sym, _∙_, ap}
+use mathlib.Core.Bool.{true, false, _&&_, _||_, true≢false}
+use mathlib.Core.List.{List, [], _∷_, _++_, append-nil}
 use native.Mathlib.Omega.{arith}
-use lib.ListN.{length, length-append}
-use lib.Dec.{ltb, eqb}
-use borrow.Author.Tests.{lt-ltb, le-ltb, eqb-true, eq-eqb, ne-eqb}
+use lib.ListN.{length}
+use lib.Dec.{eqb}
+use borrow.Author.Tests.{eqb-true}
 use Rattle.buffer.specs.Bytes.{within}
 use Rattle.buffer.proofs.ByteLaws.{and-true, or-true, or-nil, within-true}
-use Rattle.cbor.specs.Head.{array, map, Lead, Sound, counted, Carries, itself, after, width, shortest, size, leadOf, isContainer}
-use Rattle.cbor.proofs.HeadLaws.{length-lead, shortest-carries, shortest-least, sound-carries, sound-64, width-small}
-use Rattle.ari.specs.Table.{Place, message, inside, Slot, ari, type, value, nonce, setTime, target, report, Level, done, due, many, rule, fits, members, types, typeRows, valueRows, isReference}
+use Rattle.cbor.specs.Head.{array, Lead, Sound, counted, Carries, itself, after, width, shortest, size, leadOf, isContainer}
+use Rattle.cbor.proofs.HeadLaws.{shortest-carries, shortest-least, sound-carries, sound-64, width-small}
+use Rattle.ari.specs.Table.{Place, message, inside, Slot, ari, type, value, nonce, setTime, target, report, rule, fits, members, types, typeRows, valueRows, isReference}
 use Rattle.ari.specs.Items.{Items, none, item, encode, Spot, insideAt, spotAt, spots}
-use Rattle.ari.specs.Rules.{Plain, Holds, Nonce, Vast, TypeAt, Ari, literal, namespace-ref, typed, object-ref, Value, simple-value, ac, am, execset, rptset, Targets, no-targets, targets, Reports, no-reports, reports}
+use Rattle.ari.specs.Rules.{Holds, Nonce, Vast, Ari, literal, namespace-ref, typed, object-ref, Value, simple-value, ac, am, execset, rptset, Targets, no-targets, targets, Reports, no-reports, reports}
 use Rattle.ari.specs.Targets.{isTarget}
 use Rattle.ari.proofs.Join.{join}
 use Rattle.ari.proofs.Well.{trees}
 use Rattle.ari.proofs.Spots.{All, no-spot, spot-too}
-use Rattle.strike.specs.Strike.{without, framing, shorter, countIn, struckSet}
-use Rattle.strike.proofs.Runs.{run, Again, run-many, behind, without-join, trees-join}
+use Rattle.strike.specs.Strike.{without, framing, shorter}
+use Rattle.strike.proofs.Runs.{run, Again, run-many, behind}
 
 -- the new head
 module _ {l : Lead} (s : Sound l) where

@@ -1,32 +1,29 @@
 -- The struck message: where it is cut, its bytes, and that it is accepted (R202, R203, R204).
-use Prim.Native.Nat.{ℕ, zero, suc, _+_, _-_, _≤_, _<_}
+use Prim.Native.Nat.{ℕ, suc, _+_, _-_, _≤_, _<_}
 use mathlib.Core.Path.{_≡_, refl, sym, _∙_, ap, subst}
-use mathlib.Core.Bool.{Bool, true, false, cond}
+use mathlib.Core.Bool.{true}
 use mathlib.Core.List.{List, [], _∷_, _++_, append-assoc, append-nil}
 use native.Mathlib.Omega.{arith}
 use lib.ListN.{length, take, drop, length-append}
 use lib.Seq.{take-at, drop-at}
-use Rattle.buffer.specs.Bytes.{all, isByte}
 use Rattle.buffer.specs.Bytes as bytes
-use Rattle.cbor.specs.Head.{array, Lead, Sound, size, leadBytes, leadOf}
+use Rattle.cbor.specs.Head.{Lead, size, leadBytes}
 use Rattle.cbor.proofs.HeadLaws.{length-lead}
-use Rattle.ari.specs.Table.{version, done, rule, members}
+use Rattle.ari.specs.Table.{version, done, rule}
 use Rattle.ari.specs.declared.Limits.{Limits}
 use Rattle.ari.specs.declared.Input.the-variants.{Message}
-use Rattle.ari.specs.Reader.{accept, read}
 use Rattle.ari.specs.Items.{Items, none, item, encode, heads, depth, Spot, insideAt, spotAt, spots, spotsOf}
 use Rattle.ari.specs.Decode.{decode}
 use Rattle.ari.specs.Rules.{Is, Sets, Stands, a-message}
 use Rattle.ari.specs.Targets.{targets}
-use Rattle.ari.proofs.Spots.{All, no-spot, spot-too}
-use Rattle.ari.proofs.Demand.{demand-two, is-read, unique}
+use Rattle.ari.proofs.Spots.{All, spot-too}
 use Rattle.item_table.specs.Entries.{noSpot}
-use Rattle.strike.specs.Strike.{shorter, struckSets, struck, struckBytes, targetCount, Cut, Sought, cut, missing, seek, cutOf, headEnd, cutBytes}
-use Rattle.strike.proofs.Sets.{Set, Inner, shorter-size}
-use Rattle.strike.proofs.Cutting.{Cutting, cutting, setCount, innerPlace}
+use Rattle.strike.specs.Strike.{shorter, struckSets, struck, struckBytes, targetCount, Cut, cut, missing, seek, cutOf, headEnd, cutBytes}
+use Rattle.strike.proofs.Sets.{shorter-size}
+use Rattle.strike.proofs.Cutting.{Cutting, cutting, setCount}
 use Rattle.strike.proofs.Seeking.{Clear, targets-sets, seek-sets}
 use Rattle.strike.proofs.Clearing.{all-clear}
-use Rattle.strike.proofs.Parts.{bytesBefore, bytesBetween, bytesStruck, bytesBehind, old-bytes, new-bytes, fewer-heads, no-deeper, setPlace, spotsBefore, theInner, spotsFraming, spotsFront, struckPlace, struckSpot, seek-cut}
+use Rattle.strike.proofs.Parts.{bytesBefore, bytesBetween, bytesStruck, bytesBehind, old-bytes, new-bytes, fewer-heads, no-deeper, spotsBefore, theInner, spotsFraming, spotsFront, struckSpot, seek-cut}
 
 -- A message: its version, and its sets.
 pub record Sent (g : Items) : Type 0 where

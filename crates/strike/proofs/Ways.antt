@@ -1,20 +1,20 @@
 -- What each function answers, way by way: the loops over the item table, the size of a head, the copies, and the whole.
-use Prim.Native.Nat.{ℕ, zero, suc, _+_, _-_, _*_, _≤_, _<_, _^_, min}
+use Prim.Native.Nat.{ℕ, suc, _+_, _-_, _≤_, _<_}
 use mathlib.Core.Path.{_≡_, refl, sym, _∙_, ap}
 use mathlib.Core.Bool.{Bool, true, false, cond}
-use mathlib.Core.List.{List, [], _∷_, _++_, append-assoc}
+use mathlib.Core.List.{List, _∷_, _++_, append-assoc}
 use native.Mathlib.Omega.{arith}
 use native.Mathlib.Numerals.{add-one}
-use lib.ListN.{length, take, drop, getD, length-append, length-drop}
-use lib.Seq.{drop-cons, drop-length, take-all, sets, sets-eq}
-use lib.Dec.{ltb, leb, eqb}
-use mir.Syntax.{w8, w64}
+use lib.ListN.{length, take, drop, getD, length-drop}
+use lib.Seq.{drop-cons, drop-length, take-all, sets-eq}
+use lib.Dec.{ltb, eqb}
+use mir.Syntax.{w64}
 use mir.Val.{Fits}
 use borrow.Author.Tests.{lt-ltb, le-ltb, ltb-true, ltb-false, eq-eqb, ne-eqb}
 use Rattle.buffer.specs.Bytes.{part}
 use Rattle.buffer.specs.Put.{Put}
 use Rattle.buffer.proofs.Putting.{put-both}
-use Rattle.cbor.specs.Head.{array, Lead, Sound, size, width, shortest, leadBytes, leadOf, headBytes}
+use Rattle.cbor.specs.Head.{array, size, width, shortest, leadOf, headBytes}
 use Rattle.cbor.specs.declared.Head.{Head}
 use Rattle.cbor.specs.declared.Head.the-variants.{Bad, Good}
 use Rattle.cbor.specs.Answer.{headAt}
@@ -41,10 +41,9 @@ use Rattle.strike.specs.declared.Found.{Found}
 use Rattle.strike.specs.declared.Found.the-variants.{At, Missing}
 use Rattle.strike.specs.declared.Struck.{Struck}
 use Rattle.strike.specs.declared.Struck.the-variants as struck-ones
-use Rattle.strike.specs.Strike.{shorter, struck, struckBytes, targetCount, Cut, Sought, cut, missing, seek, cutOf, headEnd, cutBytes, strikeBy, strike, roomAfter}
+use Rattle.strike.specs.Strike.{shorter, struck, struckBytes, targetCount, cut, seek, cutOf, headEnd, cutBytes, strikeBy, strike}
 use Rattle.strike.specs.Code.{foundOf, innerAfter, below, copied, Ordered, Known}
-use Rattle.strike.proofs.Sets.{Set, Inner}
-use Rattle.strike.proofs.Striking.{counted, missed, parts, theCut, its-cut, in-order, three-copies, struck-length, fewer-items, head-there}
+use Rattle.strike.proofs.Striking.{missed, parts, theCut, its-cut, in-order, three-copies, struck-length, fewer-items, head-there}
 use Rattle.strike.proofs.Behind.{items-behind, item-there}
 
 module _ (v around first : ℕ) where

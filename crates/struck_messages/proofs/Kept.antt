@@ -1,6 +1,6 @@
 -- The targets and reports of a message before and after a cut: the same, in order, without the struck one. The idea: a target or report is one at whatever
 -- place it stands, and as many stand before the struck one as its number says.
-use Prim.Native.Nat.{ℕ, zero, suc, _+_, _≤_, _<_}
+use Prim.Native.Nat.{ℕ, suc, _+_}
 use mathlib.Core.Path.{_≡_, refl, sym, _∙_, ap}
 use mathlib.Core.Bool.{Bool, true, false, cond}
 use mathlib.Core.List.{List, [], _∷_, _++_, append-assoc, map, map-append}
@@ -10,13 +10,12 @@ use Rattle.cbor.specs.Head.{Lead}
 use Rattle.ari.specs.Table.{message, Slot, ari, Level, done, due, rule, members}
 use Rattle.ari.specs.Items.{Items, none, item, encode, Spot, insideAt, spotAt, spots}
 use Rattle.ari.specs.Targets.{isTarget, targets}
-use Rattle.ari.proofs.Well.{trees}
-use Rattle.ari.proofs.Spots.{All, no-spot, spot-too}
+use Rattle.ari.proofs.Spots.{All, spot-too}
 use Rattle.ari.proofs.Members.{within}
 use Rattle.strike.specs.Strike.{shorter, without, struckSets}
 use Rattle.strike.proofs.Runs.{run}
-use Rattle.strike.proofs.Sets.{Frame, Set, Inner}
-use Rattle.strike.proofs.Cutting.{Cutting, twoOf, setCount, setSpot, typeSpot, innerSpot, framePlace, frameSpots, bodyPlace}
+use Rattle.strike.proofs.Sets.{Frame, Set}
+use Rattle.strike.proofs.Cutting.{Cutting, twoOf, setSpot, typeSpot, innerSpot, framePlace, frameSpots, bodyPlace}
 use Rattle.strike.proofs.Seeking.{Clear, all-apart, targets-append, targets-none, targets-run, targets-frame, targets-sets}
 use Rattle.strike.proofs.Parts.{setPlace, spotsBefore, spotsFront, struckSpot, spotsRest, spotsBehind, old-spots}
 use Rattle.struck_messages.specs.Moved.{Unplaced, unplaced, leftOut}

@@ -1,8 +1,8 @@
 -- Listings of runs of items: at another place they are the same but for their places; and which entries a cut takes away, and where it moves the others.
-use Prim.Native.Nat.{ℕ, zero, suc, _+_, _-_, _≤_, _<_}
+use Prim.Native.Nat.{ℕ, suc, _+_, _-_, _≤_, _<_}
 use mathlib.Core.Path.{_≡_, refl, sym, _∙_, ap}
 use mathlib.Core.Bool.{Bool, true, false, cond, _&&_}
-use mathlib.Core.List.{List, [], _∷_, _++_, append-assoc, append-nil, map, map-append}
+use mathlib.Core.List.{List, [], _∷_, _++_, map, map-append}
 use native.Mathlib.Omega.{arith}
 use lib.ListN.{length}
 use lib.IntN.{pos, negsuc}
@@ -11,14 +11,12 @@ use borrow.Author.Tests.{le-leb, lt-leb}
 use Rattle.cbor.specs.Head.{unsigned, negative, text, Lead}
 use Rattle.ari.specs.Table.{message, Slot, ari, Level, done, due, rule, members, isReference}
 use Rattle.ari.specs.Items.{Items, none, item, encode, Spot, insideAt, spotAt, spots}
-use Rattle.ari.specs.Listing.{Space, number, name, relative, Entry, spaceAt, spaceIn, entryOf, referring}
-use Rattle.ari.specs.Targets.{isTarget, targets}
+use Rattle.ari.specs.Listing.{Space, number, name, relative, Entry, spaceIn, entryOf, referring}
 use Rattle.ari.proofs.Spots.{All, no-spot, spot-too, all-append, all-map, Between}
 use Rattle.ari.proofs.Referring.{referring-append}
 use Rattle.strike.specs.Strike.{Cut}
 use Rattle.strike.proofs.Runs.{run, bounds, run-bounds}
-use Rattle.strike.proofs.Seeking.{targets-append}
-use Rattle.struck_messages.specs.Moved.{Unplaced, unplaced, moved, movedSpace, movedEntry, isInside, staying}
+use Rattle.struck_messages.specs.Moved.{moved, movedSpace, movedEntry, isInside, staying}
 
 -- what items list
 abbrev pub listed : List Spot → List Entry

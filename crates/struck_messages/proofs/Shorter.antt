@@ -1,29 +1,29 @@
 -- The sets of a message before and after a cut, side by side: the same items, those behind the inner array's head earlier by what the head lost, those behind
 -- the struck part earlier by that part too. So the listing is the old one without the part's entries, each moved back by the bytes removed before it.
-use Prim.Native.Nat.{ℕ, zero, suc, _+_, _-_, _≤_, _<_}
+use Prim.Native.Nat.{ℕ, suc, _+_, _-_, _≤_, _<_}
 use mathlib.Core.Path.{_≡_, refl, sym, _∙_, ap}
-use mathlib.Core.Bool.{Bool, true, false, cond, _&&_}
+use mathlib.Core.Bool.{Bool, true, false, _&&_}
 use mathlib.Core.List.{List, [], _∷_, _++_, append-assoc, map, map-append}
 use native.Mathlib.Omega.{arith}
 use lib.ListN.{length, length-append}
-use lib.Dec.{leb, eqb}
+use lib.Dec.{eqb}
 use borrow.Author.Tests.{le-leb, lt-leb}
 use Rattle.cbor.specs.Head.{array, Lead, size, leadOf}
 use Rattle.cbor.proofs.HeadLaws.{length-lead}
 use Rattle.ari.specs.Table.{Place, message, Slot, ari, type, value, done, rule, members, isReference}
-use Rattle.ari.specs.Items.{Items, none, item, encode, Spot, insideAt, spotAt, spots}
+use Rattle.ari.specs.Items.{Items, none, item, encode, Spot, insideAt, spots}
 use Rattle.ari.specs.Listing.{Entry}
-use Rattle.ari.proofs.Join.{join, encode-join}
+use Rattle.ari.proofs.Join.{encode-join}
 use Rattle.ari.proofs.Well.{trees}
-use Rattle.ari.proofs.Spots.{All, no-spot, spot-too, all-append, all-map}
+use Rattle.ari.proofs.Spots.{All, spot-too, all-map}
 use Rattle.ari.proofs.Members.{within}
 use Rattle.strike.specs.Strike.{without, framing, shorter, struckSets, Cut, headEnd}
 use Rattle.strike.proofs.Runs.{run, run-join, sets-join, trees-join, behind}
-use Rattle.strike.proofs.Sets.{Frame, Set, Inner, shorter-size}
-use Rattle.strike.proofs.Cutting.{Cutting, twoOf, set-count, setSpot, typeSpot, innerSpot, framePlace, frameSpots, bodyPlace, bodySpots, set-spots}
-use Rattle.strike.proofs.Parts.{setPlace, spotsBefore, theInner, spotsFraming, spotsFront, struckSpot, spotsRest, spotsBehind, old-spots, behind-place}
-use Rattle.struck_messages.specs.Moved.{removed, moved, movedEntry, staying}
-use Rattle.struck_messages.proofs.Moves.{listed, listed-append, listed-none, later, later-spots, later-run, Lies, lies, lies-run, staying-append, stay-before, stay-behind, go-within, moved-back}
+use Rattle.strike.proofs.Sets.{Frame, Set, shorter-size}
+use Rattle.strike.proofs.Cutting.{Cutting, twoOf, setSpot, typeSpot, innerSpot, framePlace, frameSpots, bodyPlace, bodySpots, set-spots}
+use Rattle.strike.proofs.Parts.{setPlace, spotsBefore, theInner, spotsFront, struckSpot, spotsRest, spotsBehind, old-spots, behind-place}
+use Rattle.struck_messages.specs.Moved.{moved, movedEntry, staying}
+use Rattle.struck_messages.proofs.Moves.{listed, listed-append, listed-none, later-spots, later-run, Lies, lies, lies-run, staying-append, stay-before, stay-behind, go-within, moved-back}
 
 frames-none : {d : ℕ} (xs ys : List Spot) → All (Frame d) xs → listed (xs ++ ys) ≡ listed ys
 frames-none [] ys a = refl

@@ -1,7 +1,7 @@
 -- R202 to R206 in their own words: for every accepted message and every number of a target or report of its.
-use Prim.Native.Nat.{ℕ, zero, suc, _+_, _≤_, _<_}
+use Prim.Native.Nat.{ℕ, zero, suc, _≤_, _<_}
 use mathlib.Core.Logic.{_⊎_, inl, inr, _↔_}
-use mathlib.Core.Path.{_≡_, refl, sym, _∙_, ap, subst}
+use mathlib.Core.Path.{_≡_, refl, sym, _∙_, ap}
 use mathlib.Core.Bool.{Bool, true, false, cond}
 use mathlib.Core.List.{List, [], _∷_, map, List·Memᴰ, List·Memᴰ·head, List·Memᴰ·tail, List·Memᴰ·not-nil, List·Memᴰ·cases-cons, Memᴰ·of-map}
 use native.Mathlib.Omega.{arith}
@@ -12,11 +12,11 @@ use Rattle.buffer.specs.Bytes.{all, isByte}
 use Rattle.buffer.specs.declared.Number.{Number}
 use Rattle.buffer.specs.declared.Number.the-variants.{Value, Bad}
 use Rattle.cbor.specs.Head.{Lead}
-use Rattle.ari.specs.Table.{version, due, done, rule, isReference}
+use Rattle.ari.specs.Table.{version, done, rule, isReference}
 use Rattle.ari.specs.declared.Limits.{Limits}
 use Rattle.ari.specs.declared.Input.the-variants.{Message}
 use Rattle.ari.specs.Reader.{accept, read}
-use Rattle.ari.specs.Items.{Items, none, heads, Spot, spotAt, spots, spotsOf}
+use Rattle.ari.specs.Items.{none, heads, Spot, spotAt, spots, spotsOf}
 use Rattle.ari.specs.Decode.{decode}
 use Rattle.ari.specs.Rules.{Is}
 use Rattle.ari.specs.Listing.{Space, number, name, relative, Entry, listing}
@@ -29,9 +29,9 @@ use Rattle.grants.specs.Bytes.{rows}
 use Rattle.grants.proofs.Grants.{Granted}
 use Rattle.release.specs.Release.{yes, release, releaseBytes}
 use Rattle.release.proofs.Clause.{released-exactly-if, released-under-checked, whole-rows}
-use Rattle.strike.specs.Strike.{struckSets, struck, struckBytes, targetCount, Cut, Sought, cut, missing, cutOf, cutBytes}
+use Rattle.strike.specs.Strike.{struckSets, struck, struckBytes, targetCount, Cut, cut, missing, cutOf, cutBytes}
 use Rattle.strike.proofs.Striking.{Sent, sent, setsPlace, sent-spots, its-spots, sets-clear, missed, parts, theCut, its-cut, struck-is, in-order, three-copies, struck-length, fewer-items, struck-is-one}
-use Rattle.strike.proofs.Sets.{Set, Inner, shorter-size}
+use Rattle.strike.proofs.Sets.{shorter-size}
 use Rattle.struck_messages.specs.Moved.{Unplaced, unplaced, leftOut, moved, movedSpace, movedEntry, isInside, staying}
 use Rattle.struck_messages.proofs.Moves.{listed, listed-none}
 use Rattle.struck_messages.proofs.Shorter.{moved-listing}
