@@ -771,6 +771,20 @@ fn main() {
     time_call("l  500 like it", &compare, &large);
     time_call("l  16,384 bytes, repeated", &compare, &largest[..1]);
 
+    // The first target of each.
+    let strike = Call {
+        function: "surfbodkin_strike",
+        archive: &|message, room| archive::strike(message, 0, room),
+        reading: &|message, room| {
+            let struck = reading::strike::strike(message, 0, &LIMITS);
+            packed_written(struck.and_then(|struck| reading::strike::write(&struck, room)))
+        },
+    };
+    time_call("m  C's target struck", &strike, &c);
+    time_call("m  one of 4,096 bytes, repeated", &strike, &large[..1]);
+    time_call("m  one of 500 like it", &strike, &large);
+    time_call("m  one of 16,384 bytes, repeated", &strike, &largest[..1]);
+
     time_days(&large, &largest, &few, &published, &own);
 
     if archive::has_stream() {

@@ -24,14 +24,17 @@
 #pragma weak surfbodkin_same
 #pragma weak surfbodkin_day_upgrade
 
-/* As its request has it: the header may not say otherwise. */
+/* As the requests have them: the header may not say otherwise. */
 uint64_t surfbodkin_compare(const uint8_t *first, size_t first_length, const uint8_t *second,
                             size_t second_length, uint8_t *out, size_t out_length);
 #pragma weak surfbodkin_compare
+uint64_t surfbodkin_strike(const uint8_t *message, size_t length, uint64_t number, uint8_t *out,
+                           size_t out_length);
+#pragma weak surfbodkin_strike
 
 enum call {
   SINGLE, MESSAGE, LIST, TABLE, RELEASE, WRITE, READ, LISTS, STREAM,
-  DAY_CHECK, DAY_FIND, DAY_ADD, DAY_SEARCH, NAME, WHY, SAME, DAY_UPGRADE, COMPARE, CALLS
+  DAY_CHECK, DAY_FIND, DAY_ADD, DAY_SEARCH, NAME, WHY, SAME, DAY_UPGRADE, COMPARE, STRIKE, CALLS
 };
 static int there[CALLS];
 static unsigned long calls_made;
@@ -39,7 +42,7 @@ static unsigned long calls_made;
 struct arguments {
   enum call call;
   struct bytes input, table; /* of day_add the file and the message, of same the two ARIs, of compare the messages */
-  uint64_t subscriber;       /* of a day's file the message's number or the namespace */
+  uint64_t subscriber;       /* of a day's file the message's number or the namespace, of strike the target's number */
   size_t room;
   struct bytes published, own;
 };
@@ -52,7 +55,7 @@ static size_t written_by(enum call call, uint64_t answer) {
   if (surfbodkin_number(answer) != SURFBODKIN_ACCEPTED) return 0;
   switch (call) {
     case LIST: case STREAM: case DAY_SEARCH: case COMPARE: return surfbodkin_low(answer) * (size_t)SURFBODKIN_ENTRY;
-    case WRITE: case READ: case DAY_ADD: case DAY_UPGRADE: return surfbodkin_low(answer);
+    case WRITE: case READ: case DAY_ADD: case DAY_UPGRADE: case STRIKE: return surfbodkin_low(answer);
     default: return 0;
   }
 }
@@ -159,6 +162,9 @@ static uint64_t make(const struct arguments *a, enum way way, const uint8_t *out
         fail("differs from itself, or refused otherwise");
       }
       break;
+    case STRIKE:
+      answer = surfbodkin_strike(in.at, in.length, a->subscriber, to.at, to.length);
+      break;
     default: fail("no such call");
   }
   calls_made++;
@@ -205,7 +211,8 @@ static const char *const NAMES[CALLS] = {"check_single", "check_message", "list"
                                          "read_text",    "check_names",   "stream_close",
                                          "day_check",    "day_find",      "day_add",
                                          "day_search",   "name_number",   "why",
-                                         "same",         "day_upgrade",   "compare"};
+                                         "same",         "day_upgrade",   "compare",
+                                         "strike"};
 
 /* A check, and each beginning of its input with whatever answer. */
 static void check(enum call call, const char *input, uint64_t answer) {
@@ -330,6 +337,22 @@ static void with_day(enum call call, const char *file, const char *message, uint
   free(written.at);
 }
 
+/* A long message, in rooms around the need. */
+static void strike_long(const char *message, uint64_t number, uint64_t answer, const char *out) {
+  if (!there[STRIKE]) return;
+  struct bytes written = bytes(out);
+  struct arguments a = {.call = STRIKE, .input = bytes(message), .subscriber = number};
+  size_t need = written.length;
+  const size_t rooms[] = {0, need > 0 ? need - 1 : 0, need, need + 1, need + 64};
+  for (int k = 0; k < 5; k++) {
+    a.room = rooms[k];
+    uint64_t none = refused(SURFBODKIN_ROOM, need);
+    expect(a, NAMES[STRIKE], "many", a.room < need ? none : answer, written.at);
+  }
+  free(a.input.at);
+  free(written.at);
+}
+
 /* Long messages, in rooms around the need. */
 static void compare_long(const char *first, const char *second, uint64_t answer, const char *out) {
   if (!there[COMPARE]) return;
@@ -414,6 +437,7 @@ int main(void) {
   there[SAME] = surfbodkin_same != NULL;
   there[DAY_UPGRADE] = surfbodkin_day_upgrade != NULL;
   there[COMPARE] = surfbodkin_compare != NULL;
+  there[STRIKE] = surfbodkin_strike != NULL;
   const char *before = "guards: skipped, not in the archive:";
   for (int call = 0; call < CALLS; call++) {
     if (there[call]) continue;
@@ -637,6 +661,27 @@ int main(void) {
                repeated(CHANGED("05", "05"), ONLY_FIRST, 1021, ""));
   compare_long(most_items, most_items, 1, ALIKE);
   compare_long("01", most_targets, (uint64_t)1022 << 32 | 1022, repeated("", ONLY_SECOND, 1022, ""));
+
+  with_day(STRIKE, C, "", 0, "", "", items(5) | 5, "01 82 14 81 f6");
+  with_day(STRIKE, C, "", 1, "", "", refused(27, 1), "");
+  with_day(STRIKE, C, "", (uint64_t)1 << 32, "", "", refused(27, 1), "");
+  with_day(STRIKE, C, "", UINT64_MAX, "", "", refused(27, 1), "");
+  with_day(STRIKE, ORDER, "", 0, "", "", items(9) | 16, "01 82 14 82 1904d2 83 1a00010000 21 182b");
+  with_day(STRIKE, ORDER, "", 1, "", "", items(9) | 15, "01 82 14 82 1904d2 83 1a00010000 22 12");
+  with_day(STRIKE, "01 82 15 9803 f6 00 82 00 83 6161 20 00 8214 9b0000000000000002 1800 83 6162 20 00", "", 1,
+           "", "", items(16) | 19, "01 82 15 9803 f6 00 82 00 83 6161 20 00 8214 81 1800");
+  with_day(STRIKE, "01 82 15 9803 f6 00 82 00 83 6161 20 00 8214 9b0000000000000002 1800 83 6162 20 00", "", 0,
+           "", "", items(14) | 24, "01 82 15 82 f6 00 8214 9b0000000000000002 1800 83 6162 20 00");
+  with_day(STRIKE, repeated("01 82 14 9818 f6", "83 f6 20 00", 23, ""), "", 22, "", "", items(93) | 93,
+           repeated("01 82 14 97 f6", "83 f6 20 00", 22, ""));
+  with_day(STRIKE, "01", "", 0, "", "", refused(27, 0), "");
+  with_day(STRIKE, "02", "", 0, "", "", refused(8, 0), "");
+  with_day(STRIKE, "01 82 14 83 f6 83 f6 20 00 83 f6 20", "", 0, "", "", refused(2, 12), "");
+  strike_long(most_targets, 0, items(4089) | 4091, repeated("01 82 14 99 03fe f6", "83 f6 20 00", 1021, ""));
+  strike_long(most_targets, 1021, items(4089) | 4091, repeated("01 82 14 99 03fe f6", "83 f6 20 00", 1021, ""));
+  strike_long(repeated("01 82 14 83 f6 83 f6 20 00 84 f6 20 00 81 59 3fef", "ff", 16367, ""), 0, items(11) | 16380,
+              repeated("01 82 14 82 f6 84 f6 20 00 81 59 3fef", "ff", 16367, ""));
+  strike_long(repeated("01 82 14 83 f6 83 f6 20 00 84 f6 20 00 81 59 3ff0", "ff", 16368, ""), 0, refused(1, 0), "");
 
   printf("guards: %lu calls, all as the header says\n", calls_made);
   return 0;

@@ -8,10 +8,10 @@ use std::env;
 use std::path::{Path, PathBuf};
 use std::process::Command;
 
-const FUNCTIONS: [&str; 20] = [
+const FUNCTIONS: [&str; 21] = [
     "check_single", "check_message", "list", "check_table", "release", "write_text", "read_text",
     "check_names", "day_check", "day_find", "day_add", "day_search", "name_number", "why", "same",
-    "day_upgrade", "compare", "stream_open", "stream_feed", "stream_close",
+    "day_upgrade", "compare", "strike", "stream_open", "stream_feed", "stream_close",
 ];
 
 /// The functions that the archive defines, as nm names them.

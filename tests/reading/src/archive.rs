@@ -76,6 +76,9 @@ functions! {
         first: *const u8, first_length: usize, second: *const u8, second_length: usize,
         out: *mut u8, out_length: usize
     );
+    "strike" surfbodkin_strike(
+        message: *const u8, length: usize, number: u64, out: *mut u8, out_length: usize
+    );
     "stream_open" surfbodkin_stream_open(state: *mut u64, words: usize);
     "stream_feed" surfbodkin_stream_feed(
         state: *mut u64, words: usize, message: *mut u8, room: usize,
@@ -128,6 +131,19 @@ pub fn compare(first: &[u8], second: &[u8], room: &mut [u8]) -> u64 {
             first.len(),
             second.as_ptr(),
             second.len(),
+            room.as_mut_ptr(),
+            room.len(),
+        )
+    }
+}
+
+/// The shorter message goes to the room.
+pub fn strike(message: &[u8], number: u64, room: &mut [u8]) -> u64 {
+    unsafe {
+        functions::surfbodkin_strike(
+            message.as_ptr(),
+            message.len(),
+            number,
             room.as_mut_ptr(),
             room.len(),
         )

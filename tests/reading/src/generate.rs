@@ -6,6 +6,7 @@ pub mod days;
 pub mod names;
 pub mod nests;
 pub mod pairs;
+pub mod strikes;
 pub mod tables;
 pub mod texts;
 

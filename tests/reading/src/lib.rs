@@ -11,7 +11,7 @@
 //! [`Stream`] takes a message in fragments; [`names`] has the lists of names, and release
 //! by them; [`why`] says why a message was held; [`day`] has the file of a day's messages;
 //! `same` says whether two single ARIs are the same; [`compare`] says what differs between
-//! two messages.
+//! two messages; [`strike`] takes a target or report out of one.
 //!
 //! Not part of the reading: [`archive`] calls the gate, [`generate`] makes
 //! inputs for comparisons and times, [`vectors`] holds the fixed inputs,
@@ -26,6 +26,7 @@ pub mod names;
 mod same;
 mod spelling;
 mod stream;
+pub mod strike;
 mod table_text;
 mod text;
 mod walk;
@@ -117,10 +118,12 @@ pub enum Test {
     DayMessage = 22,
     /// "file full"
     DayFull = 23,
+    /// "no such target or report"
+    NoTarget = 27,
 }
 
 /// "A refusal is a number with one further number, the place"; with tests 16 to 18 that
-/// number is a need, a count or a row, with 21 and 22 an entry or a message.
+/// number is a need, a count or a row, with 21 and 22 an entry or a message, with 27 a count.
 #[derive(Clone, Copy, Debug, PartialEq, Eq)]
 pub struct Refusal {
     pub test: Test,

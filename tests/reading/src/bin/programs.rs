@@ -1,6 +1,6 @@
 //! `programs COMMAND PROGRAM [--seed S]`: gives the program of `gate list`, `items`, `stream`,
-//! `text`, `table`, `names`, `release`, `why`, `same` or `compare` fixed inputs and made ones,
-//! and compares what it writes with the reading.
+//! `text`, `table`, `names`, `release`, `why`, `same`, `compare` or `strike` fixed inputs and
+//! made ones, and compares what it writes with the reading.
 
 use std::fmt::Write as _;
 use std::io::Write as _;
@@ -8,15 +8,16 @@ use std::process::{Command, ExitCode, Stdio};
 
 use reading::compare::compare;
 use reading::generate::names::{self as made, Lists};
-use reading::generate::{self, nests, pairs, tables, texts, Random};
+use reading::generate::{self, nests, pairs, strikes, tables, texts, Random};
 use reading::names::{self, check_names, find_line, lines};
 use reading::printed::{entry_line, item_lines, listing_lines, position_lines, why_lines};
+use reading::strike::{strike, Struck};
 use reading::vectors::{self, hex, to_hex, Call, Line};
 use reading::why::why;
 use reading::{
     check_table, closing, is_namespace_name, items_message, items_single, listing, read_table,
     read_text, rows, same, table_bytes, text_of, Listing, NoTable, Record, Refusal, Release, Row,
-    LIMITS, TABLE_ROWS, TABLE_TEXT,
+    Test, LIMITS, TABLE_ROWS, TABLE_TEXT,
 };
 
 /// What a program writes to standard output and to standard error.
@@ -770,6 +771,64 @@ fn compare_messages(program: &Program, random: &mut Random) -> Result<String, St
     ))
 }
 
+/// The shorter message and nothing behind it, or a refusal's line.
+fn compare_struck(program: &Program, random: &mut Random) -> Result<String, String> {
+    let mut cases: Vec<(Vec<u8>, u64)> = Vec::new();
+    for message in fixed(Call::Message) {
+        // Of each, those at either end, and one more than there are
+        let count = strikes::targets(&message) as u64;
+        let numbers = match items_message(&message) {
+            Ok(_) => &[0, 1, count.saturating_sub(1), count, u64::MAX][..],
+            Err(_) => &[0],
+        };
+        cases.extend(numbers.iter().map(|number| (message.clone(), *number)));
+    }
+    let fixed = cases.len();
+    for _ in 0..1_000 {
+        let mut message = match random.chance(60) {
+            true => strikes::message(random),
+            false => made_messages(random, 1).remove(0),
+        };
+        if random.chance(10) {
+            generate::damage(random, &mut message, &[], &[]);
+        }
+        let number = strikes::number(random, &message);
+        cases.push((message, number));
+    }
+    for bytes in [LIMITS.bytes, LIMITS.bytes + 1, 4 * LIMITS.bytes] {
+        let settings = generate::settings(random);
+        cases.push((generate::full_message(random, settings, bytes), 0));
+    }
+    let (mut struck, mut no_such, mut refused) = (0, 0, 0);
+    for (message, number) in &cases {
+        let due = match strike(message, *number, &LIMITS) {
+            Ok(Struck { message, .. }) => {
+                struck += 1;
+                Printed::out(message)
+            }
+            Err(refusal) => {
+                no_such += usize::from(refusal.test == Test::NoTarget);
+                refused += usize::from(refusal.test != Test::NoTarget);
+                line(refusal)
+            }
+        };
+        program.compare(&[&number.to_string()], message, due)?;
+    }
+    let message = &hex("01 82 14 82 f6 83 f6 20 00")[..];
+    for number in ["", "x", "-1", "+0", "00", "0x0", "18446744073709551616", "0 ", " 0", "0\n"] {
+        let error = "NUMBER is no number from 0 to 18446744073709551615\n";
+        program.compare(&[number], message, Printed::error(error))?;
+    }
+    for arguments in [&[][..], &["0", "0"], &["0", ""]] {
+        program.compare(arguments, message, Printed::error("usage: gate strike NUMBER\n"))?;
+    }
+    let made = cases.len() - fixed;
+    Ok(format!(
+        "{fixed} fixed and {made} made messages: {struck} struck, {no_such} without such a target, \
+         {refused} refused otherwise"
+    ))
+}
+
 fn main() -> ExitCode {
     let arguments: Vec<String> = std::env::args().skip(1).collect();
     let (seed, known) = match &arguments[..] {
@@ -790,12 +849,13 @@ fn main() -> ExitCode {
         "why" => Some(compare_why as _),
         "same" => Some(compare_same as _),
         "compare" => Some(compare_messages as _),
+        "strike" => Some(compare_struck as _),
         _ => None,
     });
     let (Some(seed), Some((command, program)), Some(compare)) = (seed, known, compare) else {
         eprintln!(
-            "usage: programs list|items|stream|text|table|names|release|why|same|compare PROGRAM \
-             [--seed S]"
+            "usage: programs list|items|stream|text|table|names|release|why|same|compare|strike \
+             PROGRAM [--seed S]"
         );
         return ExitCode::FAILURE;
     };

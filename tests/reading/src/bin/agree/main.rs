@@ -3,7 +3,7 @@
 //! with tables that grant most of what is named, and rooms from none to enough;
 //! day files of both versions, whole and damaged; messages that nest down to the reference
 //! by which they are held; pairs of ARIs, most of them alike, and of messages that differ in
-//! a few places; and messages that are fed in fragments.
+//! a few places; messages to strike targets from; and messages that are fed in fragments.
 //!
 //! `agree [--count N] [--seed S]`: N inputs in all (200,000), for each function
 //! that the archive has the same number, the stream's three counted as one; the
@@ -14,6 +14,7 @@ mod lent;
 mod messages;
 mod same;
 mod stream;
+mod strike;
 mod tally;
 mod why;
 
@@ -25,7 +26,9 @@ use reading::archive::{self, packed, packed_plain, packed_release, packed_writte
 use reading::archive::{packed_added, packed_compared, packed_low, packed_part, packed_why};
 use reading::compare::POSITION;
 use reading::day::{form_of, FOUND};
-use reading::generate::{self, days, names, nests, pairs, tables, texts, Random, Settings};
+use reading::generate::{
+    self, days, names, nests, pairs, strikes, tables, texts, Random, Settings,
+};
 use reading::vectors::to_hex;
 use reading::{Entry, Namespace, Record, Written, ENTRY, LIMITS};
 use tally::Column;
@@ -49,6 +52,7 @@ enum Call {
     Same,
     DayUpgrade,
     Compare,
+    Strike,
 }
 
 /// What a call is lent. Most use only a part of it.
@@ -62,7 +66,8 @@ struct Case {
     table: Vec<u8>,
     /// The published list of names and the subscriber's own.
     lists: names::Lists,
-    /// The subscriber, the number of a day file's message or the namespace sought in it.
+    /// The subscriber, the number of a day file's message or of a target, or the namespace
+    /// sought in a day file.
     number: u64,
     /// What the room for the answer holds before; where a number is lent, that of the rows
     /// compared or of a name, what it is before, as eight bytes.
@@ -71,7 +76,7 @@ struct Case {
 
 impl Call {
     /// In the order of the archive's declarations.
-    const ALL: [Call; 17] = [
+    const ALL: [Call; 18] = [
         Call::Single,
         Call::Message,
         Call::List,
@@ -89,6 +94,7 @@ impl Call {
         Call::Same,
         Call::DayUpgrade,
         Call::Compare,
+        Call::Strike,
     ];
 
     fn function(self) -> &'static str {
@@ -115,6 +121,7 @@ impl Call {
             Call::Same => (0..=7).chain(9..=13).collect(),
             Call::DayUpgrade => vec![0, 16, 20, 21, 22],
             Call::Compare => (0..=12).chain([16]).collect(),
+            Call::Strike => (0..=12).chain([16, 27]).collect(),
         }
     }
 
@@ -162,6 +169,10 @@ impl Call {
                 let list = messages::answer(case);
                 packed_compared(list.and_then(|list| reading::compare::write(&list, room)))
             }
+            Call::Strike => {
+                let struck = strike::answer(case);
+                packed_written(struck.and_then(|struck| reading::strike::write(&struck, room)))
+            }
         }
     }
 
@@ -190,6 +201,7 @@ impl Call {
             Call::Same => archive::same(input, other),
             Call::DayUpgrade => archive::day_upgrade(input, room),
             Call::Compare => archive::compare(input, other, room),
+            Call::Strike => archive::strike(input, number, room),
         }
     }
 
@@ -395,6 +407,17 @@ impl Call {
                 case.other = self.like(random, &case.input);
             }
             Call::Compare => (case.input, case.other) = self.beside(random),
+            Call::Strike => {
+                case.input = match random.chance(55) {
+                    true => strikes::message(random),
+                    false => self.binary(random),
+                };
+                if random.chance(10) {
+                    let records = self.records(&case.input);
+                    generate::damage(random, &mut case.input, &records, &[]);
+                }
+                case.number = strikes::number(random, &case.input);
+            }
             _ => case.input = self.binary(random),
         }
         // The size of what test 16 counts.
@@ -403,6 +426,7 @@ impl Call {
             Call::DaySearch => FOUND,
             Call::Compare => POSITION,
             Call::Write | Call::Read | Call::DayAdd | Call::Why | Call::DayUpgrade => 1,
+            Call::Strike => 1,
             Call::Release | Call::Number => {
                 case.room = random.word().to_ne_bytes().to_vec();
                 return case;
@@ -495,6 +519,7 @@ fn compare(call: Call, case: &Case, shift: usize) -> Result<u64, String> {
     match call {
         Call::Release | Call::Why => words += &format!(", subscriber {number}"),
         Call::DayFind => words += &format!(", message {number}"),
+        Call::Strike => words += &format!(", target {number}"),
         Call::DaySearch => words += &format!(", namespace {}", *number as i64),
         Call::Read => words += &format!(" ({})", String::from_utf8_lossy(input)),
         _ => (),
@@ -532,6 +557,7 @@ struct Tally {
     whys: why::Tally,
     pairs: same::Tally,
     messages: messages::Tally,
+    struck: strike::Tally,
 }
 
 impl Tally {
@@ -550,6 +576,7 @@ impl Tally {
             whys: why::Tally::default(),
             pairs: same::Tally::default(),
             messages: messages::Tally::default(),
+            struck: strike::Tally::default(),
         }
     }
 
@@ -559,6 +586,7 @@ impl Tally {
             Call::Why => self.whys.add(case, answer),
             Call::Same => self.pairs.add(case, answer),
             Call::Compare => self.messages.add(case, answer),
+            Call::Strike => self.struck.add(case, answer),
             _ => (),
         }
         for (_, column) in self.answers.iter_mut().filter(|(of, _)| *of == call) {
@@ -580,7 +608,8 @@ impl Tally {
     }
 }
 
-/// A call with an input that is made for it; a text that was written is read back too.
+/// A call with an input that is made for it; a text that was written is read back too, and
+/// of some messages every target is struck.
 fn compare_call(
     call: Call,
     calls: &[Call],
@@ -594,6 +623,10 @@ fn compare_call(
     if call == Call::Write && answer >> 56 == 0 && calls.contains(&Call::Read) {
         compare(Call::Read, &read_back(&case, answer), shift)?;
         tally.read_back += 1;
+    }
+    // Of some messages every target
+    if call == Call::Strike && answer >> 56 == 0 && case.input.len() < 600 && random.chance(50) {
+        strike::compare_every(&case.input, &mut tally.struck)?;
     }
     Ok(())
 }
@@ -693,6 +726,15 @@ fn main() -> ExitCode {
             }
         }
     }
+    if calls.contains(&Call::Strike) {
+        match strike::compare_limits() {
+            Ok(compared) => println!("targets struck at the limits: {compared}"),
+            Err(words) => {
+                println!("DISAGREE at the targets struck: {words}");
+                return ExitCode::FAILURE;
+            }
+        }
+    }
     if with_stream {
         let messages = count.div_ceil(500).min(400) as usize;
         if let Err(words) = stream::compare_prefixes(&mut Random::new(seed), messages, &mut streams)
@@ -709,12 +751,14 @@ fn main() -> ExitCode {
     let with_days = day::CALLS.iter().all(|call| calls.contains(call));
     let (with_why, with_same) = (calls.contains(&Call::Why), calls.contains(&Call::Same));
     let with_compare = calls.contains(&Call::Compare);
+    let with_strike = calls.contains(&Call::Strike);
     let complete = tally::print(&columns)
         && (!with_stream || streams.is_complete())
         && (!with_days || tally.days.is_complete())
         && (!with_why || tally.whys.is_complete())
         && (!with_same || tally.pairs.is_complete())
-        && (!with_compare || tally.messages.is_complete());
+        && (!with_compare || tally.messages.is_complete())
+        && (!with_strike || tally.struck.is_complete());
     println!(
         "refused at byte 16 or later {}, entries listed {}, yes with references {}, with names \
          {}, no past entry 0 {}, texts read back {}",
@@ -731,6 +775,9 @@ fn main() -> ExitCode {
     }
     if with_compare {
         println!("{}", tally.messages);
+    }
+    if with_strike {
+        println!("{}", tally.struck);
     }
     if with_stream {
         println!("{streams}");

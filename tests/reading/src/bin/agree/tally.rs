@@ -28,7 +28,7 @@ pub fn print(columns: &[&Column]) -> bool {
     }
     println!();
     let mut complete = true;
-    for number in (0..=23).chain([NO]) {
+    for number in (0..=27).chain([NO]) {
         if !columns.iter().any(|column| column.numbers.contains(&number)) {
             continue;
         }
