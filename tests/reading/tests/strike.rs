@@ -1,7 +1,9 @@
 //! Taking a target out, beside request (xiv): messages worked out from the bytes, and laws that
 //! hold of every target and report of every message.
 
+use reading::compare::{compare, Position};
 use reading::generate::names::{self as made, Lists};
+use reading::generate::pairs::{assembled, parts, put_set};
 use reading::generate::strikes::{self, targets};
 use reading::generate::{self, put_wide_head, Random};
 use reading::strike::{strike, write, Struck};
@@ -431,4 +433,60 @@ fn one_after_another() {
         assert_eq!(sets(&left), sets(&message));
     }
     assert!(pairs > 1_000, "{pairs}");
+}
+
+/// Compared with the old message, all ahead of the struck one is the same; from there on each
+/// stands beside the one that came behind it, and the last is only in the old one.
+#[test]
+fn struck_and_compared() {
+    let random = &mut Random::new(16);
+    let (mut messages, mut all, mut same, mut changed, mut last) = (0, 0, 0, 0, 0);
+    while messages < 1_000 {
+        let Some((message, ..)) = judged(random) else { continue };
+        // Some stand there twice or more, side by side.
+        let mut chosen = Vec::new();
+        for part in parts(&message).into_iter().take(20) {
+            let times = random.pick(&[1, 1, 1, 2, 3]);
+            chosen.resize(chosen.len() + times, part);
+        }
+        let message = assembled(random, &chosen);
+        if items_message(&message).is_err() {
+            continue;
+        }
+        messages += 1;
+        let parts = parts(&message);
+        assert_eq!(parts, chosen);
+        let itself = compare(&message, &message, &LIMITS).unwrap();
+        assert_eq!(itself, vec![Position::Same; parts.len()]);
+        for number in 0..parts.len().min(12) {
+            // From either end
+            let number = if number % 2 == 0 { number / 2 } else { parts.len() - 1 - number / 2 };
+            let of = || format!("target {number} of {}", to_hex(&message));
+            let shorter = strike(&message, number as u64, &LIMITS).unwrap().message;
+            let list = compare(&message, &shorter, &LIMITS).unwrap();
+            let (end, others) = list.split_last().expect("one at least");
+            assert_eq!((*end, list.len()), (Position::OnlyFirst, parts.len()), "{}", of());
+            assert!(others[..number].iter().all(|it| *it == Position::Same), "{}", of());
+            // The same as each part beside the next one, alone
+            for (k, position) in others.iter().enumerate().skip(number) {
+                let [one, two] = [&parts[k], &parts[k + 1]].map(|part| {
+                    let mut alone = vec![1];
+                    put_set(random, &mut alone, part.is_report, std::slice::from_ref(part));
+                    alone
+                });
+                let alone = compare(&one, &two, &LIMITS).unwrap();
+                let is_same = *position == Position::Same;
+                assert_eq!(is_same, alone == [Position::Same], "{}", of());
+                *(if is_same { &mut same } else { &mut changed }) += 1;
+            }
+            all += 1;
+            last += usize::from(number + 1 == parts.len());
+        }
+    }
+    let seen = [all, same, changed, last];
+    assert!(seen.iter().all(|times| *times > 100), "{seen:?}");
+    let c = hex(C);
+    let shorter = strike(&c, 0, &LIMITS).unwrap().message;
+    assert_eq!(compare(&c, &shorter, &LIMITS), Ok(vec![Position::OnlyFirst]));
+    assert_eq!(compare(&shorter, &hex("01"), &LIMITS), Ok(Vec::new()));
 }
