@@ -26,7 +26,7 @@ use Rattle.reader.proofs.Kept.{accepted, refused}
 use Rattle.day_file.specs.declared.Format.{Format}
 use Rattle.day_file.specs.declared.Day.{Day}
 use Rattle.day_file.specs.declared.Day.the-variants.{Messages, Refused}
-use Rattle.day_file.specs.Day.{width, mostBytes, countIn, startIn, offsetIn, endIn, messageIn, firstAt, messageAt, trailerStands, entryStands, messageStands, isAccepted, firstNot, unlessAll, Sized, checkDay, findDay, partOf}
+use Rattle.day_file.specs.Day.{width, mostBytes, countIn, startIn, offsetIn, endIn, messageIn, firstAt, messageAt, trailerStands, entryStands, messageStands, isAccepted, firstNot, unlessAll, Sized, checkDay, outlineDay, findDay, partOf}
 use Rattle.day_file.specs.Versions.{version1, version2, isSecond, formatOf, limitsOf}
 use Rattle.day_file.specs.declared.Found.{Found}
 use Rattle.day_file.specs.declared.Found.the-variants as found
@@ -220,25 +220,56 @@ pub has-trailer : (f : Format) (b : List ℕ) {t : Bool} → t ≡ trailerStands
 unfolding trailerStands
 has-trailer f b {t} e h = within-true 8 (mostBytes f) (length b) (and-true (within 8 (mostBytes f) (length b)) _ (sym e ∙ not-false t h) .0) .0
 
--- the check
-module _ (f : Format) (m : Limits) (b : List ℕ) {t : Bool} (e : t ≡ trailerStands f b) where
-  pub no-trailer : not t ≡ true → Refused 20 0 ≡ checkDay f m b
-  unfolding checkDay
+-- the trailer and the table
+module _ (f : Format) (b : List ℕ) {t : Bool} (e : t ≡ trailerStands f b) where
+  pub no-trailer : not t ≡ true → Refused 20 0 ≡ outlineDay f b
+  unfolding outlineDay
   no-trailer h = sym (rw (← e, not-true t h))
 
   module _ (h : not t ≡ false) {n : ℕ} (c : n ≡ countIn b) {i : ℕ} (g : i ≡ firstNot (entryStands f b) 0 n) where
-    pub bad-entry : i < n → Refused 21 i ≡ checkDay f m b
-    unfolding checkDay
+    pub bad-entry : i < n → Refused 21 i ≡ outlineDay f b
+    unfolding outlineDay
     bad-entry l = sym (rw (← e, not-false t h, ← c, ← g, lt-ltb i n l))
 
-    module _ (l : n ≤ i) {j : ℕ} (q : j ≡ firstNot (messageStands f m b) 0 n) where
+    pub outline-stands : n ≤ i → Messages n ≡ outlineDay f b
+    unfolding outlineDay
+    outline-stands l = sym (rw (← e, not-false t h, ← c, ← g, le-ltb i n l))
+
+-- the check goes on from there
+module _ (f : Format) (m : Limits) (b : List ℕ) where
+  abbrev wrong-entry : Bool
+  wrong-entry = ltb (firstNot (entryStands f b) 0 (countIn b)) (countIn b)
+
+  refused-alike : (r p : ℕ) → Refused r p ≡ outlineDay f b → Refused r p ≡ checkDay f m b
+  unfolding outlineDay checkDay
+  refused-alike r p = go (trailerStands f b) wrong-entry
+    where
+      go : (t x : Bool) → Refused r p ≡ cond t (cond x (Refused 21 (firstNot (entryStands f b) 0 (countIn b))) (Messages (countIn b))) (Refused 20 0)
+          → Refused r p ≡ cond t (cond x (Refused 21 (firstNot (entryStands f b) 0 (countIn b))) (unlessAll 22 (messageStands f m b) (countIn b) (Messages (countIn b)))) (Refused 20 0)
+      go false x q = q
+      go true true q = q
+      go true false q = absurd (let z : _≡_ {A = ℕ} 0 1 = cc in omega arith)
+
+  goes-on : (n : ℕ) → Messages n ≡ outlineDay f b → checkDay f m b ≡ unlessAll 22 (messageStands f m b) n (Messages n)
+  unfolding outlineDay checkDay
+  goes-on n = go (trailerStands f b) wrong-entry
+    where
+      go : (t x : Bool) → Messages n ≡ cond t (cond x (Refused 21 (firstNot (entryStands f b) 0 (countIn b))) (Messages (countIn b))) (Refused 20 0)
+          → cond t (cond x (Refused 21 (firstNot (entryStands f b) 0 (countIn b))) (unlessAll 22 (messageStands f m b) (countIn b) (Messages (countIn b)))) (Refused 20 0) ≡ unlessAll 22 (messageStands f m b) n (Messages n)
+      go false x q = absurd (let z : _≡_ {A = ℕ} 0 1 = cc in omega arith)
+      go true true q = absurd (let z : _≡_ {A = ℕ} 0 1 = cc in omega arith)
+      go true false q = let z : n ≡ countIn b = cc in rw z
+
+  module _ {d : Day} (e : d ≡ outlineDay f b) where
+    pub outline-refused : {r p : ℕ} → d ≡ Refused r p → Refused r p ≡ checkDay f m b
+    outline-refused {r} {p} g = refused-alike r p (sym g ∙ e)
+
+    module _ {n : ℕ} (g : d ≡ Messages n) {j : ℕ} (q : j ≡ firstNot (messageStands f m b) 0 n) where
       pub bad-message : j < n → Refused 22 j ≡ checkDay f m b
-      unfolding checkDay
-      bad-message k = sym (rw (← e, not-false t h, ← c, ← g, le-ltb i n l, ← q, lt-ltb j n k))
+      bad-message k = sym (goes-on n (sym g ∙ e) ∙ rw (← q, lt-ltb j n k))
 
       pub day-passes : n ≤ j → Messages n ≡ checkDay f m b
-      unfolding checkDay
-      day-passes k = sym (rw (← e, not-false t h, ← c, ← g, le-ltb i n l, ← q, le-ltb j n k))
+      day-passes k = sym (goes-on n (sym g ∙ e) ∙ rw (← q, le-ltb j n k))
 
 -- what is known of the answer
 module _ (f : Format) (b : List ℕ) where
@@ -263,6 +294,9 @@ module _ (f : Format) (b : List ℕ) where
 
     pub sized-few : n < 65536
     sized-few = of .2
+
+    pub sized-again : Sized f b (Messages n)
+    sized-again = of
 
     pub sized-below : {k : ℕ} → k < n → k < 65536
     sized-below h = omega (arith, sized-few)
@@ -294,7 +328,9 @@ module _ (b : List ℕ) {d x : Found} (e : d ≡ x) where
 
 pub ruleset finds = (sized-long, sized-below, sized-within, find-refused, find-none, find-there, part-found, part-refused)
 
-pub ruleset checks = (sized-refused, sized-passes, has-trailer, no-trailer, bad-entry, bad-message, day-passes)
+pub ruleset outlines = (sized-refused, sized-passes, has-trailer, no-trailer, bad-entry, outline-stands)
+
+pub ruleset checks = (sized-refused, sized-long, sized-few, sized-again, outline-refused, bad-message, day-passes)
 
 -- the version that a trailer names
 module _ (b : List ℕ) where

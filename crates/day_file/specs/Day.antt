@@ -104,6 +104,10 @@ unfoldable pub checkDay : Format → Limits → List ℕ → Day
 checkDay f m b =
     cond (trailerStands f b) (unlessAll 21 (entryStands f b) (countIn b) (unlessAll 22 (messageStands f m b) (countIn b) (Messages (countIn b)))) (Refused 20 0)
 
+-- the same before any message is looked at: 20, 21, or the number of messages
+unfoldable pub outlineDay : Format → List ℕ → Day
+outlineDay f b = cond (trailerStands f b) (unlessAll 21 (entryStands f b) (countIn b) (Messages (countIn b))) (Refused 20 0)
+
 -- private to src/: what a file that passes has
 abbrev pub Sized : Format → List ℕ → Day → Type 0
 Sized f b (Refused r p) = Unit {0}

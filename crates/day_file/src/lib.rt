@@ -7,7 +7,7 @@ ghost use lib.ListN.{length};
 ghost use Rattle.buffer.specs.Bytes.{be, part};
 ghost use Rattle.buffer.specs.Put.{Put};
 ghost use Rattle.ari.specs.declared.Input.the-variants as input;
-ghost use Rattle.day_file.specs.Day.{width, mostBytes, trailer, countIn, startIn, offsetIn, endIn, messageIn, firstAt, messageAt, trailerStands, entryStands, messageStands, firstNot, Sized, checkDay, findDay, partOf, isFull, fullOr, grown, withMessage, addDay, roomAfter};
+ghost use Rattle.day_file.specs.Day.{width, mostBytes, trailer, countIn, startIn, offsetIn, endIn, messageIn, firstAt, messageAt, trailerStands, entryStands, messageStands, firstNot, Sized, checkDay, outlineDay, findDay, partOf, isFull, fullOr, grown, withMessage, addDay, roomAfter};
 ghost use Rattle.day_file.specs.Versions.{isSecond, formatOf, limitsOf};
 use ari::Input;
 use ari::Limits;
@@ -284,9 +284,9 @@ fn first_bad_message(format: Format, limits: Limits, file: &[u8], count: usize) 
     k
 }
 
-// The check, and what is known of a file that passes it.
-fn checked(format: Format, limits: Limits, file: &[u8]) -> Day
-    ensures { λ r. ⌜ r ≡ checkDay format limits (now (file .entry)) ⌝ }
+// The trailer and the table, which come before any message: for those who check the messages as they read them.
+pub fn outline(format: Format, file: &[u8]) -> Day
+    ensures { λ r. ⌜ r ≡ outlineDay format (now (file .entry)) ⌝ }
     ensures { λ r. ⌜ Sized format (now (file .entry)) r ⌝ }
 {
     if !trailer_stands(format, file) {
@@ -303,14 +303,27 @@ fn checked(format: Format, limits: Limits, file: &[u8]) -> Day
             place: entry,
         };
     }
-    let message = first_bad_message(format, limits, file, count);
-    if message < count {
-        return Day::Refused {
-            number: 22,
-            place: message,
-        };
-    }
     Day::Messages(count)
+}
+
+// The check, and what is known of a file that passes it.
+fn checked(format: Format, limits: Limits, file: &[u8]) -> Day
+    ensures { λ r. ⌜ r ≡ checkDay format limits (now (file .entry)) ⌝ }
+    ensures { λ r. ⌜ Sized format (now (file .entry)) r ⌝ }
+{
+    match outline(format, file) {
+        Day::Refused { number, place } => Day::Refused { number, place },
+        Day::Messages(count) => {
+            let message = first_bad_message(format, limits, file, count);
+            if message < count {
+                return Day::Refused {
+                    number: 22,
+                    place: message,
+                };
+            }
+            Day::Messages(count)
+        }
+    }
 }
 
 // Whether bytes are a day file of messages within these limits.

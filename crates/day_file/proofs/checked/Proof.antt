@@ -1,4 +1,4 @@
--- `day_file::checked` meets its contract: the tests in their order.
+-- `day_file::checked` meets its contract: the trailer and the table, then the messages.
 use Rattle.day_file.proofs.Ways.{checks}
 use borrow.Author.Needs.{needs}
 use Rattle.day_file.proofs.checked.Statement.{statement}
@@ -10,9 +10,8 @@ checked-spec =
     (tie.spec
     (λ c κs. search (checks, needs))
     (λ c. search (checks, needs))
-    (λ c κs. search (checks, needs))
-    (λ c κs. search (checks, needs))
     (λ c. search (checks, needs))
     (λ c κs. search (checks, needs))
+    (λ c. search (checks, needs))
     (λ c. search (checks, needs))
     (λ c. search (checks, needs)))
