@@ -1,0 +1,336 @@
+// Month figures: day files are counted one after another into a lent state. A file is counted in a copy, which takes the state's place when all of it was
+// taken: of a file that is refused half way only the reading was in vain.
+ghost use mathlib.Core.Path.{_≡_};
+ghost use Prim.Native.Nat.{_+_, _<_, _≤_, min};
+ghost use lib.ListN.{length, drop};
+ghost use lib.Seq.{sets, paste};
+ghost use Rattle.ari.specs.declared.Input.the-variants as input;
+ghost use Rattle.ari.specs.Limits.{gateLimits, capped};
+ghost use Rattle.item_table.specs.Entries.{Tabled};
+ghost use Rattle.names.specs.Translated.{translated};
+ghost use Rattle.month_figures.specs.Figures.{turned, spaceOf};
+ghost use Rattle.month_figures.specs.State.{words};
+ghost use mathlib.Core.List.{map};
+ghost use Rattle.day_file.specs.Versions.{formatOf, limitsOf};
+ghost use Rattle.month.specs.Adding.{Adds};
+ghost use Rattle.month.specs.Code.{withLine, withCode, withSpaces, Goes, sized, MessageWalked, FileWalked, tallyIn, tallyWords, Fetches, putBack, totalsSmall, linesSmall, Judges, Settles};
+use ari::Input;
+use ari::Limits;
+use day_file::Day;
+use day_file::Format;
+use listing::Namespace;
+use listing::Reference;
+use month_figures::Month;
+use names::Names;
+use reader::Answer;
+
+// The totals of a month, and how many lines there are.
+pub struct Tally {
+    pub messages: u64,
+    pub bytes: u64,
+    pub items: u64,
+    pub unknown: u64,
+    pub relative: u64,
+    pub lines: usize,
+}
+
+// What was read is counted; or a message is refused, by its number.
+pub enum Walked {
+    Counted(Tally),
+    Refused(usize),
+}
+
+fn count_number(places: &mut [u64], amounts: &mut [u64], t: Tally, word: u64) -> Tally
+    requires { ⌜ (256 ≤ length (now places)) × (256 ≤ length (now amounts)) ⌝ }
+    ensures { λ r. ⌜ Goes t (now (places .entry)) (now (amounts .entry)) (withLine (turned word)) r (now (places .exit)) (now (amounts .exit)) ⌝ }
+{
+    let lines = month_lines::count(places, amounts, t.lines, month_figures::turned(word));
+    Tally {
+        messages: t.messages,
+        bytes: t.bytes,
+        items: t.items,
+        unknown: t.unknown,
+        relative: t.relative,
+        lines,
+    }
+}
+
+// One reference more: to a number, by a name that stands for none, or with no namespace.
+fn count_space(places: &mut [u64], amounts: &mut [u64], t: Tally, namespace: Namespace) -> Tally
+    requires { ⌜ (256 ≤ length (now places)) × (256 ≤ length (now amounts)) ⌝ }
+    ensures { λ r. ⌜ Goes t (now (places .entry)) (now (amounts .entry)) (withCode namespace) r (now (places .exit)) (now (amounts .exit)) ⌝ }
+{
+    match namespace {
+        Namespace::Number(word) => count_number(places, amounts, t, word),
+        Namespace::Name {
+            place: _,
+            length: _,
+        } => Tally {
+            messages: t.messages,
+            bytes: t.bytes,
+            items: t.items,
+            unknown: month_lines::more(t.unknown, 1),
+            relative: t.relative,
+            lines: t.lines,
+        },
+        Namespace::Relative => Tally {
+            messages: t.messages,
+            bytes: t.bytes,
+            items: t.items,
+            unknown: t.unknown,
+            relative: month_lines::more(t.relative, 1),
+            lines: t.lines,
+        },
+    }
+}
+
+// The references of a table.
+fn count_table<'a>(
+    s: &[u8],
+    limits: Limits,
+    count: usize,
+    entries: &[u64],
+    published: &'a [u8],
+    own: &'a [u8],
+    places: &mut [u64],
+    amounts: &mut [u64],
+    t: Tally,
+) -> Tally
+    requires { ⌜ Tabled limits input.Message (now s) count (now entries) ⌝ }
+    requires { ⌜ (256 ≤ length (now places)) × (256 ≤ length (now amounts)) ⌝ }
+    ensures { λ r. ⌜ Goes t (now (places .entry)) (now (amounts .entry)) (withSpaces (map spaceOf (translated (now (published .entry)) (now (own .entry)) (now (s .entry))))) r (now (places .exit)) (now (amounts .exit)) ⌝ }
+{
+    let mut tally = t;
+    let mut k = 0;
+    while k < count {
+        let r = listing::reference_at(s, entries[k]);
+        k += 1;
+        match r {
+            Reference::Nothing => {}
+            Reference::To {
+                first: _,
+                after: _,
+                namespace,
+            } => {
+                let n = names::stands_for(published, own, s, namespace);
+                tally = count_space(places, amounts, tally, n);
+            }
+        }
+    }
+    tally
+}
+
+// A message more, with so many bytes and items.
+fn with_size(t: Tally, bytes: usize, items: usize) -> Tally
+    ensures { λ r. ⌜ r ≡ sized t bytes items ⌝ }
+{
+    Tally {
+        messages: month_lines::more(t.messages, 1),
+        bytes: month_lines::more(t.bytes, bytes as u64),
+        items: month_lines::more(t.items, items as u64),
+        unknown: t.unknown,
+        relative: t.relative,
+        lines: t.lines,
+    }
+}
+
+fn count_message<'a>(
+    limits: Limits,
+    s: &[u8],
+    published: &'a [u8],
+    own: &'a [u8],
+    places: &mut [u64],
+    amounts: &mut [u64],
+    t: Tally,
+    table: &mut [u64],
+) -> Walked
+    requires { ⌜ (min (limits .items) (length (now s)) ≤ length (now table)) × (limits .bytes < 65536) × (limits .containers < 256) ⌝ }
+    requires { ⌜ (256 ≤ length (now places)) × (256 ≤ length (now amounts)) ⌝ }
+    ensures { λ r. ⌜ MessageWalked limits (now (s .entry)) (now (published .entry)) (now (own .entry)) t (now (places .entry)) (now (amounts .entry)) r (now (places .exit)) (now (amounts .exit)) ⌝ }
+{
+    match reader::keep(Input::Message, limits, s, table) {
+        Answer::Refused {
+            number: _,
+            place: _,
+        } => Walked::Refused(0),
+        Answer::Accepted(count) => {
+            let u = with_size(t, s.len(), count);
+            Walked::Counted(count_table(
+                s,
+                limits,
+                count,
+                table,
+                published,
+                own,
+                places,
+                amounts,
+                u,
+            ))
+        }
+    }
+}
+
+// The messages of a file whose trailer and table stand, each read once. The table serves one after the other.
+fn count_file<'a>(
+    format: Format,
+    limits: Limits,
+    file: &[u8],
+    count: usize,
+    published: &'a [u8],
+    own: &'a [u8],
+    places: &mut [u64],
+    amounts: &mut [u64],
+    t: Tally,
+    table: &mut [u64],
+) -> Walked
+    requires { ⌜ (limits .items ≤ gateLimits .items) × (gateLimits .items ≤ length (now table)) × (limits .bytes < 65536) × (limits .containers < 256) × (count < 65536) × (8 ≤ length (now file)) ⌝ }
+    requires { ⌜ (256 ≤ length (now places)) × (256 ≤ length (now amounts)) ⌝ }
+    ensures { λ r. ⌜ FileWalked format limits (now (file .entry)) count (now (published .entry)) (now (own .entry)) t (now (places .entry)) (now (amounts .entry)) r (now (places .exit)) (now (amounts .exit)) ⌝ }
+{
+    let mut tally = t;
+    let mut k = 0;
+    while k < count {
+        let s = day_file::message_at(format, file, k);
+        let w = count_message(limits, s, published, own, places, amounts, tally, table);
+        let Walked::Counted(u) = w else {
+            return Walked::Refused(k);
+        };
+        tally = u;
+        k += 1;
+    }
+    Walked::Counted(tally)
+}
+
+fn copy(from: &[u64], at: usize, into: &mut [u64], to: usize, many: usize)
+    requires { ⌜ (at + many ≤ length (now from)) × (to + many ≤ length (now into)) ⌝ }
+    ensures { λ _. ⌜ now (into .exit) ≡ paste (now (into .entry)) to (drop at (now (from .entry))) many ⌝ }
+{
+    let mut i = 0;
+    while i < many {
+        into[to + i] = from[at + i];
+        i += 1;
+    }
+}
+
+fn load(state: &[u64]) -> Tally
+    requires { ⌜ words ≤ length (now state) ⌝ }
+    ensures { λ r. ⌜ r ≡ tallyIn (now (state .entry)) ⌝ }
+{
+    Tally {
+        messages: state[month_figures::MESSAGES],
+        bytes: state[month_figures::BYTES],
+        items: state[month_figures::ITEMS],
+        unknown: state[month_figures::UNKNOWN],
+        relative: state[month_figures::RELATIVE],
+        lines: buffer::least(state[month_figures::COUNT] as usize, month_lines::LINES),
+    }
+}
+
+// A state's figures, to count on.
+fn fetch(state: &[u64], places: &mut [u64], amounts: &mut [u64]) -> Tally
+    requires { ⌜ (words ≤ length (now state)) × (256 ≤ length (now places)) × (256 ≤ length (now amounts)) ⌝ }
+    ensures { λ r. ⌜ Fetches (now (state .entry)) r (now (places .exit)) (now (amounts .exit)) ⌝ }
+{
+    let t = load(state);
+    let lines = t.lines;
+    copy(state, month_figures::PLACES, places, 0, lines);
+    copy(state, month_figures::AMOUNTS, amounts, 0, lines);
+    t
+}
+
+fn store(state: &mut [u64], t: Tally)
+    requires { ⌜ words ≤ length (now state) ⌝ }
+    ensures { λ _. ⌜ now (state .exit) ≡ sets (now (state .entry)) 0 (tallyWords t) ⌝ }
+{
+    state[month_figures::MESSAGES] = t.messages;
+    state[month_figures::BYTES] = t.bytes;
+    state[month_figures::ITEMS] = t.items;
+    state[month_figures::UNKNOWN] = t.unknown;
+    state[month_figures::RELATIVE] = t.relative;
+    state[month_figures::COUNT] = t.lines as u64;
+}
+
+// Figures back into a state.
+fn put_back(state: &mut [u64], t: Tally, places: &[u64], amounts: &[u64])
+    requires { ⌜ (words ≤ length (now state)) × (256 ≤ length (now places)) × (256 ≤ length (now amounts)) × (t .lines ≤ 256) ⌝ }
+    ensures { λ _. ⌜ now (state .exit) ≡ putBack (now (state .entry)) t (now (places .entry)) (now (amounts .entry)) ⌝ }
+{
+    store(state, t);
+    let lines = t.lines;
+    copy(places, 0, state, month_figures::PLACES, lines);
+    copy(amounts, 0, state, month_figures::AMOUNTS, lines);
+}
+
+fn totals_small(t: Tally) -> bool
+    ensures { λ r. ⌜ r ≡ totalsSmall t ⌝ }
+{
+    if month_lines::BEYOND <= t.messages {
+        return false;
+    }
+    if month_lines::BEYOND <= t.bytes {
+        return false;
+    }
+    if month_lines::BEYOND <= t.items {
+        return false;
+    }
+    if month_lines::BEYOND <= t.unknown {
+        return false;
+    }
+    t.relative < month_lines::BEYOND
+}
+
+fn lines_small(amounts: &[u64], lines: usize) -> bool
+    requires { ⌜ lines ≤ length (now amounts) ⌝ }
+    ensures { λ r. ⌜ r ≡ linesSmall (now (amounts .entry)) lines ⌝ }
+{
+    let mut i = 0;
+    while i < lines {
+        if month_lines::BEYOND <= amounts[i] {
+            return false;
+        }
+        i += 1;
+    }
+    true
+}
+
+// Whether figures stay within 256 lines and 2^63 - 1.
+fn judge(t: Tally, amounts: &[u64]) -> Month
+    requires { ⌜ 256 ≤ length (now amounts) ⌝ }
+    ensures { λ r. ⌜ Judges t (now (amounts .entry)) r ⌝ }
+{
+    if month_lines::LINES < t.lines {
+        return Month::Refused {
+            number: 25,
+            place: 0,
+        };
+    }
+    if !totals_small(t) {
+        return Month::Refused {
+            number: 26,
+            place: 0,
+        };
+    }
+    if !lines_small(amounts, t.lines) {
+        return Month::Refused {
+            number: 26,
+            place: 0,
+        };
+    }
+    Month::Done
+}
+
+// The state takes the figures that a file has left, if they are within the bounds.
+fn settle(state: &mut [u64], t: Tally, places: &[u64], amounts: &[u64]) -> Month
+    requires { ⌜ (words ≤ length (now state)) × (256 ≤ length (now places)) × (256 ≤ length (now amounts)) ⌝ }
+    ensures { λ r. ⌜ Settles (now (state .entry)) t (now (places .entry)) (now (amounts .entry)) r (now (state .exit)) ⌝ }
+{
+    let r = judge(t, amounts);
+    match r {
+        Month::Done => put_back(state, t, places, amounts),
+        Month::Refused {
+            number: _,
+            place: _,
+        } => {}
+    }
+    r
+}
