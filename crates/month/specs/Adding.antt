@@ -9,6 +9,7 @@ use Rattle.ari.specs.declared.Limits.{Limits}
 use Rattle.names.specs.declared.Names.{Names}
 use Rattle.names.specs.declared.Names.the-variants as lists
 use Rattle.names.specs.Names.{checkNames}
+use Rattle.day_file.specs.declared.Format.{Format}
 use Rattle.day_file.specs.declared.Day.{Day}
 use Rattle.day_file.specs.declared.Day.the-variants as day
 use Rattle.day_file.specs.Day.{checkDay}
@@ -17,6 +18,9 @@ use Rattle.month_figures.specs.declared.Month.{Month}
 use Rattle.month_figures.specs.declared.Month.the-variants.{Done, Refused}
 use Rattle.month_figures.specs.Figures.{Source, Message, messagesOf, Figures, figures, fits}
 use Rattle.month_figures.specs.State.{words, Holds}
+
+abbrev pub sourceOf : Format → List ℕ → List ℕ → List ℕ → Source
+sourceOf f b published own = record { format = f; file = b; published = published; own = own }
 
 -- R213: 25 for one namespace too many, then 26 for a total beyond the most, of the figures as they would be
 abbrev pub judged : Figures → Month

@@ -14,7 +14,9 @@ use Rattle.ari.specs.Reader.{read}
 use Rattle.listing.specs.declared.Namespace.{Namespace}
 use Rattle.listing.specs.declared.Namespace.the-variants as code
 use Rattle.day_file.specs.declared.Format.{Format}
-use Rattle.day_file.specs.Day.{isAccepted, messageIn, messageStands, firstNot, messagesFrom}
+use Rattle.day_file.specs.declared.Day.{Day}
+use Rattle.day_file.specs.declared.Day.the-variants as day
+use Rattle.day_file.specs.Day.{isAccepted, messageStands, firstNot, messagesFrom, messagesIn, checkDay}
 use Rattle.month_lines.specs.Lines.{counted, mostLines}
 use Rattle.month_lines.specs.Code.{beyond, capped, Lined}
 use Rattle.month_figures.specs.declared.Month.{Month}
@@ -102,6 +104,15 @@ tallyIn ws = record { messages = word ws 0; bytes = word ws 1; items = word ws 2
 pub record Fetches (ws : List ℕ) (t : Tally) (ps cs : List ℕ) : Type 0 where
   pub held : (f : Figures) → Holds ws f → Held t ps cs f
 
+-- with all messages of a file; or the first that is refused is known
+abbrev pub CountedBy : Format → Limits → List ℕ → ℕ → List ℕ → List ℕ → List ℕ → Walked → List ℕ → List ℕ → Type 0
+CountedBy f m b n published own ws (walked.Counted t) ps cs =
+    (n ≡ firstNot (messageStands f m b) 0 n) × ((x : Figures) → Holds ws x → Held t ps cs (withMessages (map (messageWith published own) (messagesFrom f b 0 n)) x))
+CountedBy f m b n published own ws (walked.Refused k) ps cs = (k ≡ firstNot (messageStands f m b) 0 n) × (k < n)
+
+pub record CountedOn (f : Format) (m : Limits) (b : List ℕ) (n : ℕ) (published own ws : List ℕ) (r : Walked) (ps cs : List ℕ) : Type 0 where
+  pub by : CountedBy f m b n published own ws r ps cs
+
 -- and put back
 abbrev pub tallyWords : Tally → List ℕ
 tallyWords t = t .messages ∷ t .bytes ∷ t .items ∷ t .unknown ∷ t .relative ∷ t .lines ∷ []
@@ -127,3 +138,23 @@ pub record Judges (t : Tally) (cs : List ℕ) (r : Month) : Type 0 where
 pub record Settles (ws : List ℕ) (t : Tally) (ps cs : List ℕ) (r : Month) (ws′ : List ℕ) : Type 0 where
   pub kept : (r ≡ Done → ⊥) → ws′ ≡ ws
   pub answer : (f : Figures) → Held t ps cs f → (r ≡ judged f) × (r ≡ Done → Holds ws′ f)
+
+-- 22 with the first message that is refused, or what the figures say with all n messages of a file
+abbrev pub unlessRefused : ℕ → ℕ → Month → Month
+unlessRefused k n r = cond (ltb k n) (Refused 22 k) r
+
+pub record MessagesAdded (f : Format) (m : Limits) (b : List ℕ) (n : ℕ) (published own ws : List ℕ) (r : Month) (ws′ : List ℕ) : Type 0 where
+  pub kept : (r ≡ Done → ⊥) → ws′ ≡ ws
+  pub answer : (x : Figures) → Holds ws x
+      → (r ≡ unlessRefused (firstNot (messageStands f m b) 0 n) n (judged (withMessages (map (messageWith published own) (messagesFrom f b 0 n)) x)))
+      × (r ≡ Done → Holds ws′ (withMessages (map (messageWith published own) (messagesFrom f b 0 n)) x))
+
+-- the same for a file whose lists are well-formed
+abbrev pub filedBy : Day → Figures → Month
+filedBy (day.Refused r p) f = Refused r p
+filedBy (day.Messages n) f = judged f
+
+pub record Files (f : Format) (m : Limits) (b published own ws : List ℕ) (r : Month) (ws′ : List ℕ) : Type 0 where
+  pub kept : (r ≡ Done → ⊥) → ws′ ≡ ws
+  pub answer : (x : Figures) → Holds ws x
+      → (r ≡ filedBy (checkDay f m b) (withMessages (map (messageWith published own) (messagesIn f b)) x)) × (r ≡ Done → Holds ws′ (withMessages (map (messageWith published own) (messagesIn f b)) x))

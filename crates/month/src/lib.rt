@@ -8,12 +8,13 @@ ghost use Rattle.ari.specs.declared.Input.the-variants as input;
 ghost use Rattle.ari.specs.Limits.{gateLimits, capped};
 ghost use Rattle.item_table.specs.Entries.{Tabled};
 ghost use Rattle.names.specs.Translated.{translated};
-ghost use Rattle.month_figures.specs.Figures.{turned, spaceOf};
+ghost use Rattle.month_figures.specs.Figures.{turned, spaceOf, messageWith};
 ghost use Rattle.month_figures.specs.State.{words};
 ghost use mathlib.Core.List.{map};
+ghost use Rattle.day_file.specs.Day.{messageIn};
 ghost use Rattle.day_file.specs.Versions.{formatOf, limitsOf};
-ghost use Rattle.month.specs.Adding.{Adds};
-ghost use Rattle.month.specs.Code.{withLine, withCode, withSpaces, Goes, sized, MessageWalked, FileWalked, tallyIn, tallyWords, Fetches, putBack, totalsSmall, linesSmall, Judges, Settles};
+ghost use Rattle.month.specs.Adding.{sourceOf, Adds};
+ghost use Rattle.month.specs.Code.{withLine, withCode, withSpaces, withMessage, Goes, sized, MessageWalked, FileWalked, tallyIn, tallyWords, Fetches, putBack, totalsSmall, linesSmall, Judges, Settles, CountedOn, MessagesAdded, Files};
 use ari::Input;
 use ari::Limits;
 use day_file::Day;
@@ -134,6 +135,36 @@ fn with_size(t: Tally, bytes: usize, items: usize) -> Tally
     }
 }
 
+// A message that is accepted.
+fn count_accepted<'a>(
+    s: &[u8],
+    limits: Limits,
+    count: usize,
+    entries: &[u64],
+    published: &'a [u8],
+    own: &'a [u8],
+    places: &mut [u64],
+    amounts: &mut [u64],
+    t: Tally,
+) -> Tally
+    requires { ⌜ Tabled limits input.Message (now s) count (now entries) ⌝ }
+    requires { ⌜ (256 ≤ length (now places)) × (256 ≤ length (now amounts)) ⌝ }
+    ensures { λ r. ⌜ Goes t (now (places .entry)) (now (amounts .entry)) (withMessage (messageWith (now (published .entry)) (now (own .entry)) (now (s .entry)))) r (now (places .exit)) (now (amounts .exit)) ⌝ }
+{
+    let u = with_size(t, s.len(), count);
+    count_table(
+        s,
+        limits,
+        count,
+        entries,
+        published,
+        own,
+        places,
+        amounts,
+        u,
+    )
+}
+
 fn count_message<'a>(
     limits: Limits,
     s: &[u8],
@@ -154,8 +185,7 @@ fn count_message<'a>(
             place: _,
         } => Walked::Refused(0),
         Answer::Accepted(count) => {
-            let u = with_size(t, s.len(), count);
-            Walked::Counted(count_table(
+            Walked::Counted(count_accepted(
                 s,
                 limits,
                 count,
@@ -164,10 +194,31 @@ fn count_message<'a>(
                 own,
                 places,
                 amounts,
-                u,
+                t,
             ))
         }
     }
+}
+
+// Message k of a file.
+fn count_at<'a>(
+    format: Format,
+    limits: Limits,
+    file: &[u8],
+    k: usize,
+    published: &'a [u8],
+    own: &'a [u8],
+    places: &mut [u64],
+    amounts: &mut [u64],
+    t: Tally,
+    table: &mut [u64],
+) -> Walked
+    requires { ⌜ (limits .items ≤ gateLimits .items) × (gateLimits .items ≤ length (now table)) × (limits .bytes < 65536) × (limits .containers < 256) × (k < 65536) × (8 ≤ length (now file)) ⌝ }
+    requires { ⌜ (256 ≤ length (now places)) × (256 ≤ length (now amounts)) ⌝ }
+    ensures { λ r. ⌜ MessageWalked limits (messageIn format (now (file .entry)) k) (now (published .entry)) (now (own .entry)) t (now (places .entry)) (now (amounts .entry)) r (now (places .exit)) (now (amounts .exit)) ⌝ }
+{
+    let s = day_file::message_at(format, file, k);
+    count_message(limits, s, published, own, places, amounts, t, table)
 }
 
 // The messages of a file whose trailer and table stand, each read once. The table serves one after the other.
@@ -190,8 +241,18 @@ fn count_file<'a>(
     let mut tally = t;
     let mut k = 0;
     while k < count {
-        let s = day_file::message_at(format, file, k);
-        let w = count_message(limits, s, published, own, places, amounts, tally, table);
+        let w = count_at(
+            format,
+            limits,
+            file,
+            k,
+            published,
+            own,
+            places,
+            amounts,
+            tally,
+            table,
+        );
         let Walked::Counted(u) = w else {
             return Walked::Refused(k);
         };
@@ -215,6 +276,7 @@ fn copy(from: &[u64], at: usize, into: &mut [u64], to: usize, many: usize)
 fn load(state: &[u64]) -> Tally
     requires { ⌜ words ≤ length (now state) ⌝ }
     ensures { λ r. ⌜ r ≡ tallyIn (now (state .entry)) ⌝ }
+    ensures { λ r. ⌜ r .lines ≤ 256 ⌝ }
 {
     Tally {
         messages: state[month_figures::MESSAGES],
@@ -324,13 +386,202 @@ fn settle(state: &mut [u64], t: Tally, places: &[u64], amounts: &[u64]) -> Month
     requires { ⌜ (words ≤ length (now state)) × (256 ≤ length (now places)) × (256 ≤ length (now amounts)) ⌝ }
     ensures { λ r. ⌜ Settles (now (state .entry)) t (now (places .entry)) (now (amounts .entry)) r (now (state .exit)) ⌝ }
 {
-    let r = judge(t, amounts);
-    match r {
-        Month::Done => put_back(state, t, places, amounts),
-        Month::Refused {
-            number: _,
-            place: _,
-        } => {}
+    match judge(t, amounts) {
+        Month::Refused { number, place } => Month::Refused { number, place },
+        Month::Done => {
+            put_back(state, t, places, amounts);
+            Month::Done
+        }
     }
-    r
+}
+
+// A state's figures, with the messages of a file whose trailer and table stand.
+fn count_on<'a>(
+    format: Format,
+    limits: Limits,
+    state: &[u64],
+    file: &[u8],
+    count: usize,
+    published: &'a [u8],
+    own: &'a [u8],
+    places: &mut [u64],
+    amounts: &mut [u64],
+    table: &mut [u64],
+) -> Walked
+    requires { ⌜ (limits .items ≤ gateLimits .items) × (gateLimits .items ≤ length (now table)) × (limits .bytes < 65536) × (limits .containers < 256) × (count < 65536) × (8 ≤ length (now file)) ⌝ }
+    requires { ⌜ (words ≤ length (now state)) × (256 ≤ length (now places)) × (256 ≤ length (now amounts)) ⌝ }
+    ensures { λ r. ⌜ CountedOn format limits (now (file .entry)) count (now (published .entry)) (now (own .entry)) (now (state .entry)) r (now (places .exit)) (now (amounts .exit)) ⌝ }
+{
+    let t = fetch(state, places, amounts);
+    count_file(
+        format,
+        limits,
+        file,
+        count,
+        published,
+        own,
+        places,
+        amounts,
+        t,
+        table,
+    )
+}
+
+// The messages of a file whose trailer and table stand. A refusal leaves the state as it is.
+fn add_messages<'a>(
+    format: Format,
+    limits: Limits,
+    state: &mut [u64],
+    file: &[u8],
+    count: usize,
+    published: &'a [u8],
+    own: &'a [u8],
+    places: &mut [u64],
+    amounts: &mut [u64],
+    table: &mut [u64],
+) -> Month
+    requires { ⌜ (limits .items ≤ gateLimits .items) × (gateLimits .items ≤ length (now table)) × (limits .bytes < 65536) × (limits .containers < 256) × (count < 65536) × (8 ≤ length (now file)) ⌝ }
+    requires { ⌜ (words ≤ length (now state)) × (256 ≤ length (now places)) × (256 ≤ length (now amounts)) ⌝ }
+    ensures { λ r. ⌜ MessagesAdded format limits (now (file .entry)) count (now (published .entry)) (now (own .entry)) (now (state .entry)) r (now (state .exit)) ⌝ }
+{
+    match count_on(
+        format,
+        limits,
+        state,
+        file,
+        count,
+        published,
+        own,
+        places,
+        amounts,
+        table,
+    ) {
+        Walked::Refused(k) => Month::Refused {
+            number: 22,
+            place: k,
+        },
+        Walked::Counted(u) => settle(state, u, places, amounts),
+    }
+}
+
+// A file whose lists are well-formed.
+fn add_file<'a>(
+    format: Format,
+    limits: Limits,
+    state: &mut [u64],
+    file: &[u8],
+    published: &'a [u8],
+    own: &'a [u8],
+    places: &mut [u64],
+    amounts: &mut [u64],
+    table: &mut [u64],
+) -> Month
+    requires { ⌜ (limits .items ≤ gateLimits .items) × (gateLimits .items ≤ length (now table)) × (limits .bytes < 65536) × (limits .containers < 256) ⌝ }
+    requires { ⌜ (words ≤ length (now state)) × (256 ≤ length (now places)) × (256 ≤ length (now amounts)) ⌝ }
+    ensures { λ r. ⌜ Files format limits (now (file .entry)) (now (published .entry)) (now (own .entry)) (now (state .entry)) r (now (state .exit)) ⌝ }
+{
+    match day_file::outline(format, file) {
+        Day::Refused { number, place } => Month::Refused { number, place },
+        Day::Messages(count) => {
+            add_messages(
+                format,
+                limits,
+                state,
+                file,
+                count,
+                published,
+                own,
+                places,
+                amounts,
+                table,
+            )
+        }
+    }
+}
+
+// The working memory: a copy of the lines, and the items of one message.
+fn add_counted<'a>(
+    format: Format,
+    limits: Limits,
+    state: &mut [u64],
+    file: &[u8],
+    published: &'a [u8],
+    own: &'a [u8],
+) -> Month
+    requires { ⌜ (limits .items ≤ gateLimits .items) × (limits .bytes < 65536) × (limits .containers < 256) × (words ≤ length (now state)) ⌝ }
+    ensures { λ r. ⌜ Files format limits (now (file .entry)) (now (published .entry)) (now (own .entry)) (now (state .entry)) r (now (state .exit)) ⌝ }
+{
+    let mut places = [0u64; month_lines::LINES];
+    let mut amounts = [0u64; month_lines::LINES];
+    let mut table = [0u64; ari::ITEMS];
+    add_file(
+        format,
+        limits,
+        state,
+        file,
+        published,
+        own,
+        &mut places,
+        &mut amounts,
+        &mut table,
+    )
+}
+
+// Where the lists are wrong the file is only checked.
+fn add_listed<'a>(
+    format: Format,
+    limits: Limits,
+    state: &mut [u64],
+    file: &[u8],
+    published: &'a [u8],
+    own: &'a [u8],
+) -> Month
+    requires { ⌜ (limits .items ≤ gateLimits .items) × (limits .bytes < 65536) × (limits .containers < 256) × (words ≤ length (now state)) ⌝ }
+    ensures { λ r. ⌜ Adds limits (now (state .entry)) (sourceOf format (now (file .entry)) (now (published .entry)) (now (own .entry))) r (now (state .exit)) ⌝ }
+{
+    match names::check_names(published, own) {
+        Names::Passes => add_counted(format, limits, state, file, published, own),
+        Names::Refused { place } => match day_file::check(format, limits, file) {
+            Day::Refused { number, place } => Month::Refused { number, place },
+            Day::Messages(_) => Month::Refused {
+                number: 19,
+                place: place as usize,
+            },
+        },
+    }
+}
+
+// Counts a day file of this format, with messages within these limits, none above the gate's own, into a month's state. The state is lent: any words are safe,
+// and what is promised is for one that was opened, or is all zeros, and went through these calls only.
+pub fn add_within<'a>(
+    format: Format,
+    limits: Limits,
+    state: &mut [u64],
+    file: &[u8],
+    published: &'a [u8],
+    own: &'a [u8],
+) -> Month
+    ensures { λ r. ⌜ Adds (capped limits) (now (state .entry)) (sourceOf format (now (file .entry)) (now (published .entry)) (now (own .entry))) r (now (state .exit)) ⌝ }
+{
+    if state.len() < month_figures::WORDS {
+        return Month::Refused {
+            number: 16,
+            place: month_figures::WORDS * 8,
+        };
+    }
+    add_listed(format, ari::cap(limits), state, file, published, own)
+}
+
+// The same by the version that the file's trailer names.
+pub fn add<'a>(state: &mut [u64], file: &[u8], published: &'a [u8], own: &'a [u8]) -> Month
+    ensures { λ r. ⌜ Adds (limitsOf (now (file .entry))) (now (state .entry)) (sourceOf (formatOf (now (file .entry))) (now (file .entry)) (now (published .entry)) (now (own .entry))) r (now (state .exit)) ⌝ }
+{
+    add_within(
+        day_file::format_of(file),
+        day_file::limits_of(file),
+        state,
+        file,
+        published,
+        own,
+    )
 }

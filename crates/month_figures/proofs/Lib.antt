@@ -1,1 +1,4 @@
 pub mod Words
+pub mod Lines
+pub mod Figured
+pub mod Numbers

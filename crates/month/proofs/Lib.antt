@@ -1,0 +1,5 @@
+pub mod Counting
+pub mod Walking
+pub mod Keeping
+pub mod Sums
+pub mod Adding
