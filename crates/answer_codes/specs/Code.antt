@@ -1,4 +1,4 @@
--- Answers as one number: R114 to R119; of the day file, R154 to R164; of a name, R142; of two ARIs, R188; of two messages, R200; of a struck message, R207. Interface: all of it.
+-- Answers as one number: R114 to R119; of the day file, R154 to R164; of a name, R142; of two ARIs, R188; of two messages, R200; of a struck message, R207; of a month, R216. Interface: all of it.
 use Prim.Native.Nat.{ℕ, _+_, _-_, _*_, _^_, min}
 use mathlib.Core.Path.{_≡_}
 use mathlib.Core.List.{List}
@@ -17,6 +17,16 @@ use Rattle.comparison.specs.declared.Compared.{Compared}
 use Rattle.comparison.specs.declared.Compared.the-variants as compared
 use Rattle.strike.specs.declared.Struck.{Struck}
 use Rattle.strike.specs.declared.Struck.the-variants as strikes
+use Rattle.month_figures.specs.declared.Month.{Month}
+use Rattle.month_figures.specs.declared.Month.the-variants.{Done}
+use Rattle.month_figures.specs.declared.Month.the-variants as month
+use Rattle.month_figures.specs.declared.Shown.{Shown}
+use Rattle.month_figures.specs.declared.Shown.the-variants.{Lines}
+use Rattle.month_figures.specs.declared.Shown.the-variants as shown
+use Rattle.month_figures.specs.Figures.{Source}
+use Rattle.month_figures.specs.State.{Shows}
+use Rattle.month_figures.specs.State as months
+use Rattle.month.specs.Adding.{Adds}
 use Rattle.names.specs.declared.Names.{Names}
 use Rattle.names.specs.declared.Names.the-variants.{Passes}
 use Rattle.names.specs.declared.Names.the-variants as names
@@ -149,3 +159,28 @@ addCode (added.File n k) = countCode n k
 abbrev pub strikeCode : Struck → ℕ
 strikeCode (strikes.Refused r p) = refusalCode r p
 strikeCode (strikes.Message n k) = countCode n k
+
+-- R216: a month's calls: 0 where one is done; the namespaces that were written
+abbrev pub monthCode : Month → ℕ
+monthCode Done = 0
+monthCode (month.Refused r p) = refusalCode r p
+
+abbrev pub shownCode : Shown → ℕ
+shownCode (Lines n) = countCode 0 n
+shownCode (shown.Refused r p) = refusalCode r p
+
+-- the numbers of the answers that `month_figures` and `month` promise
+pub record MonthOpensAs (ws : List ℕ) (r : ℕ) (ws′ : List ℕ) : Type 0 where
+  pub answer : Month
+  pub code : r ≡ monthCode answer
+  pub opens : months.Opens ws answer ws′
+
+pub record AddsAs (m : Limits) (ws : List ℕ) (s : Source) (r : ℕ) (ws′ : List ℕ) : Type 0 where
+  pub answer : Month
+  pub code : r ≡ monthCode answer
+  pub adds : Adds m ws s answer ws′
+
+pub record ShowsAs (ws out : List ℕ) (r : ℕ) (out′ : List ℕ) : Type 0 where
+  pub answer : Shown
+  pub code : r ≡ shownCode answer
+  pub shows : Shows ws out answer out′

@@ -4,7 +4,7 @@ ghost use Prim.Native.Nat.{_-_};
 ghost use Rattle.grants.specs.Verdict.{checkOf};
 ghost use Rattle.release.specs.Release.{answerOf as releasedOf};
 ghost use Rattle.release.specs.Compared.{countAfter};
-ghost use Rattle.answer_codes.specs.Code.{refusalCode, countCode, checkCode, listCode, tableCode, releaseCode, heldCode, whyCode, textCode, fedCode, sameCode, compareCode, namesCode, numberCode, numberAfter, dayCode, findCode, addCode, searchCode, strikeCode};
+ghost use Rattle.answer_codes.specs.Code.{refusalCode, countCode, checkCode, listCode, tableCode, releaseCode, heldCode, whyCode, textCode, fedCode, sameCode, compareCode, namesCode, numberCode, numberAfter, dayCode, findCode, addCode, searchCode, strikeCode, monthCode, shownCode};
 use buffer::Number;
 use comparison::Compared;
 use day_file::Added;
@@ -13,6 +13,8 @@ use day_file::Found;
 use day_search::Searched;
 use grants::Verdict;
 use listing::Listed;
+use month_figures::Shown;
+use month_figures::Month;
 use names::Names;
 use reader::Answer;
 use release::Released;
@@ -231,5 +233,23 @@ pub fn strike_code(a: Struck) -> u64
     match a {
         Struck::Message { items, bytes } => count_code(items, bytes),
         Struck::Refused { number, place } => refusal_code(number, place as u64),
+    }
+}
+
+pub fn month_code(a: Month) -> u64
+    ensures { λ r. ⌜ r ≡ monthCode a ⌝ }
+{
+    match a {
+        Month::Done => 0,
+        Month::Refused { number, place } => refusal_code(number, place as u64),
+    }
+}
+
+pub fn shown_code(a: Shown) -> u64
+    ensures { λ r. ⌜ r ≡ shownCode a ⌝ }
+{
+    match a {
+        Shown::Lines(lines) => count_code(0, lines),
+        Shown::Refused { number, place } => refusal_code(number, place as u64),
     }
 }

@@ -8,6 +8,9 @@ use lib.Dec.{ltb}
 use borrow.Author.Tests.{lt-ltb, le-ltb, ltb-true, ltb-false}
 use mathlib.Core.Bool.{Bool, true, false, cond}
 use Rattle.ari.specs.declared.Limits.{Limits}
+use Rattle.ari.specs.Limits.{capped}
+use Rattle.day_file.specs.Versions.{formatOf, limitsOf}
+use Rattle.day_file.proofs.Days.{capped-limits}
 use Rattle.names.specs.declared.Names.{Names}
 use Rattle.names.specs.declared.Names.the-variants as lists
 use Rattle.names.specs.Names.{checkNames}
@@ -126,4 +129,16 @@ module _ (f : Format) (m : Limits) (b published own ws : List ℕ) (room : words
 pub add-short : (m : Limits) (ws : List ℕ) (s : Source) → length ws < words → Adds m ws s (Refused 16 4144) ws
 add-short m ws s h = record { short = λ _. refl; kept = λ _. refl; after = λ xs held. absurd (omega (arith, held .room)) }
 
-pub ruleset adds = (add-passed, add-wrong-file, add-wrong-list, add-short)
+pub ruleset adds = (add-passed, add-wrong-file, add-wrong-list)
+
+module _ (ws : List ℕ) (s : Source) {r : Month} {ws′ : List ℕ} where
+  pub add-capped : (m : Limits) {c : Limits} → c ≡ capped m → Adds c ws s r ws′ → Adds (capped m) ws s r ws′
+  add-capped m e a = rw (← e) a
+
+pub add-version : (b published own ws : List ℕ) {r : Month} {ws′ : List ℕ} {f : Format} → f ≡ formatOf b → {m : Limits} → m ≡ limitsOf b → Adds (capped m) ws (sourceOf f b published own) r ws′
+    → Adds (limitsOf b) ws (sourceOf (formatOf b) b published own) r ws′
+add-version b published own ws {r} {ws′} e {m} g a =
+    let limits : capped m ≡ limitsOf b = ap capped g ∙ capped-limits b in
+    rw (← e, ← limits) a
+
+pub ruleset within = (add-short, add-capped)

@@ -3,3 +3,4 @@ pub mod Walking
 pub mod Keeping
 pub mod Sums
 pub mod Adding
+pub mod Months

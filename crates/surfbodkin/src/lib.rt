@@ -14,6 +14,7 @@ ghost use Rattle.day_file.specs.Day.{checkDay, findDay, addDay, withMessage, ro
 ghost use Rattle.day_file.specs.Versions.{formatOf, limitsOf};
 ghost use Rattle.day_upgrade.specs.Upgrade.{upgraded, upgradeDay};
 ghost use Rattle.day_search.specs.Search.{searchDay, hits, roomAfter as foundIn};
+ghost use Rattle.month.specs.Adding.{sourceOf};
 ghost use Rattle.grants.specs.Bytes.{checkBytes};
 ghost use Rattle.grants.specs.Verdict.{checkOf};
 ghost use Rattle.listing.specs.Answers.{listOf, writtenOf as listedIn};
@@ -22,7 +23,7 @@ ghost use Rattle.release.specs.Compared.{countAfter, countedBytes};
 ghost use Rattle.why_held.specs.Why.{why, outcomeIn, whyRoom};
 ghost use Rattle.text.specs.Answer.{writeText, readText, lent};
 ghost use Rattle.text_write.specs.Written.{writtenOf, roomAfter};
-ghost use Rattle.answer_codes.specs.Code.{checkCode, listCode, tableCode, releaseCode, whyCode, textCode, OpensAs, FeedsAs, ClosesAs, sameCode, compareCode, namesCode, numberCode, numberAfter, dayCode, findCode, addCode, searchCode, strikeCode};
+ghost use Rattle.answer_codes.specs.Code.{checkCode, listCode, tableCode, releaseCode, whyCode, textCode, OpensAs, FeedsAs, ClosesAs, sameCode, compareCode, namesCode, numberCode, numberAfter, dayCode, findCode, addCode, searchCode, strikeCode, MonthOpensAs, AddsAs, ShowsAs};
 
 #[no_mangle]
 pub extern "C" fn surfbodkin_check_single(input: &[u8]) -> u64
@@ -236,4 +237,30 @@ pub extern "C" fn surfbodkin_strike(message: &[u8], number: u64, out: &mut [u8])
     ensures { λ r. ⌜ now (out .exit) ≡ struckIn (strike gateLimits number (now (message .entry)) (length (now (out .entry)))) (struckBytes number (now (message .entry))) (now (out .entry)) ⌝ }
 {
     answer_codes::strike_code(strike::strike_message(message, number as usize, out))
+}
+
+#[no_mangle]
+pub extern "C" fn surfbodkin_month_open(state: &mut [u64]) -> u64
+    ensures { λ r. ⌜ MonthOpensAs (now (state .entry)) r (now (state .exit)) ⌝ }
+{
+    answer_codes::month_code(month_figures::open(state))
+}
+
+#[no_mangle]
+pub extern "C" fn surfbodkin_month_add<'a>(
+    state: &mut [u64],
+    file: &[u8],
+    published: &'a [u8],
+    own: &'a [u8],
+) -> u64
+    ensures { λ r. ⌜ AddsAs (limitsOf (now (file .entry))) (now (state .entry)) (sourceOf (formatOf (now (file .entry))) (now (file .entry)) (now (published .entry)) (now (own .entry))) r (now (state .exit)) ⌝ }
+{
+    answer_codes::month_code(month::add(state, file, published, own))
+}
+
+#[no_mangle]
+pub extern "C" fn surfbodkin_month_read(state: &[u64], out: &mut [u8]) -> u64
+    ensures { λ r. ⌜ ShowsAs (now (state .entry)) (now (out .entry)) r (now (out .exit)) ⌝ }
+{
+    answer_codes::shown_code(month_figures::show(state, out))
 }

@@ -1,5 +1,5 @@
 -- `month::add_within` meets its contract: too short a state, or as with capped limits.
-use Rattle.month.proofs.Adding.{adds}
+use Rattle.month.proofs.Adding.{within}
 use borrow.Author.Needs.{needs}
 use Rattle.month.proofs.add_within.Statement.{statement}
 use Rattle.month.proofs.add_within.Tie as tie
@@ -8,9 +8,9 @@ pub add-within-spec : {M : Type 1} → statement M
 add-within-spec =
     tie.close
     (tie.spec
-    (λ c. search (adds, needs))
-    (λ c. search (adds, needs))
-    (λ c κs. search (adds, needs))
-    (λ c κs. search (adds, needs))
-    (λ c. search (adds, needs))
-    (λ c. search (adds, needs)))
+    (λ c. search (within, needs))
+    (λ c. search (within, needs))
+    (λ c κs. search (within, needs))
+    (λ c κs. search (within, needs))
+    (λ c. search (within, needs))
+    (λ c. search (within, needs)))
