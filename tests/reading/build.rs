@@ -1,17 +1,18 @@
 //! Links the gate's C archive where it has been built: the file named by
 //! SURFBODKIN_ARCHIVE, or target/staticlib/libsurfbodkin.a in the repository's
 //! root. Each function that it has is told to the crate by a cfg, so that what is
-//! missing (all, without an archive) still builds, and is said when run. The size of
-//! a stream's state is taken from the header, where hosts find it too.
+//! missing (all, without an archive) still builds, and is said when run. The sizes of
+//! a stream's state and of a month's are taken from the header, where hosts find them too.
 
 use std::env;
 use std::path::{Path, PathBuf};
 use std::process::Command;
 
-const FUNCTIONS: [&str; 21] = [
+const FUNCTIONS: [&str; 24] = [
     "check_single", "check_message", "list", "check_table", "release", "write_text", "read_text",
     "check_names", "day_check", "day_find", "day_add", "day_search", "name_number", "why", "same",
-    "day_upgrade", "compare", "strike", "stream_open", "stream_feed", "stream_close",
+    "day_upgrade", "compare", "strike", "stream_open", "stream_feed", "stream_close", "month_open",
+    "month_add", "month_read",
 ];
 
 /// The functions that the archive defines, as nm names them.
@@ -31,7 +32,7 @@ fn defined(archive: &Path) -> Vec<&'static str> {
     FUNCTIONS.into_iter().filter(|function| symbols.contains(function)).collect()
 }
 
-/// The number that the header gives a constant.
+/// The number that the header gives a constant; 0 if it has none.
 fn constant(header: &Path, name: &str) -> String {
     let text = std::fs::read_to_string(header)
         .unwrap_or_else(|error| panic!("cannot read {}: {error}", header.display()));
@@ -39,7 +40,7 @@ fn constant(header: &Path, name: &str) -> String {
         let end = rest.find(|c: char| !c.is_ascii_digit()).unwrap_or(rest.len());
         rest[..end].to_string()
     });
-    number.unwrap_or_else(|| panic!("{} has no {name}", header.display()))
+    number.unwrap_or("0".to_string())
 }
 
 fn main() {
@@ -51,8 +52,9 @@ fn main() {
     let package = PathBuf::from(env::var("CARGO_MANIFEST_DIR").unwrap());
     let header = package.join("../../host/surfbodkin.h");
     println!("cargo::rerun-if-changed={}", header.display());
-    let words = constant(&header, "SURFBODKIN_STREAM_WORDS");
-    println!("cargo::rustc-env=SURFBODKIN_STREAM_WORDS={words}");
+    for name in ["SURFBODKIN_STREAM_WORDS", "SURFBODKIN_MONTH_WORDS"] {
+        println!("cargo::rustc-env={name}={}", constant(&header, name));
+    }
     let mut archive = match env::var_os("SURFBODKIN_ARCHIVE") {
         Some(path) => env::current_dir().unwrap().join(path),
         None => package.join("../../target/staticlib"),

@@ -88,13 +88,26 @@ functions! {
         state: *mut u64, words: usize, message: *mut u8, room: usize,
         out: *mut u8, out_length: usize
     );
+    "month_open" surfbodkin_month_open(state: *mut u64, words: usize);
+    "month_add" surfbodkin_month_add(
+        state: *mut u64, words: usize, file: *const u8, length: usize,
+        published: *const u8, published_length: usize, own: *const u8, own_length: usize
+    );
+    "month_read" surfbodkin_month_read(
+        state: *const u64, words: usize, out: *mut u8, out_length: usize
+    );
 }
 
-/// The words of a stream's state.
-pub const STREAM_WORDS: usize = match usize::from_str_radix(env!("SURFBODKIN_STREAM_WORDS"), 10) {
-    Ok(words) => words,
-    Err(_) => panic!("the header has no number of words"),
-};
+const fn number(digits: &str) -> usize {
+    match usize::from_str_radix(digits, 10) {
+        Ok(number) => number,
+        Err(_) => panic!("no number"),
+    }
+}
+
+/// The words of a stream's state, and of a month's; 0 where the header does not say.
+pub const STREAM_WORDS: usize = number(env!("SURFBODKIN_STREAM_WORDS"));
+pub const MONTH_WORDS: usize = number(env!("SURFBODKIN_MONTH_WORDS"));
 
 /// Whether the archive has a function; if not, its call below panics.
 pub fn has(name: &str) -> bool {
@@ -103,6 +116,10 @@ pub fn has(name: &str) -> bool {
 
 pub fn has_stream() -> bool {
     ["open", "feed", "close"].iter().all(|call| has(&format!("surfbodkin_stream_{call}")))
+}
+
+pub fn has_month() -> bool {
+    ["open", "add", "read"].iter().all(|call| has(&format!("surfbodkin_month_{call}")))
 }
 
 // SAFETY, for each call: the pointers and the lengths are those of slices.
@@ -345,6 +362,34 @@ pub fn stream_close(state: &mut [u64], message: &mut [u8], room: &mut [u8]) -> u
     }
 }
 
+#[inline]
+pub fn month_open(state: &mut [u64]) -> u64 {
+    unsafe { functions::surfbodkin_month_open(state.as_mut_ptr(), state.len()) }
+}
+
+#[inline]
+pub fn month_add(state: &mut [u64], file: &[u8], published: &[u8], own: &[u8]) -> u64 {
+    unsafe {
+        functions::surfbodkin_month_add(
+            state.as_mut_ptr(),
+            state.len(),
+            file.as_ptr(),
+            file.len(),
+            published.as_ptr(),
+            published.len(),
+            own.as_ptr(),
+            own.len(),
+        )
+    }
+}
+
+#[inline]
+pub fn month_read(state: &[u64], room: &mut [u8]) -> u64 {
+    unsafe {
+        functions::surfbodkin_month_read(state.as_ptr(), state.len(), room.as_mut_ptr(), room.len())
+    }
+}
+
 /// The top byte of release's no, and of a message that is held.
 pub const NO: u64 = 255;
 
@@ -377,7 +422,8 @@ fn accepted(count: usize, low: usize) -> u64 {
     packed(Answer::Accepted(count)) | low as u64
 }
 
-/// The messages of a day file, or the entries that a search of it wrote.
+/// The messages of a day file, the entries that a search of it wrote, or the namespaces of a
+/// month.
 pub fn packed_low(answer: Result<usize, Refusal>) -> u64 {
     answer.map_or_else(refused, |low| accepted(0, low))
 }
@@ -398,7 +444,7 @@ pub fn packed_compared(answer: Result<compare::Written, Refusal>) -> u64 {
     })
 }
 
-/// A table's check, or a feed.
+/// A table's check, a feed, or a file added to a month.
 pub fn packed_plain(answer: Result<(), Refusal>) -> u64 {
     answer.map_or_else(refused, |()| 0)
 }

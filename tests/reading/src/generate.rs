@@ -3,6 +3,7 @@
 //! taken for right or wrong; that is for the readers to say.
 
 pub mod days;
+pub mod months;
 pub mod names;
 pub mod nests;
 pub mod pairs;

@@ -9,9 +9,10 @@
 //! judge by the listing and a grant table, `write_text` and `read_text` go from
 //! a single ARI to its text and back, `read_table` reads the text of a grant table. A
 //! [`Stream`] takes a message in fragments; [`names`] has the lists of names, and release
-//! by them; [`why`] says why a message was held; [`day`] has the file of a day's messages;
-//! `same` says whether two single ARIs are the same; [`compare`] says what differs between
-//! two messages; [`strike`] takes a target or report out of one.
+//! by them; [`why`] says why a message was held; [`day`] has the file of a day's messages,
+//! [`month`] the figures of many; `same` says whether two single ARIs are the same;
+//! [`compare`] says what differs between two messages; [`strike`] takes a target or report
+//! out of one.
 //!
 //! Not part of the reading: [`archive`] calls the gate, [`generate`] makes
 //! inputs for comparisons and times, [`vectors`] holds the fixed inputs,
@@ -22,6 +23,7 @@ pub mod day;
 mod grants;
 mod head;
 mod listing;
+pub mod month;
 pub mod names;
 mod same;
 mod spelling;
@@ -118,6 +120,10 @@ pub enum Test {
     DayMessage = 22,
     /// "file full"
     DayFull = 23,
+    /// "the file would bring a namespace beyond 256"
+    Namespaces = 25,
+    /// "a total would pass its bound"
+    Total = 26,
     /// "no such target or report"
     NoTarget = 27,
 }

@@ -3,15 +3,17 @@
 //! with tables that grant most of what is named, and rooms from none to enough;
 //! day files of both versions, whole and damaged; messages that nest down to the reference
 //! by which they are held; pairs of ARIs, most of them alike, and of messages that differ in
-//! a few places; messages to strike targets from; and messages that are fed in fragments.
+//! a few places; messages to strike targets from; messages that are fed in fragments; and
+//! months of day files.
 //!
 //! `agree [--count N] [--seed S]`: N inputs in all (200,000), for each function
-//! that the archive has the same number, the stream's three counted as one; the
-//! seed is taken from the clock unless given, and printed.
+//! that the archive has the same number, the stream's three counted as one, and so the
+//! month's; the seed is taken from the clock unless given, and printed.
 
 mod day;
 mod lent;
 mod messages;
+mod month;
 mod same;
 mod stream;
 mod strike;
@@ -673,7 +675,11 @@ fn main() -> ExitCode {
     if !with_stream {
         missing.push("the stream");
     }
-    if calls.is_empty() && !with_stream {
+    let with_month = archive::has_month();
+    if !with_month {
+        missing.push("the month");
+    }
+    if calls.is_empty() && !with_stream && !with_month {
         println!("agree: built without the archive, nothing compared");
         return ExitCode::FAILURE;
     }
@@ -684,12 +690,15 @@ fn main() -> ExitCode {
 
     let start = Instant::now();
     let (mut tally, mut streams) = (Tally::new(&calls), stream::Tally::new());
+    let mut months = month::Tally::new();
     for k in 0..count {
         // Each input has a seed of its own, so that one can be made again alone.
         let mut random = Random::new(seed.wrapping_add(k << 32 | k));
-        let kinds = calls.len() + usize::from(with_stream);
-        let outcome = match calls.get(k as usize % kinds) {
+        let kinds = calls.len() + usize::from(with_stream) + usize::from(with_month);
+        let kind = k as usize % kinds;
+        let outcome = match calls.get(kind) {
             Some(&call) => compare_call(call, &calls, &mut random, k as usize % 48, &mut tally),
+            None if with_month && kind + 1 == kinds => month::compare(&mut random, &mut months),
             None => stream::compare(&mut random, &mut streams),
         };
         if let Err(words) = outcome {
@@ -744,9 +753,22 @@ fn main() -> ExitCode {
         }
     }
 
+    if with_month {
+        match month::compare_bounds(&mut Random::new(seed), &mut months) {
+            Ok(compared) => println!("months at the bound of their totals: {compared}"),
+            Err(words) => {
+                println!("DISAGREE at the months of seed {seed}: {words}");
+                return ExitCode::FAILURE;
+            }
+        }
+    }
+
     let mut columns: Vec<&Column> = tally.answers.iter().map(|(_, column)| column).collect();
     if with_stream {
         columns.extend([&streams.feeds, &streams.closes]);
+    }
+    if with_month {
+        columns.extend([&months.adds, &months.reads]);
     }
     let with_days = day::CALLS.iter().all(|call| calls.contains(call));
     let (with_why, with_same) = (calls.contains(&Call::Why), calls.contains(&Call::Same));
@@ -754,6 +776,7 @@ fn main() -> ExitCode {
     let with_strike = calls.contains(&Call::Strike);
     let complete = tally::print(&columns)
         && (!with_stream || streams.is_complete())
+        && (!with_month || months.is_complete())
         && (!with_days || tally.days.is_complete())
         && (!with_why || tally.whys.is_complete())
         && (!with_same || tally.pairs.is_complete())
@@ -781,6 +804,9 @@ fn main() -> ExitCode {
     }
     if with_stream {
         println!("{streams}");
+    }
+    if with_month {
+        println!("{months}");
     }
     if !complete && count >= 100_000 {
         println!("agree: an answer never occurred");

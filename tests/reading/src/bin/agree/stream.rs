@@ -281,7 +281,7 @@ impl Streams {
 }
 
 /// A length that is too short, often none or all but one.
-fn less_than(need: usize, random: &mut Random) -> usize {
+pub fn less_than(need: usize, random: &mut Random) -> usize {
     match random.below(3) {
         0 => 0,
         1 => need - 1,

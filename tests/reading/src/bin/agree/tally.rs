@@ -18,6 +18,10 @@ impl Column {
     pub fn add(&mut self, answer: u64) {
         self.answers[(answer >> 56) as usize] += 1;
     }
+
+    pub fn times(&self, number: u8) -> usize {
+        self.answers[usize::from(number)]
+    }
 }
 
 /// Prints a table; false if an answer that a function may give never occurred.
@@ -28,7 +32,7 @@ pub fn print(columns: &[&Column]) -> bool {
     }
     println!();
     let mut complete = true;
-    for number in (0..=27).chain([NO]) {
+    for number in 0..=NO {
         if !columns.iter().any(|column| column.numbers.contains(&number)) {
             continue;
         }
