@@ -1,0 +1,2 @@
+-- What is promised of a composed order.
+use Prim.Native.Nat.{ℕ}

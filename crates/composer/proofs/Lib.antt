@@ -1,0 +1,10 @@
+pub mod Texts
+pub mod Reading
+pub mod Gathering
+pub mod Order
+pub mod Ways
+pub mod Taking
+pub mod Finishing
+pub mod Going
+pub mod Building
+pub mod Composed

@@ -1,0 +1,79 @@
+-- The message of a nonce and targets stands by the rules, whatever its size; so it is accepted exactly if it keeps the limits, and its listing is that of
+-- its targets' references.
+use Prim.Native.Nat.{ℕ, suc, _+_, _<_, _≤_, _^_}
+use mathlib.Core.Logic.{_↔_}
+use mathlib.Core.Path.{_≡_, refl, sym, _∙_, ap, subst}
+use mathlib.Core.Bool.{Bool, true, false, cond, true≢false}
+use mathlib.Core.List.{List, [], _∷_, _++_, append-nil, map}
+use native.Mathlib.Omega.{arith}
+use lib.ListN.{length}
+use lib.Dec.{ltb, leb}
+use borrow.Author.Tests.{leb-true, lt-ltb, le-ltb, ltb-true, ltb-false, le-leb}
+use Rattle.buffer.specs.Bytes.{all, isByte, within}
+use Rattle.cbor.specs.Head.{unsigned, bytes, array, simple, Lead, Sound, counted, a-simple, leadOf, stringSize, isContainer}
+use Rattle.cbor.specs.Head as head
+use Rattle.cbor.specs.Utf8.{utf8}
+use Rattle.cbor.proofs.HeadLaws.{shortest-carries}
+use Rattle.ari.specs.Table.{max63, max64, message, inside, row, nonces, types, typeRows, fits}
+use Rattle.ari.specs.declared.Limits.{Limits}
+use Rattle.ari.specs.declared.Input.the-variants.{Message}
+use Rattle.ari.specs.Reader.{accept, read}
+use Rattle.ari.specs.Items.{Items, none, item, encode, heads, depth}
+use Rattle.ari.specs.Decode.{decode}
+use Rattle.ari.specs.Rules.{Plain, Holds, Nonce, TypeAt, Ari, typed, Value, execset, Targets, Sets, no-more, set, Stands, a-message, Is}
+use Rattle.ari.specs.Listing.{Entry, listing}
+use Rattle.ari.specs.References.{Placed, inTargets, past, entryFor, references}
+use Rattle.ari.proofs.Demand.{demand-two, is-read, unique}
+use Rattle.ari.proofs.Listed.{listing-is}
+use Rattle.composer.specs.Compose.{null, number, string, other, inRange, nonceLead, nonceString, orderOf, finished}
+use Rattle.composer.specs.Compose as compose
+
+-- the shortest head of a number or a length
+short-sound : (k a : ℕ) → leb k head.map ≡ true → a ≤ max64 → Sound (leadOf k a)
+unfolding leadOf
+short-sound k a h f = counted (leb-true k head.map h) (rw h (shortest-carries a (omega arith)))
+
+holds-array : (n : ℕ) → n ≤ max64 → Holds array n (leadOf array n) []
+unfolding leadOf
+holds-array n h = record { head = short-sound array n refl h; kind-is = refl; arg-is = refl; bare = refl }
+
+-- the version
+one : Plain (row unsigned 1 1 ∷ []) utf8 (leadOf unsigned 1) [] none
+unfolding leadOf stringSize
+one = record { head = short-sound unsigned 1 refl (omega arith); fitting = refl; sized = refl; spelling = refl; bare = refl }
+
+-- the type of an EXECSET
+twenty : TypeAt message (leadOf unsigned 20) [] none
+unfolding leadOf stringSize types
+twenty = record { head = short-sound unsigned 20 refl (omega arith); fitting = refl; sized = refl; spelling = refl; bare = refl }
+
+-- a nonce in range, whose string a head can announce
+pub nonce-stands : (z : compose.Nonce) → inRange z ≡ true → length (nonceString z) ≤ max64 → Nonce (nonceLead z) (nonceString z) none
+unfolding leadOf stringSize
+nonce-stands null e h = record { head = a-simple refl (omega arith) (omega arith) refl; fitting = refl; sized = refl; spelling = refl; bare = refl }
+nonce-stands (number n) e h =
+    let l : n ≤ max63 = leb-true n max63 e in
+    record { head = short-sound unsigned n refl (omega arith); fitting = rw (le-leb 0 n (omega arith), e); sized = refl; spelling = refl; bare = refl }
+nonce-stands (string s) e h =
+    record { head = short-sound bytes (length s) refl h; fitting = rw (le-leb 0 (length s) (omega arith), le-leb (length s) max64 h); sized = refl; spelling = refl; bare = refl }
+nonce-stands other e h = absurd (true≢false (sym e))
+
+module _ (z : compose.Nonce) {n : ℕ} {ts : Items} (e : inRange z ≡ true) (h : length (nonceString z) ≤ max64) (f : n < max64) (t : Targets n ts) where
+  pub order-stands : Stands Message (orderOf z n ts)
+  unfolding leadOf
+  order-stands = a-message one (set (typed (holds-array 2 (omega arith)) twenty (execset (holds-array (suc n) (omega arith)) (nonce-stands z e h) t)) no-more)
+
+-- What stands is the tree of its bytes, and is accepted exactly if it keeps the limits.
+module _ {g : Items} (r : Stands Message g) where
+  own-limits : Limits
+  own-limits = record { bytes = length (encode g); items = heads g; containers = depth g; text = 0 }
+
+  pub its-tree : g ≡ decode (encode g)
+  unfolding own-limits
+  its-tree =
+      unique own-limits Message (encode g)
+      (record { stands = r; bytes = refl; count = refl; short = omega arith; few = omega arith; shallow = omega arith })
+
+  module _ (m : Limits) where
+    pub keeps : length (encode g) ≤ m .bytes → heads g ≤ m .items → depth g ≤ m .containers → Is m Message (encode g) g (heads g)
+    keeps a b c = record { stands = r; bytes = refl; count = refl; short = a; few = b; shallow = c }

@@ -1,0 +1,3 @@
+pub mod Compose
+pub mod Apart
+pub mod Code
