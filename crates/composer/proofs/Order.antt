@@ -6,25 +6,23 @@ use mathlib.Core.Path.{_≡_, refl, sym, _∙_, ap, subst}
 use mathlib.Core.Bool.{Bool, true, false, cond, true≢false}
 use mathlib.Core.List.{List, [], _∷_, _++_, append-nil, map}
 use native.Mathlib.Omega.{arith}
-use lib.ListN.{length}
+use lib.ListN.{length, length-append}
 use lib.Dec.{ltb, leb}
 use borrow.Author.Tests.{leb-true, lt-ltb, le-ltb, ltb-true, ltb-false, le-leb}
 use Rattle.buffer.specs.Bytes.{all, isByte, within}
 use Rattle.cbor.specs.Head.{unsigned, bytes, array, simple, Lead, Sound, counted, a-simple, leadOf, stringSize, isContainer}
 use Rattle.cbor.specs.Head as head
 use Rattle.cbor.specs.Utf8.{utf8}
-use Rattle.cbor.proofs.HeadLaws.{shortest-carries}
+use Rattle.cbor.proofs.HeadLaws.{shortest-carries, length-lead}
 use Rattle.ari.specs.Table.{max63, max64, message, inside, row, nonces, types, typeRows, fits}
 use Rattle.ari.specs.declared.Limits.{Limits}
 use Rattle.ari.specs.declared.Input.the-variants.{Message}
 use Rattle.ari.specs.Reader.{accept, read}
-use Rattle.ari.specs.Items.{Items, none, item, encode, heads, depth}
+use Rattle.ari.specs.Items.{Items, none, item, encode, heads, depth, insideAt}
 use Rattle.ari.specs.Decode.{decode}
 use Rattle.ari.specs.Rules.{Plain, Holds, Nonce, TypeAt, Ari, typed, Value, execset, Targets, Sets, no-more, set, Stands, a-message, Is}
-use Rattle.ari.specs.Listing.{Entry, listing}
-use Rattle.ari.specs.References.{Placed, inTargets, past, entryFor, references}
+use Rattle.ari.specs.References.{inTargets, past, references}
 use Rattle.ari.proofs.Demand.{demand-two, is-read, unique}
-use Rattle.ari.proofs.Listed.{listing-is}
 use Rattle.composer.specs.Compose.{null, number, string, other, inRange, nonceLead, nonceString, orderOf, finished}
 use Rattle.composer.specs.Compose as compose
 
@@ -62,6 +60,29 @@ module _ (z : compose.Nonce) {n : ℕ} {ts : Items} (e : inRange z ≡ true) (h 
   pub order-stands : Stands Message (orderOf z n ts)
   unfolding leadOf
   order-stands = a-message one (set (typed (holds-array 2 (omega arith)) twenty (execset (holds-array (suc n) (omega arith)) (nonce-stands z e h) t)) no-more)
+
+-- the first byte of the targets
+abbrev pub firstTarget : compose.Nonce → ℕ → ℕ
+firstTarget z n =
+    past (insideAt (past (insideAt (past 0 (leadOf unsigned 1) [] none) (leadOf array 2) []) (leadOf unsigned 20) [] none) (leadOf array (suc n)) [])
+    (nonceLead z) (nonceString z) none
+
+module _ (z : compose.Nonce) {n : ℕ} {ts : Items} (e : inRange z ≡ true) (h : length (nonceString z) ≤ max64) (f : n < max64) (t : Targets n ts) where
+  -- an order's references are those of its targets, each from where it stands
+  pub order-references : references (order-stands z e h f t) ≡ inTargets t (firstTarget z n)
+  unfolding order-stands leadOf
+  order-references = append-nil (inTargets t (firstTarget z n))
+
+  pub targets-behind : firstTarget z n + length (encode ts) ≡ length (encode (orderOf z n ts))
+  targets-behind =
+      simp length-append (omega (
+        arith,
+        length-lead (leadOf unsigned 1),
+        length-lead (leadOf array 2),
+        length-lead (leadOf unsigned 20),
+        length-lead (leadOf array (suc n)),
+        length-lead (nonceLead z),
+      ))
 
 -- What stands is the tree of its bytes, and is accepted exactly if it keeps the limits.
 module _ {g : Items} (r : Stands Message g) where

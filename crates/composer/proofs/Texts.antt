@@ -12,7 +12,7 @@ use Rattle.buffer.specs.Runs.{front, past, RunTo}
 use Rattle.buffer.proofs.ByteLaws.{and-true}
 use Rattle.buffer.proofs.RunLaws.{beyond, here}
 use Rattle.composer.specs.Compose.{Texts, no-more, unended, text, lengthen, textsIn}
-use Rattle.composer.specs.Code.{inText, feeds}
+use Rattle.composer.specs.Code.{inText, feedOf, feeds}
 
 -- by what stands before the first line feed, and what from there on
 abbrev byPast : List ℕ → List ℕ → Texts
@@ -117,3 +117,18 @@ joined-back (x ∷ b) e = go (eqb x 10) refl e (joined-back b)
         → joined (cond t (text [] (textsIn b)) (lengthen x (textsIn b))) ≡ x ∷ b
     go true q f ih = let z : x ≡ 10 = eqb-true x 10 q in rw (ih f, z)
     go false q f ih = let (g, z) = ended-shorter x (textsIn b) f in z ∙ ap (λ (r : List ℕ). x ∷ r) (ih g)
+
+feed-most : (x : ℕ) → feedOf x ≤ 1
+feed-most x = go (eqb x 10)
+  where
+    go : (c : Bool) → cond c 1 0 ≤ 1
+    go true = omega arith
+    go false = omega arith
+
+-- each has its line feed
+pub many-most : (b : List ℕ) → many (textsIn b) ≤ length b
+many-most b = omega (arith, many-feeds b, most b)
+  where
+    most : (b : List ℕ) → feeds b ≤ length b
+    most [] = omega arith
+    most (x ∷ b) = omega (arith, feed-most x, most b)
