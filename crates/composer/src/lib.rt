@@ -9,6 +9,7 @@ ghost use Rattle.ari.specs.Limits.{gateLimits, capped};
 ghost use Rattle.ari.specs.Decode.{decode};
 ghost use Rattle.text.specs.Answer.{refused, lent};
 ghost use Rattle.text_write.specs.Written.{writtenOf, roomAfter};
+ghost use Rattle.answer_codes.specs.Code.{textCode};
 ghost use Rattle.composer.specs.Compose.{nonceOf, inRange, finished, composedBy, compose};
 ghost use Rattle.composer.specs.Code.{inText, feedOf, feeds, InRange, isObjectAt, opening, nonceBytes, frontBytes, TakesText, PutsText, RestIs, gatherAt, TargetsPut, OrderBuilt, Order};
 use ari::Limits;
@@ -385,4 +386,19 @@ pub fn compose(kind: u64, number: u64, nonce: &[u8], texts: &[u8], out: &mut [u8
     ensures { λ r. ⌜ now (out .exit) ≡ roomAfter (now (out .entry)) (lent (length (now (out .entry))) (compose gateLimits (nonceOf kind number (now (nonce .entry))) (now (texts .entry)))) ⌝ }
 {
     compose_within(ari::LIMITS, kind, number, nonce, texts, out)
+}
+
+// The same for C: the answer is one number, as host/composer.h says.
+#[no_mangle]
+pub extern "C" fn composer_compose(
+    kind: u64,
+    number: u64,
+    nonce: &[u8],
+    texts: &[u8],
+    out: &mut [u8],
+) -> u64
+    ensures { λ r. ⌜ r ≡ textCode (writtenOf (lent (length (now (out .entry))) (compose gateLimits (nonceOf kind number (now (nonce .entry))) (now (texts .entry))))) ⌝ }
+    ensures { λ r. ⌜ now (out .exit) ≡ roomAfter (now (out .entry)) (lent (length (now (out .entry))) (compose gateLimits (nonceOf kind number (now (nonce .entry))) (now (texts .entry)))) ⌝ }
+{
+    answer_codes::text_code(compose(kind, number, nonce, texts, out))
 }
