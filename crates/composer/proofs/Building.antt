@@ -2,17 +2,16 @@
 use Prim.Native.Nat.{ℕ, suc, _+_, _-_, _<_, _≤_, _^_}
 use mathlib.Core.Path.{_≡_, refl, sym, _∙_, ap}
 use mathlib.Core.Bool.{Bool, true, false, not, cond}
-use mathlib.Core.List.{List, [], _∷_, _++_, append-nil, append-assoc}
+use mathlib.Core.List.{List, _++_}
 use native.Mathlib.Omega.{arith}
-use native.Mathlib.Nat.{zero-add}
 use lib.ListN.{length, getD, take, drop, length-append}
-use lib.Seq.{sets, sets-eq, take-append-seam}
+use lib.Seq.{sets-eq, take-append-seam}
 use lib.Dec.{eqb}
 use borrow.Author.Tests.{lt-ltb, not-true, not-false}
 use mir.Syntax.{w8}
 use mir.Val.{Fits}
 use Rattle.buffer.specs.Put.{Put}
-use Rattle.buffer.proofs.Putting.{put-both, put-size, put-end}
+use Rattle.buffer.proofs.Putting.{put-both, put-size}
 use Rattle.buffer.proofs.ByteLaws.{all-bytes}
 use Rattle.cbor.specs.Head.{unsigned, array, leadOf}
 use Rattle.cbor.proofs.HeadLaws.{length-lead}
@@ -21,12 +20,12 @@ use Rattle.ari.specs.declared.Limits.{Limits}
 use Rattle.ari.specs.declared.Input.the-variants.{Message}
 use Rattle.ari.specs.Rules.{Stands}
 use Rattle.ari.specs.Limits.{gateLimits, capped}
-use Rattle.ari.specs.Items.{Items, none, item, encode, heads}
+use Rattle.ari.specs.Items.{Items, encode, heads}
 use Rattle.ari.specs.Decode.{decode}
 use Rattle.text.specs.Answer.{refused, lent}
 use Rattle.text_write.specs.declared.Written.{Written}
 use Rattle.text_write.specs.Written.{writtenOf, roomAfter}
-use Rattle.composer.specs.Compose.{Nonce, null, number, string, other, nonceOf, inRange, nonceLead, nonceString, Gathered, wrong, targets, gather, textsIn, orderOf, finished, composedBy, compose}
+use Rattle.composer.specs.Compose.{Nonce, null, number, string, other, nonceOf, inRange, nonceLead, nonceString, wrong, targets, textsIn, orderOf, finished, composedBy, compose}
 use Rattle.composer.specs.Code.{feeds, InRange, frontBytes, RestIs, gatherAt, TargetsPut, OrderOver, AllBuilt, OrderBuilt, Order}
 use Rattle.composer.specs.declared.Built.{Built}
 use Rattle.composer.specs.declared.Built.the-variants.{Wrong, Over, Whole}
@@ -34,10 +33,7 @@ use Rattle.composer.specs.declared.Rest.{Rest}
 use Rattle.composer.specs.declared.Rest.the-variants as rest
 use Rattle.composer.proofs.Texts.{clean, many-feeds}
 use Rattle.composer.proofs.Gathering.{Are, gathered-exactly, are-targets, are-many, are-bytes}
-use Rattle.composer.proofs.Order.{order-stands, its-tree}
-
-order-bytes : (z : Nonce) (n : ℕ) (ts : Items) → encode (orderOf z n ts) ≡ frontBytes z n ++ encode ts
-order-bytes z n ts = simp (append-assoc, append-nil)
+use Rattle.composer.proofs.Order.{order-stands, order-bytes, its-tree}
 
 less-none : (n : ℕ) → n - 0 ≡ n
 less-none n = omega arith

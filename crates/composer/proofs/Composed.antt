@@ -1,35 +1,36 @@
 -- What is promised of a composed order (R218 to R225): it is an accepted message, its nonce is the one given, its targets are the texts' ARIs in order, its
 -- listing is made of their references; what is not refused is composed and nothing else; and taken apart and composed again it is the same.
-use Prim.Native.Nat.{ℕ, suc, _+_, _-_, _<_, _≤_}
+use Prim.Native.Nat.{ℕ, suc, _<_, _≤_}
 use mathlib.Core.Logic.{_↔_}
 use mathlib.Core.Path.{_≡_, refl, sym, _∙_, ap, subst}
 use mathlib.Core.Bool.{Bool, true, false, cond, true≢false}
-use mathlib.Core.List.{List, [], _∷_, _++_, map, append-nil}
+use mathlib.Core.List.{List, map}
 use native.Mathlib.Omega.{arith}
-use lib.ListN.{length, length-append}
+use lib.ListN.{length, drop}
+use lib.Seq.{drop-at}
 use lib.Dec.{ltb}
 use borrow.Author.Tests.{lt-ltb, le-ltb, ltb-true, ltb-false}
 use Rattle.buffer.specs.Bytes.{all, isByte}
-use Rattle.cbor.specs.Head.{Lead, size, leadOf, leadBytes}
-use Rattle.cbor.proofs.HeadLaws.{length-lead}
+use Rattle.cbor.specs.Head.{Lead, leadOf}
 use Rattle.ari.specs.Table.{max64}
 use Rattle.ari.specs.declared.Limits.{Limits}
 use Rattle.ari.specs.declared.Input.the-variants.{Message}
 use Rattle.ari.specs.Reader.{accept, read}
 use Rattle.ari.specs.Items.{Items, none, item, encode, heads, depth}
 use Rattle.ari.specs.Decode.{decode}
-use Rattle.ari.specs.Rules.{Targets, Stands, Is}
+use Rattle.ari.specs.Rules.{Targets, Is}
 use Rattle.ari.specs.Listing.{listing}
 use Rattle.ari.specs.References.{inTargets, entryFor}
 use Rattle.ari.proofs.Demand.{is-read, unique}
 use Rattle.ari.proofs.Listed.{listing-is}
-use Rattle.text.specs.Answer.{Output, refused, output}
+use Rattle.text.specs.Answer.{refused, output}
 use Rattle.composer.specs.Compose.{Nonce, null, number, string, other, inRange, nonceLead, nonceString, Texts, no-more, unended, text, textsIn, Reference, nothing, reference, referenceOf, Gathered, wrong, targets, withFirst, gather, orderOf, finished, composedBy, compose}
+use Rattle.composer.specs.Code.{frontBytes}
 use Rattle.composer.specs.Apart.{behind, orderIn, nonceBy, nonceIn, textsBy, textsFor}
 use Rattle.composer.proofs.Texts.{Clean, clean, many-most, joined-back}
 use Rattle.composer.proofs.Reading.{ReadAs, read-as, as-read}
-use Rattle.composer.proofs.Gathering.{Are, gathered-exactly, are-targets, are-many, are-ended, are-joined}
-use Rattle.composer.proofs.Order.{order-stands, firstTarget, order-references}
+use Rattle.composer.proofs.Gathering.{Are, gathered-exactly, are-targets, are-many, are-ended, are-joined, aris, are-aris}
+use Rattle.composer.proofs.Order.{order-stands, firstTarget, order-references, order-bytes, front-length}
 
 -- texts of bytes, and a nonce's string that a head can announce
 pub record Given (z : Nonce) (b : List ℕ) : Type 0 where
@@ -278,6 +279,17 @@ module _ (m : Limits) where
       -- the targets are the texts' ARIs in order
       pub its-targets : Are m (textsIn b) (composed .many) (behind (orderIn (decode u)))
       its-targets = subst (λ (i : Items). Are m (textsIn b) (composed .many) (behind (orderIn i))) (sym its-tree) (composed .are)
+
+      -- by the rules too, and in bytes: from the first target on the message is the texts' ARIs, one behind the other
+      pub targets-by-the-rules : Targets (composed .many) (behind (orderIn (decode u)))
+      targets-by-the-rules = are-targets its-targets
+
+      pub its-last-bytes : drop (firstTarget z (composed .many)) u ≡ aris (composed .are)
+      its-last-bytes =
+          let c = composed in
+          ap (drop (firstTarget z (c .many))) (sym (c .is .bytes) ∙ order-bytes z (c .many) (c .items))
+          ∙ drop-at (frontBytes z (c .many)) (encode (c .items)) (firstTarget z (c .many)) (front-length z (c .many))
+          ∙ are-aris (c .are)
 
       -- the listing is that of the targets' references, each target from where it stands
       pub its-listing : listing u ≡ map entryFor (inTargets (are-targets (composed .are)) (firstTarget z (composed .many)))

@@ -1,11 +1,11 @@
 -- A finished order judged: its bytes and items are counted, and the gate's check refuses what is left only for its containers, since it stands by the rules.
 use Prim.Native.Nat.{ℕ, _<_, _≤_}
 use mathlib.Core.Path.{_≡_, refl, sym, _∙_, ap}
-use mathlib.Core.Bool.{Bool, true, false, cond}
+use mathlib.Core.Bool.{Bool, true, false}
 use mathlib.Core.List.{List}
 use native.Mathlib.Omega.{arith}
 use lib.ListN.{length, getD}
-use lib.Dec.{ltb, leb}
+use lib.Dec.{leb}
 use borrow.Author.Tests.{lt-ltb, le-ltb, leb-true, leb-false}
 use mir.Syntax.{w8}
 use mir.Val.{Fits}
@@ -14,14 +14,14 @@ use Rattle.ari.specs.declared.Limits.{Limits}
 use Rattle.ari.specs.declared.Input.the-variants.{Message}
 use Rattle.ari.specs.Reader.{refuse, accept, read}
 use Rattle.ari.specs.Reader as reader
-use Rattle.ari.specs.Items.{Items, encode, heads, depth}
+use Rattle.ari.specs.Items.{encode, heads, depth}
 use Rattle.ari.specs.Decode.{decode}
 use Rattle.ari.specs.Rules.{Is}
 use Rattle.ari.proofs.Demand.{demand-two, is-read}
 use Rattle.reader.specs.declared.Answer.{Answer}
 use Rattle.reader.specs.declared.Answer.the-variants.{Accepted, Refused}
 use Rattle.reader.specs.Answers.{answerOf}
-use Rattle.text.specs.Answer.{Output, refused, output, lent}
+use Rattle.text.specs.Answer.{refused, output, lent}
 use Rattle.text_write.specs.declared.Written.{Written}
 use Rattle.text_write.specs.Written.{writtenOf, roomAfter}
 use Rattle.composer.specs.Compose.{finished}

@@ -1,30 +1,22 @@
 -- The texts that are targets, in order: what is gathered is exactly that (`gathered-exactly`); and gathering goes on from place to place.
-use Prim.Native.Nat.{ℕ, suc, _+_, _-_, _<_, _≤_}
+use Prim.Native.Nat.{ℕ, suc, _+_, _≤_}
 use mathlib.Core.Logic.{_↔_}
 use mathlib.Core.Path.{_≡_, refl, sym, _∙_, ap}
-use mathlib.Core.Bool.{Bool, true, false}
-use mathlib.Core.List.{List, [], _∷_, _++_, append-assoc}
+use mathlib.Core.List.{List, [], _++_, append-nil, append-assoc}
 use native.Mathlib.Omega.{arith}
-use native.Mathlib.Numerals.{add-one}
-use native.Mathlib.Nat.{zero-add, add-zero}
-use lib.ListN.{length, drop, length-append, length-drop}
-use Rattle.buffer.specs.Bytes.{all, isByte, part}
-use Rattle.buffer.specs.Put.{Put}
-use Rattle.buffer.specs.Runs.{RunTo}
-use Rattle.cbor.specs.Head.{Lead, size, leadBytes}
+use lib.ListN.{length, length-append}
+use Rattle.cbor.specs.Head.{Lead}
 use Rattle.cbor.proofs.HeadLaws.{length-lead}
 use Rattle.ari.specs.Table.{max64}
 use Rattle.ari.specs.declared.Limits.{Limits}
-use Rattle.ari.specs.Items.{Items, none, item, encode, heads}
+use Rattle.ari.specs.Items.{Items, none, item, encode}
 use Rattle.ari.specs.Rules.{Targets, no-targets}
 use Rattle.ari.specs.Rules as rules
-use Rattle.ari.proofs.Join.{join, encode-join, heads-join, join-none}
 use Rattle.text.specs.Text.{textOf}
-use Rattle.composer.specs.Compose.{Texts, no-more, unended, text, textsIn, Reference, nothing, reference, referenceOf, Gathered, wrong, targets, withFirst, gather}
+use Rattle.composer.specs.Compose.{Texts, no-more, unended, text, Reference, nothing, reference, referenceOf, Gathered, wrong, targets, withFirst, gather}
 use Rattle.composer.specs.Apart.{textsBy}
-use Rattle.composer.specs.Code.{gatherAt}
 use Rattle.composer.proofs.Texts.{Clean, many, Ended, joined}
-use Rattle.composer.proofs.Reading.{ReadAs, read-as, as-read}
+use Rattle.composer.proofs.Reading.{ReadAs, read-as, as-read, its-bytes}
 
 -- The texts are those of these targets, so many, one by one.
 pub data Are (m : Limits) : Texts → ℕ → Items → Type 0 where
@@ -78,6 +70,9 @@ module _ (m : Limits) where
   pub gathered-exactly : (k : ℕ) (ts : Texts) {n : ℕ} {g : Items} → Clean max64 max64 ts → (gather m k ts ≡ targets n g) ↔ Are m ts n g
   gathered-exactly k ts c = (gathered-are max64 k ts (omega arith) c, are-gathered max64 k ts (omega arith) c)
 
+pub encode-front : (l : Lead) (s : List ℕ) (ms rs : Items) → encode (item l s ms rs) ≡ encode (item l s ms none) ++ encode rs
+encode-front l s ms rs = simp (append-assoc, append-nil)
+
 module _ {m : Limits} where
   pub are-targets : {ts : Texts} {n : ℕ} {g : Items} → Are m ts n g → Targets n g
   are-targets no-texts = no-targets
@@ -101,3 +96,13 @@ module _ {m : Limits} where
   pub are-joined : {ts : Texts} {n : ℕ} {g : Items} → Are m ts n g → textsBy g ≡ joined ts
   are-joined no-texts = refl
   are-joined (a-text r a) = let z = sym (ap textOf (r .decoded)) ∙ r .spelled .the-text in rw (z, are-joined a)
+
+  -- the texts' ARIs, one behind the other, are the targets' bytes
+  pub aris : {ts : Texts} {n : ℕ} {g : Items} → Are m ts n g → List ℕ
+  aris no-texts = []
+  aris (a-text r a) = r .ari ++ aris a
+
+  pub are-aris : {ts : Texts} {n : ℕ} {g : Items} (a : Are m ts n g) → encode g ≡ aris a
+  unfolding aris
+  are-aris no-texts = refl
+  are-aris (a-text {l = l} {s = s} {ms = ms} {rs = rs} r a) = encode-front l s ms rs ∙ rw (its-bytes r, are-aris a)

@@ -1,35 +1,33 @@
 -- Targets put one after the other: those so far stand in the room, and with what is gathered from the place on they are all that is gathered.
 use Prim.Native.Nat.{ℕ, suc, _+_, _-_, _^_, _<_, _≤_}
 use mathlib.Core.Path.{_≡_, refl, sym, _∙_, ap}
-use mathlib.Core.List.{List, [], _∷_, _++_, append-nil, append-assoc}
+use mathlib.Core.List.{List}
 use native.Mathlib.Omega.{arith}
 use native.Mathlib.Numerals.{add-one}
-use native.Mathlib.Nat.{zero-add, add-zero}
-use lib.ListN.{length, take, drop, length-append, length-drop, length-take}
-use lib.Seq.{sets, sets-eq, drop-drop}
+use native.Mathlib.Nat.{zero-add}
+use lib.ListN.{length, length-append}
 use mir.Syntax.{w64}
 use mir.Val.{Fits}
 use Rattle.buffer.specs.Bytes.{part}
 use Rattle.buffer.specs.Put.{Put}
 use Rattle.buffer.specs.Runs.{RunTo}
-use Rattle.buffer.proofs.Putting.{put-nothing, put-size, put-both}
-use Rattle.cbor.specs.Head.{Lead, leadBytes}
+use Rattle.buffer.proofs.Putting.{put-nothing, put-both}
+use Rattle.cbor.specs.Head.{Lead}
 use Rattle.ari.specs.declared.Limits.{Limits}
 use Rattle.ari.specs.Limits.{gateLimits, capped}
 use Rattle.ari.specs.Decode.{decode}
 use Rattle.ari.specs.Items.{Items, none, item, encode, heads}
 use Rattle.ari.proofs.Decoded.{heads-encode}
 use Rattle.ari.proofs.Join.{join, encode-join, heads-join, join-none}
-use Rattle.text.specs.Answer.{output, readText}
-use Rattle.composer.specs.Compose.{no-more, unended, text, textsIn, Reference, nothing, reference, referenceIn, referenceBy, referenceOf, Gathered, wrong, targets, withFirst, gather}
-use Rattle.composer.specs.Code.{inText, IsLong, IsTarget, TakesText, IsTargetAt, PutsText, gatherAt, AllPut, TargetsPut, RestIs}
+use Rattle.composer.specs.Compose.{nothing, reference, referenceIn, referenceBy, referenceOf, Gathered, wrong, targets, withFirst, gather}
+use Rattle.composer.specs.Code.{inText, IsLong, IsTarget, TakesText, IsTargetAt, PutsText, gatherAt, TargetsPut, RestIs}
 use Rattle.composer.specs.declared.Taken.{Taken}
 use Rattle.composer.specs.declared.Taken.the-variants.{Nothing, TooLong, Target}
 use Rattle.composer.specs.declared.Built.the-variants.{Wrong, Over, Whole}
 use Rattle.composer.specs.declared.Rest.the-variants as rest
 use Rattle.composer.proofs.Texts.{not-ended, ended, none-left}
 use Rattle.composer.proofs.Reading.{tree-of}
-use Rattle.composer.proofs.Gathering.{firsts}
+use Rattle.composer.proofs.Gathering.{firsts, encode-front}
 
 -- targets in front of what is gathered
 abbrev pub before : ℕ → Items → Gathered → Gathered
@@ -48,9 +46,6 @@ before-one : (c k : ℕ) (us : Items) (l : Lead) (s : List ℕ) (ms : Items) (g 
     → before c us (withFirst k (reference l s ms) g) ≡ before (c + 1) (join us (item l s ms none)) g
 before-one c k us l s ms (wrong j) = refl
 before-one c k us l s ms (targets n rs) = let z : c + suc n ≡ c + 1 + n = omega arith in rw (z, join-one us l s ms rs)
-
-encode-front : (l : Lead) (s : List ℕ) (ms rs : Items) → encode (item l s ms rs) ≡ encode (item l s ms none) ++ encode rs
-encode-front l s ms rs = simp (append-assoc, append-nil)
 
 pub record Going (m : Limits) (b room₀ room : List ℕ) (at first p k q n : ℕ) : Type 0 where
   pub items : Items

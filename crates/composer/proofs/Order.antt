@@ -1,29 +1,27 @@
 -- The message of a nonce and targets stands by the rules, whatever its size; so it is accepted exactly if it keeps the limits, and its listing is that of
 -- its targets' references.
-use Prim.Native.Nat.{ℕ, suc, _+_, _<_, _≤_, _^_}
-use mathlib.Core.Logic.{_↔_}
-use mathlib.Core.Path.{_≡_, refl, sym, _∙_, ap, subst}
-use mathlib.Core.Bool.{Bool, true, false, cond, true≢false}
-use mathlib.Core.List.{List, [], _∷_, _++_, append-nil, map}
+use Prim.Native.Nat.{ℕ, suc, _+_, _<_, _≤_}
+use mathlib.Core.Path.{_≡_, refl, sym}
+use mathlib.Core.Bool.{true, false, true≢false}
+use mathlib.Core.List.{[], _∷_, _++_, append-nil, append-assoc, map}
 use native.Mathlib.Omega.{arith}
 use lib.ListN.{length, length-append}
-use lib.Dec.{ltb, leb}
-use borrow.Author.Tests.{leb-true, lt-ltb, le-ltb, ltb-true, ltb-false, le-leb}
-use Rattle.buffer.specs.Bytes.{all, isByte, within}
-use Rattle.cbor.specs.Head.{unsigned, bytes, array, simple, Lead, Sound, counted, a-simple, leadOf, stringSize, isContainer}
+use lib.Dec.{leb}
+use borrow.Author.Tests.{leb-true, le-leb}
+use Rattle.cbor.specs.Head.{unsigned, bytes, array, Sound, counted, a-simple, leadOf, stringSize}
 use Rattle.cbor.specs.Head as head
 use Rattle.cbor.specs.Utf8.{utf8}
 use Rattle.cbor.proofs.HeadLaws.{shortest-carries, length-lead}
-use Rattle.ari.specs.Table.{max63, max64, message, inside, row, nonces, types, typeRows, fits}
+use Rattle.ari.specs.Table.{max63, max64, message, row, types}
 use Rattle.ari.specs.declared.Limits.{Limits}
 use Rattle.ari.specs.declared.Input.the-variants.{Message}
-use Rattle.ari.specs.Reader.{accept, read}
-use Rattle.ari.specs.Items.{Items, none, item, encode, heads, depth, insideAt}
+use Rattle.ari.specs.Items.{Items, none, encode, heads, depth, insideAt}
 use Rattle.ari.specs.Decode.{decode}
-use Rattle.ari.specs.Rules.{Plain, Holds, Nonce, TypeAt, Ari, typed, Value, execset, Targets, Sets, no-more, set, Stands, a-message, Is}
+use Rattle.ari.specs.Rules.{Plain, Holds, Nonce, TypeAt, typed, execset, Targets, no-more, set, Stands, a-message, Is}
 use Rattle.ari.specs.References.{inTargets, past, references}
-use Rattle.ari.proofs.Demand.{demand-two, is-read, unique}
-use Rattle.composer.specs.Compose.{null, number, string, other, inRange, nonceLead, nonceString, orderOf, finished}
+use Rattle.ari.proofs.Demand.{unique}
+use Rattle.composer.specs.Compose.{null, number, string, other, inRange, nonceLead, nonceString, orderOf}
+use Rattle.composer.specs.Code.{frontBytes}
 use Rattle.composer.specs.Compose as compose
 
 -- the shortest head of a number or a length
@@ -73,16 +71,20 @@ module _ (z : compose.Nonce) {n : ℕ} {ts : Items} (e : inRange z ≡ true) (h 
   unfolding order-stands leadOf
   order-references = append-nil (inTargets t (firstTarget z n))
 
-  pub targets-behind : firstTarget z n + length (encode ts) ≡ length (encode (orderOf z n ts))
-  targets-behind =
-      simp length-append (omega (
-        arith,
-        length-lead (leadOf unsigned 1),
-        length-lead (leadOf array 2),
-        length-lead (leadOf unsigned 20),
-        length-lead (leadOf array (suc n)),
-        length-lead (nonceLead z),
-      ))
+-- its bytes, the targets' last
+pub order-bytes : (z : compose.Nonce) (n : ℕ) (ts : Items) → encode (orderOf z n ts) ≡ frontBytes z n ++ encode ts
+order-bytes z n ts = simp (append-assoc, append-nil)
+
+pub front-length : (z : compose.Nonce) (n : ℕ) → length (frontBytes z n) ≡ firstTarget z n
+front-length z n =
+    simp length-append (omega (
+      arith,
+      length-lead (leadOf unsigned 1),
+      length-lead (leadOf array 2),
+      length-lead (leadOf unsigned 20),
+      length-lead (leadOf array (suc n)),
+      length-lead (nonceLead z),
+    ))
 
 -- What stands is the tree of its bytes, and is accepted exactly if it keeps the limits.
 module _ {g : Items} (r : Stands Message g) where

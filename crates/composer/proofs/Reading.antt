@@ -1,14 +1,13 @@
 -- A text that is taken for a target: what it is read as is an accepted single ARI whose text it is, and an object reference by the rules.
 use Prim.Native.Nat.{ℕ, _<_, _≤_}
-use mathlib.Core.Logic.{_↔_, _⊎_, inl, inr}
-use mathlib.Core.Path.{_≡_, refl, sym, _∙_, ap, subst}
-use mathlib.Core.Bool.{Bool, true, false, _&&_, cond, true≢false}
-use mathlib.Core.List.{List, [], _∷_, _++_}
+use mathlib.Core.Path.{_≡_, refl, sym, _∙_, ap}
+use mathlib.Core.Bool.{Bool, true, false, cond, true≢false}
+use mathlib.Core.List.{List}
 use native.Mathlib.Omega.{arith}
 use lib.ListN.{length}
-use lib.Dec.{eqb, ltb}
+use lib.Dec.{eqb}
 use borrow.Author.Tests.{eqb-true}
-use Rattle.buffer.specs.Bytes.{all, isByte, within, same}
+use Rattle.buffer.specs.Bytes.{all, isByte, within}
 use Rattle.buffer.proofs.ByteLaws.{and-true}
 use Rattle.cbor.specs.Head.{array, Lead, Sound}
 use Rattle.ari.specs.Table.{max64, Place, literals, fits}
@@ -16,11 +15,11 @@ use Rattle.ari.specs.declared.Limits.{Limits}
 use Rattle.ari.specs.declared.Input.the-variants.{Single}
 use Rattle.ari.specs.Items.{Items, none, item, encode, heads}
 use Rattle.ari.specs.Decode.{decode}
-use Rattle.ari.specs.Rules.{Ari, literal, namespace-ref, typed, object-ref, Object, plain, with-params, Stands, an-ari, Is}
+use Rattle.ari.specs.Rules.{Ari, literal, namespace-ref, typed, object-ref, Object, plain, with-params, Stands, an-ari}
 use Rattle.ari.specs.Shortened.{shortForm}
 use Rattle.text.specs.Answer.{Output, refused, output, readText, Spelled}
 use Rattle.text.proofs.Round.{read-exactly}
-use Rattle.composer.specs.Compose.{Reference, nothing, reference, isObject, referenceIn, referenceBy, referenceOf}
+use Rattle.composer.specs.Compose.{nothing, reference, isObject, referenceIn, referenceBy, referenceOf}
 
 -- A text is that of an object reference, which is an accepted single ARI.
 pub record ReadAs (m : Limits) (t : List ℕ) (l : Lead) (s : List ℕ) (ms : Items) : Type 0 where

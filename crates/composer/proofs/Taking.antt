@@ -1,18 +1,18 @@
 -- A text taken: what `text_read` hands over is the ARI of the text; a room that is too short for it is told by 16, by which no text is refused.
-use Prim.Native.Nat.{ℕ, suc, _+_, _-_, _<_, _≤_}
+use Prim.Native.Nat.{ℕ, _+_, _-_, _<_, _≤_}
 use mathlib.Core.Path.{_≡_, refl, sym, _∙_, ap}
 use mathlib.Core.Bool.{Bool, true, false, cond}
-use mathlib.Core.List.{List, [], _∷_, _++_, append-nil, append-assoc}
+use mathlib.Core.List.{List, [], _++_, append-nil, append-assoc}
 use native.Mathlib.Omega.{arith}
 use lib.ListN.{length, getD, take, drop, length-append, length-take, length-drop, drop-of-length-le}
 use lib.Seq.{sets, sets-eq, drop-drop, take-all}
-use lib.Dec.{eqb, ltb}
+use lib.Dec.{ltb}
 use borrow.Author.Tests.{ltb-true, ltb-false}
 use mir.Syntax.{w8}
 use mir.Val.{Fits}
-use Rattle.buffer.specs.Bytes.{all, isByte, same}
+use Rattle.buffer.specs.Bytes.{same}
 use Rattle.buffer.proofs.ByteLaws.{all-bytes}
-use Rattle.cbor.specs.Head.{Lead, leadBytes, getHead}
+use Rattle.cbor.specs.Head.{Lead, leadBytes}
 use Rattle.cbor.specs.Answer.{headAt}
 use Rattle.cbor.proofs.HeadLaws.{getHead-back}
 use Rattle.ari.specs.Table.{max64}
@@ -20,7 +20,6 @@ use Rattle.ari.specs.declared.Limits.{Limits}
 use Rattle.ari.specs.declared.Input.the-variants.{Single}
 use Rattle.ari.specs.Limits.{capped}
 use Rattle.ari.specs.Items.{Items, none, item, encode, heads}
-use Rattle.ari.specs.Decode.{decode}
 use Rattle.ari.specs.Rules.{Stands, an-ari}
 use Rattle.text.specs.Parse.{candidate}
 use Rattle.text.specs.Answer.{Output, refused, output, writeText, checked, readText, lent, Spelled}
@@ -28,8 +27,8 @@ use Rattle.text.proofs.Round.{read-exactly, read-too-long}
 use Rattle.text_write.specs.declared.Written.{Written}
 use Rattle.text_write.specs.declared.Written.the-variants.{Bytes, Refused}
 use Rattle.text_write.specs.Written.{writtenOf, roomAfter}
-use Rattle.composer.specs.Compose.{Reference, nothing, reference, isObject, referenceIn, referenceBy, referenceOf}
-use Rattle.composer.specs.Code.{objectHead, isObjectAt, IsLong, IsTarget, TakesText, IsTargetAt, PutsText}
+use Rattle.composer.specs.Compose.{nothing, reference, isObject, referenceIn, referenceBy, referenceOf}
+use Rattle.composer.specs.Code.{isObjectAt, TakesText, PutsText}
 use Rattle.composer.specs.declared.Taken.{Taken}
 use Rattle.composer.specs.declared.Taken.the-variants.{Nothing, TooLong, Target}
 use Rattle.composer.proofs.Reading.{sound-single}

@@ -1,12 +1,12 @@
 -- The small functions' ways: line feeds counted, a nonce judged and put, the front of an order, the head of an object reference.
 use Prim.Native.Nat.{ℕ, suc, _+_, _<_, _≤_}
 use mathlib.Core.Path.{_≡_, refl, sym, _∙_, ap}
-use mathlib.Core.Bool.{Bool, true, false, not, _&&_, cond}
-use mathlib.Core.List.{List, [], _∷_, _++_, append-nil}
+use mathlib.Core.Bool.{Bool, true, false, not, cond}
+use mathlib.Core.List.{List, append-nil}
 use native.Mathlib.Omega.{arith}
 use lib.ListN.{length, getD, drop}
 use lib.Dec.{eqb, leb}
-use borrow.Author.Tests.{eq-eqb, ne-eqb, eqb-true, eqb-false, lt-leb, le-leb}
+use borrow.Author.Tests.{ne-eqb, eqb-true, eqb-false, lt-leb, le-leb}
 use Rattle.buffer.specs.Put.{Put}
 use Rattle.buffer.proofs.Putting.{put-both}
 use Rattle.buffer.proofs.RunLaws.{here, beyond}
@@ -15,7 +15,7 @@ use Rattle.cbor.specs.declared.Head.{Head}
 use Rattle.cbor.specs.declared.Head.the-variants.{Bad, Good}
 use Rattle.cbor.specs.Answer.{headAt}
 use Rattle.cbor.proofs.HeadLaws.{head-bytes}
-use Rattle.composer.specs.Compose.{Nonce, null, number, string, other, nonceOf, inRange}
+use Rattle.composer.specs.Compose.{Nonce, null, string, other, nonceOf, inRange}
 use Rattle.composer.specs.Code.{inText, feedOf, feeds, InRange, objectHead, isObjectAt, opening, nonceBytes, frontBytes}
 
 pub in-text : (x : ℕ) → not (eqb x 10) ≡ inText x

@@ -3,7 +3,7 @@ use Prim.Native.Nat.{ℕ}
 use mathlib.Core.Bool.{cond}
 use mathlib.Core.List.{List, [], _∷_, _++_}
 use lib.Dec.{eqb}
-use Rattle.cbor.specs.Head.{unsigned, bytes, Lead}
+use Rattle.cbor.specs.Head.{unsigned, bytes}
 use Rattle.ari.specs.Items.{Items, none, item}
 use Rattle.ari.specs.Decode.{decode}
 use Rattle.text.specs.Text.{textOf}
