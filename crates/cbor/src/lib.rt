@@ -224,7 +224,67 @@ pub fn head_at(s: &[u8], at: usize) -> Head
     long(s, at, (b / 32) as u8, b % 32)
 }
 
-// The same, for those who read an input again: `head_at` keeps one caller, the walk, and stands in its loop.
+// The same two, for those who read an input again: `head_at` and `long` keep one caller each and stand in the walk's loop.
+fn long_again(s: &[u8], at: usize, major: u8, low: u64) -> Head
+    requires { ⌜ (at < length (now s)) × (major < 8) × (24 ≤ low) ⌝ }
+    ensures { λ r. ⌜ r ≡ answer at (getFrom major low (drop (at + 1) (now (s .entry)))) ⌝ }
+{
+    let left = s.len() - at;
+    if low == 24 {
+        if left < 2 {
+            return Head::Bad(2);
+        }
+        if major <= MAP {
+            return Head::Good {
+                kind: major,
+                arg: wide(s[at + 1]),
+                next: at + 2,
+            };
+        }
+        return Head::Bad(3);
+    }
+    if low == 25 {
+        if left < 3 {
+            return Head::Bad(2);
+        }
+        if major <= MAP {
+            return Head::Good {
+                kind: major,
+                arg: buffer::load2(s, at + 1) as u64,
+                next: at + 3,
+            };
+        }
+        return float(major, 25, buffer::load2(s, at + 1) as u64, at + 3);
+    }
+    if low == 26 {
+        if left < 5 {
+            return Head::Bad(2);
+        }
+        if major <= MAP {
+            return Head::Good {
+                kind: major,
+                arg: buffer::load4(s, at + 1) as u64,
+                next: at + 5,
+            };
+        }
+        return float(major, 26, buffer::load4(s, at + 1) as u64, at + 5);
+    }
+    if low == 27 {
+        if left < 9 {
+            return Head::Bad(2);
+        }
+        if major <= MAP {
+            return Head::Good {
+                kind: major,
+                arg: buffer::load8(s, at + 1),
+                next: at + 9,
+            };
+        }
+        return float(major, 27, buffer::load8(s, at + 1), at + 9);
+    }
+    Head::Bad(3)
+}
+
 pub fn head_again(s: &[u8], at: usize) -> Head
     ensures { λ r. ⌜ r ≡ headAt (now (s .entry)) at ⌝ }
     ensures { λ r. ⌜ Passed (now (s .entry)) at r ⌝ }
@@ -236,7 +296,7 @@ pub fn head_again(s: &[u8], at: usize) -> Head
     if b % 32 < 24 {
         return short(b, at);
     }
-    long(s, at, (b / 32) as u8, b % 32)
+    long_again(s, at, (b / 32) as u8, b % 32)
 }
 
 // A byte from lo to hi stands at a place.

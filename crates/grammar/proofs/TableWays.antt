@@ -5,13 +5,13 @@ use mathlib.Core.Bool.{Bool, true, false, _&&_, _||_, cond, true≢false}
 use mathlib.Core.Logic.{_⊎_, inl, inr}
 use native.Mathlib.Omega.{arith}
 use lib.Dec.{ltb, leb, eqb}
-use borrow.Author.Tests.{ltb-true, eqb-true, eqb-false, lt-ltb, le-ltb, eq-eqb, ne-eqb}
+use borrow.Author.Tests.{ltb-true, leb-true, leb-false, eqb-true, eqb-false, lt-ltb, le-ltb, lt-leb, le-leb, eq-eqb, ne-eqb}
 use Rattle.buffer.proofs.ByteLaws.{and-true, or-true}
-use Rattle.ari.specs.Table.{inside, param, value, done, due, many, referenceLevel, rule, members}
+use Rattle.ari.specs.Table.{inside, param, value, done, due, many, referenceLevel, rule, fits, members}
 use Rattle.grammar.specs.declared.Next.{Next}
 use Rattle.grammar.specs.declared.Next.the-variants.{Done, Due}
 use Rattle.grammar.specs.Code.{IsSlot, slotOf, slotNumber, nextOf, typeNumber, fitsCode, extraOf, spelledAs, takesReferenceOf, nextCode, insideCode}
-use Rattle.grammar.specs.Words.{field, inSpans, spans, rangeOf, bitsOf, smallOf, topOf, ifSet, followed, follows, Word, wordMeans, wordFor, manyOf, inAriOf, inArrayOf, inMapOf, Inner, innerMeans, innerFor}
+use Rattle.grammar.specs.Words.{field, fitsWord, followedCode, nextWord, inSpans, spans, rangeOf, bitsOf, smallOf, topOf, ifSet, followed, follows, Word, wordMeans, wordFor, WordOf, manyOf, inAriOf, inArrayOf, inMapOf, Inner, innerMeans, innerFor}
 use Rattle.grammar.proofs.Ranges.{each-at, spans-fit, small-looks, top-looks}
 use Rattle.grammar.proofs.Right.{number-slot, no-kind}
 
@@ -61,21 +61,31 @@ module _ (i w : ℕ) (e : innerMeans w ≡ innerFor (rule (slotOf i))) where
   unfolding innerMeans innerFor
   map-means a = ap (λ (x : Inner). x .inMap a) e
 
--- the ways of `fits`
-module _ (i k a : ℕ) where
-  pub bad-kind : 9 < k → false ≡ fitsCode i k a
-  bad-kind h = sym (no-kind i k a h)
+-- the ways of `fits_by`
+module _ (w k a : ℕ) where
+  pub bad-kind : 9 < k → false ≡ fitsWord w k a
+  unfolding fitsWord
+  bad-kind h = rw (lt-leb k 9 h)
 
-  module _ (h : k ≤ 9) (w : ℕ) (e : wordMeans w ≡ wordFor (rule (slotOf i))) (m : ℕ) where
-    looked : {x : Bool} → x ≡ inSpans a (rangeOf (w / 2 ^ (k * 5) % 32)) → x ≡ fitsCode i k a
-    unfolding fitsCode
-    looked q = q ∙ rw (range-means i w e k h) (spans-fit k a (rule (slotOf i) .rows))
+  module _ (h : k ≤ 9) (m : ℕ) where
+    looked : {x : Bool} → x ≡ inSpans a (rangeOf (w / 2 ^ (k * 5) % 32)) → x ≡ fitsWord w k a
+    unfolding fitsWord
+    looked q = q ∙ rw (le-leb k 9 h)
 
-    pub below-32 : a < 32 → bitsOf m ≡ smallOf (w / 2 ^ (k * 5) % 32) → eqb (m / 2 ^ a % 2) 1 ≡ fitsCode i k a
+    pub below-32 : a < 32 → bitsOf m ≡ smallOf (w / 2 ^ (k * 5) % 32) → eqb (m / 2 ^ a % 2) 1 ≡ fitsWord w k a
     below-32 g q = looked (small-looks (w / 2 ^ (k * 5) % 32) a m g q)
 
-    pub from-32 : 32 ≤ a → m ≡ topOf (w / 2 ^ (k * 5) % 32) → leb a m ≡ fitsCode i k a
+    pub from-32 : 32 ≤ a → m ≡ topOf (w / 2 ^ (k * 5) % 32) → leb a m ≡ fitsWord w k a
     from-32 g q = looked (top-looks (w / 2 ^ (k * 5) % 32) a m g q)
+
+-- a slot's word answers test 7
+pub fits-means : (i w : ℕ) → WordOf i w → (k a : ℕ) {r : Bool} → r ≡ fitsWord w k a → r ≡ fitsCode i k a
+unfolding fitsWord fitsCode
+fits-means i w e k a d = d ∙ go (leb k 9) refl
+  where
+    go : (x : Bool) → leb k 9 ≡ x → (x && inSpans a (rangeOf (field w (k * 5) 32))) ≡ fits k a (rule (slotOf i) .rows)
+    go true q = rw (range-means i w e k (leb-true k 9 q)) (spans-fit k a (rule (slotOf i) .rows))
+    go false q = sym (no-kind i k a (leb-false k 9 q))
 
 pub ruleset fit-ways = (bad-kind, below-32, from-32)
 
@@ -100,9 +110,6 @@ pub no-type : (a : ℕ) → 22 ≤ a → 0 ≡ typeNumber a
 no-type a h = simp (le-ltb a 22 h)
 
 -- what follows, by the bits as the code has them and as they are meant
-abbrev followedCode : ℕ → ℕ → ℕ → ℕ → ℕ → ℕ → Next
-followedCode took stay add to a n = cond (ltb (ifSet stay n) took) Done (Due (to + ifSet add (typeNumber a)) (ifSet stay n - took))
-
 followed-is : (took stay add to a n : ℕ) → took < 2 → follows took stay add to ≡ true → followedCode took stay add to a n ≡ nextOf (followed took stay add to a n)
 unfolding slotNumber
 followed-is took stay add to a n l f = go (eqb add 0) (eqb took 0) refl (eqb stay 0) (and-true (ltb to 72) _ f .1)
@@ -134,18 +141,26 @@ followed-is took stay add to a n l f = go (eqb add 0) (eqb took 0) refl (eqb sta
     go false true p false g = absurd (true≢false (sym g))
     go false false p z g = absurd (true≢false (sym g))
 
--- the ways of `next_slot`
-module _ (i a n w : ℕ) (e : wordMeans w ≡ wordFor (rule (slotOf i))) {r : ℕ} (q : (r ≡ ifSet (w / 2 ^ 58 % 2) n) × (r ≤ n)) where
-  as-coded : followedCode (field w 57 2) (field w 58 2) (field w 59 2) (field w 50 128) a n ≡ nextCode i a n
-  unfolding nextCode
-  as-coded = followed-is (field w 57 2) (field w 58 2) (field w 59 2) (field w 50 128) a n (omega arith) (names-means i w e) ∙ ap nextOf (next-means i w e a n)
-
-  pub none-left : r < w / 2 ^ 57 % 2 → Done ≡ nextCode i a n
-  none-left h = rw (← as-coded, ← q .0, lt-ltb r (w / 2 ^ 57 % 2) h)
+-- the ways of `next_by`
+module _ (a n w : ℕ) {r : ℕ} (q : (r ≡ ifSet (w / 2 ^ 58 % 2) n) × (r ≤ n)) where
+  pub none-left : r < w / 2 ^ 57 % 2 → Done ≡ nextWord w a n
+  unfolding nextWord
+  none-left h = rw (← q .0, lt-ltb r (w / 2 ^ 57 % 2) h)
 
   pub next-due : w / 2 ^ 57 % 2 ≤ r → {t x : ℕ} → (t ≡ typeNumber a) × (t < 22) → (x ≡ ifSet (w / 2 ^ 59 % 2) t) × (x ≤ t)
-      → Due (w / 2 ^ 50 % 128 + x) (r - w / 2 ^ 57 % 2) ≡ nextCode i a n
-  next-due h t p = rw (← as-coded, ← q .0, le-ltb r (w / 2 ^ 57 % 2) h, p .0, t .0)
+      → Due (w / 2 ^ 50 % 128 + x) (r - w / 2 ^ 57 % 2) ≡ nextWord w a n
+  unfolding nextWord
+  next-due h t p = rw (← q .0, le-ltb r (w / 2 ^ 57 % 2) h, p .0, t .0)
+
+-- a slot's word says what is due beside a head
+pub follows-means : (i w : ℕ) → WordOf i w → (a n : ℕ) {r : Next} → r ≡ nextWord w a n → r ≡ nextCode i a n
+unfolding nextWord nextCode
+follows-means i w e a n d =
+    d
+    ∙ followed-is (field w 57 2) (field w 58 2) (field w 59 2) (field w 50 128) a n (omega arith) (names-means i w e)
+    ∙ ap nextOf (next-means i w e a n)
+
+pub ruleset word-means = (own-means, spelling-means, fits-means, follows-means)
 
 -- the ways of `in_reference` and `in_ari`
 module _ (a : ℕ) where

@@ -1,15 +1,17 @@
--- Private to src/: the words that the code keeps for the slots, what their bits mean in the rules' terms. No word stands here: that
+-- Private to src/, and WordOf, fitsWord, nextWord to the reader's: the words that the code keeps for the slots, what their bits mean in the rules' terms. No word stands here: that
 -- each means what its slot's rule says is the contract of the function that has it.
-use Prim.Native.Nat.{ℕ, zero, suc, _-_, _*_, _/_, _%_, _^_}
+use Prim.Native.Nat.{ℕ, zero, suc, _+_, _-_, _*_, _/_, _%_, _^_}
+use mathlib.Core.Path.{_≡_}
 use mathlib.Core.Bool.{Bool, true, false, _&&_, _||_, cond}
 use mathlib.Core.List.{List, [], _∷_}
 use lib.ListN.{getD}
 use lib.Dec.{ltb, leb, eqb}
 use Rattle.buffer.specs.Bytes.{within}
 use Rattle.cbor.specs.Head.{unsigned}
-use Rattle.ari.specs.Table.{Place, alone, message, inside, param, value, Row, row, max64, max63, max32, max31, types, typeRows, Level, done, due, many, referenceLevel, Rule}
+use Rattle.ari.specs.Table.{Place, alone, message, inside, param, value, Row, row, max64, max63, max32, max31, types, typeRows, Level, done, due, many, referenceLevel, Rule, rule}
 use Rattle.grammar.specs.declared.Next.{Next}
-use Rattle.grammar.specs.Code.{slotOf, nextOf, extraNumber, spelledAs}
+use Rattle.grammar.specs.declared.Next.the-variants.{Done, Due}
+use Rattle.grammar.specs.Code.{slotOf, typeNumber, nextOf, extraNumber, spelledAs}
 
 -- bits of a word
 abbrev pub field : ℕ → ℕ → ℕ → ℕ
@@ -101,6 +103,20 @@ wordMeans w = record {
 
 unfoldable pub wordFor : Rule → Word
 wordFor r = record { ranges = each 10 (λ k. spans k (r .rows)); next = r .next; names = true; extra = extraNumber (r .extra); spelling = r .spelling }
+
+-- the word of a slot's number
+abbrev pub WordOf : ℕ → ℕ → Type 0
+WordOf i w = wordMeans w ≡ wordFor (rule (slotOf i))
+
+-- test 7, and what is due beside a head, by a word alone
+unfoldable pub fitsWord : ℕ → ℕ → ℕ → Bool
+fitsWord w k a = leb k 9 && inSpans a (rangeOf (field w (k * 5) 32))
+
+abbrev pub followedCode : ℕ → ℕ → ℕ → ℕ → ℕ → ℕ → Next
+followedCode took stay add to a n = cond (ltb (ifSet stay n) took) Done (Due (to + ifSet add (typeNumber a)) (ifSet stay n - took))
+
+unfoldable pub nextWord : ℕ → ℕ → ℕ → Next
+nextWord w a n = followedCode (field w 57 2) (field w 58 2) (field w 59 2) (field w 50 128) a n
 
 -- so many of a slot
 abbrev pub manyOf : ℕ → ℕ → Next

@@ -8,3 +8,4 @@ pub mod Whole
 pub mod Fixed
 pub mod Kept
 pub mod Alone
+pub mod Plain

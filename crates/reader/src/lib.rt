@@ -3,7 +3,7 @@ ghost use mathlib.Core.Path.{_≡_};
 ghost use mathlib.Core.Bool.{Bool, true, false, not, _&&_};
 ghost use Prim.Native.Nat.{_+_, _-_, _*_, _^_, _<_, _≤_};
 ghost use lib.ListN.{length};
-ghost use lib.Dec.{eqb};
+ghost use lib.Dec.{ltb, eqb};
 ghost use mathlib.Core.List.{[]};
 ghost use Prim.Native.Nat.{pred, suc, min};
 ghost use Rattle.buffer.specs.Bytes.{all, isByte};
@@ -14,7 +14,8 @@ ghost use Rattle.ari.specs.Table.{rule, due};
 ghost use Rattle.grammar.specs.Code.{fitsCode, extraOf};
 ghost use Rattle.ari.specs.Reader.{wrongVersion, notGreater, isEmpty};
 ghost use Rattle.grammar.specs.Code.{slotOf};
-ghost use Rattle.grammar.specs.Code.{IsSlot};
+ghost use Rattle.grammar.specs.Code.{IsSlot, spelledAs, nextCode};
+ghost use Rattle.grammar.specs.Words.{WordOf};
 ghost use Rattle.buffer.specs.Bytes.{part};
 ghost use Rattle.reader.specs.Steps.{standsAt, stringEnd, keyAt, stepAt, contentAt, ContentShown, noHead, stoppedOf, Bounded, keySpan};
 ghost use Rattle.reader.specs.Walks.{insideLevel, Walked, headWalk, unwalkedOf, WalkedBy, SetsWalked};
@@ -47,6 +48,35 @@ pub enum End {
 pub enum Walk {
     Read { next: usize, count: usize },
     Refused { number: u8, place: usize },
+}
+
+// What a slot's word says: test 7, the slot's own test, how a text string is spelled, what is due beside a head.
+fn fits_at(slot: u64, word: u64, kind: u8, arg: u64) -> bool
+    requires { ⌜ WordOf slot word ⌝ }
+    ensures { λ r. ⌜ r ≡ fitsCode slot kind arg ⌝ }
+{
+    grammar::fits_by(word, kind, arg)
+}
+
+fn extra_at(slot: u64, word: u64) -> u64
+    requires { ⌜ WordOf slot word ⌝ }
+    ensures { λ r. ⌜ r ≡ extraOf slot ⌝ }
+{
+    (word >> 60) % 4
+}
+
+fn spelling_at(slot: u64, word: u64) -> u64
+    requires { ⌜ WordOf slot word ⌝ }
+    ensures { λ r. ⌜ spelledAs r ≡ rule (slotOf slot) .spelling ⌝ }
+{
+    word >> 62
+}
+
+fn next_at(slot: u64, word: u64, arg: u64, more: u64) -> grammar::Next
+    requires { ⌜ WordOf slot word ⌝ }
+    ensures { λ r. ⌜ r ≡ nextCode slot arg more ⌝ }
+{
+    grammar::next_by(word, arg, more)
 }
 
 // Test 8.
@@ -93,10 +123,11 @@ pub fn string_end(s: &[u8], kind: u8, arg: u64, next: usize) -> End
     End::At(next)
 }
 
-fn is_spelled(slot: u64, t: &[u8]) -> bool
+fn is_spelled(slot: u64, word: u64, t: &[u8]) -> bool
+    requires { ⌜ WordOf slot word ⌝ }
     ensures { λ r. ⌜ r ≡ rule (slotOf slot) .spelling (now (t .entry)) ⌝ }
 {
-    let spelling = grammar::spelling(slot);
+    let spelling = spelling_at(slot, word);
     match spelling {
         0 => cbor::is_utf8(t),
         1 => grammar::is_identifier(t),
@@ -106,12 +137,12 @@ fn is_spelled(slot: u64, t: &[u8]) -> bool
 }
 
 // Test 10.
-fn is_misspelt(s: &[u8], slot: u64, kind: u8, next: usize, end: usize) -> bool
-    requires { ⌜ (next ≤ end) × (end ≤ length (now s)) ⌝ }
+fn is_misspelt(s: &[u8], slot: u64, word: u64, kind: u8, next: usize, end: usize) -> bool
+    requires { ⌜ WordOf slot word × (next ≤ end) × (end ≤ length (now s)) ⌝ }
     ensures { λ r. ⌜ r ≡ (eqb kind 3 && not (rule (slotOf slot) .spelling (part (now (s .entry)) next end))) ⌝ }
 {
     if kind == cbor::TEXT {
-        return !is_spelled(slot, &s[next..end]);
+        return !is_spelled(slot, word, &s[next..end]);
     }
     false
 }
@@ -145,13 +176,14 @@ fn judge_content(
     s: &[u8],
     at: usize,
     slot: u64,
+    word: u64,
     extra: u64,
     prev: Span,
     kind: u8,
     arg: u64,
     next: usize,
 ) -> Step
-    requires { ⌜ (all isByte (now s) ≡ true) × (extra ≡ extraOf slot) × (prev .from ≤ prev .to) × (prev .to ≤ length (now s)) ⌝ }
+    requires { ⌜ WordOf slot word × (all isByte (now s) ≡ true) × (extra ≡ extraOf slot) × (prev .from ≤ prev .to) × (prev .to ≤ length (now s)) ⌝ }
     requires { ⌜ (headAt (now s) at ≡ Good kind arg next) × (at < next) × (next ≤ length (now s)) × (fitsCode slot kind arg ≡ true) × (kind ≤ 9) ⌝ }
     ensures { λ r. ⌜ r ≡ contentAt (now (s .entry)) at (slotOf slot) (keyOf (part (now (s .entry)) (prev .from) (prev .to))) ⌝ }
     ensures { λ r. ⌜ ContentShown (now (s .entry)) kind arg next r ⌝ }
@@ -163,7 +195,7 @@ fn judge_content(
             place: at,
         };
     };
-    if is_misspelt(s, slot, kind, next, end) {
+    if is_misspelt(s, slot, word, kind, next, end) {
         return Step::Refused {
             number: 10,
             place: at,
@@ -230,12 +262,13 @@ fn take_head(
     s: &[u8],
     at: usize,
     slot: u64,
+    word: u64,
     prev: Span,
     count: usize,
     items: usize,
     depth: usize,
 ) -> Step
-    requires { ⌜ (all isByte (now s) ≡ true) × (prev .from ≤ prev .to) × (prev .to ≤ length (now s)) ⌝ }
+    requires { ⌜ WordOf slot word × (all isByte (now s) ≡ true) × (prev .from ≤ prev .to) × (prev .to ≤ length (now s)) ⌝ }
     ensures { λ r. ⌜ r ≡ stepAt (now (s .entry)) at (slotOf slot) (keyOf (part (now (s .entry)) (prev .from) (prev .to))) (items - count) depth ⌝ }
     ensures { λ r. ⌜ Bounded (now (s .entry)) at count items depth slot r ⌝ }
 {
@@ -255,30 +288,38 @@ fn take_head(
             place: at,
         };
     }
-    if !grammar::fits(slot, kind, arg) {
+    if !fits_at(slot, word, kind, arg) {
         return Step::Refused {
             number: 7,
             place: at,
         };
     }
-    let extra = grammar::extra_test(slot);
+    let extra = extra_at(slot, word);
     if wrong_version(slot, extra, arg) {
         return Step::Refused {
             number: 8,
             place: at,
         };
     }
-    judge_content(s, at, slot, extra, prev, kind, arg, next)
+    judge_content(s, at, slot, word, extra, prev, kind, arg, next)
+}
+
+// The key before, for what is due next on a level, by the slot's own test.
+fn key_by(slot: u64, extra: u64, prev: Span, from: usize, to: usize) -> Span
+    requires { ⌜ extra ≡ extraOf slot ⌝ }
+    ensures { λ r. ⌜ (r .from ≡ keySpan (rule (slotOf slot) .extra) (prev .from) from) × (r .to ≡ keySpan (rule (slotOf slot) .extra) (prev .to) to) ⌝ }
+{
+    if extra == grammar::KEY_TEST {
+        return Span { from, to };
+    }
+    prev
 }
 
 // The key before, for what is due next on a level.
 pub fn key_after(slot: u64, prev: Span, from: usize, to: usize) -> Span
     ensures { λ r. ⌜ (r .from ≡ keySpan (rule (slotOf slot) .extra) (prev .from) from) × (r .to ≡ keySpan (rule (slotOf slot) .extra) (prev .to) to) ⌝ }
 {
-    if grammar::extra_test(slot) == grammar::KEY_TEST {
-        return Span { from, to };
-    }
-    prev
+    key_by(slot, grammar::extra_test(slot), prev, from, to)
 }
 
 // A refusal is handed on.
@@ -296,6 +337,27 @@ fn stopped(t: Step) -> Walk
             place: 0,
         },
     }
+}
+
+// A walk's answer, taken apart and made anew: only what a refusal has is copied where it is one.
+fn same_walk(w: Walk) -> Walk
+    ensures { λ r. ⌜ r ≡ w ⌝ }
+{
+    match w {
+        Walk::Refused { number, place } => Walk::Refused { number, place },
+        Walk::Read { next, count } => Walk::Read { next, count },
+    }
+}
+
+// A number or a string at a slot with no test of its own: nothing is inside it, and it is no key.
+fn is_plain(slot: u64, word: u64, kind: u8) -> bool
+    requires { ⌜ WordOf slot word ⌝ }
+    ensures { λ r. ⌜ r ≡ (ltb kind 4 && eqb (extraOf slot) 0) ⌝ }
+{
+    if kind < cbor::ARRAY {
+        return extra_at(slot, word) == grammar::NO_TEST;
+    }
+    false
 }
 
 // The members of a head at a slot: a container is opened, and what it holds is walked.
@@ -357,7 +419,8 @@ fn walk_level(
     let mut left = more;
     let mut prev = Span { from: 0, to: 0 };
     loop {
-        let t = take_head(s, p, place, prev, c, items, depth);
+        let word = grammar::walk_word(place);
+        let t = take_head(s, p, place, word, prev, c, items, depth);
         let Step::Taken { kind, arg, after } = t else {
             return stopped(t);
         };
@@ -366,6 +429,21 @@ fn walk_level(
                 next: after,
                 count: c + 1,
             };
+        }
+        if is_plain(place, word, kind) {
+            item_table::put(entries, c, p, after, around, place);
+            let n = next_at(place, word, arg, left);
+            let grammar::Next::Due { slot: a, more: b } = n else {
+                return Walk::Read {
+                    next: after,
+                    count: c + 1,
+                };
+            };
+            p = after;
+            c = c + 1;
+            place = a;
+            left = b;
+            continue;
         }
         let r = walk_inside(
             s,
@@ -380,11 +458,11 @@ fn walk_level(
             entries,
         );
         let Walk::Read { next: q, count: e } = r else {
-            return r;
+            return same_walk(r);
         };
         item_table::put(entries, c, p, q, around, place);
-        prev = key_after(place, prev, p, after);
-        let n = grammar::next_slot(place, arg, left);
+        prev = key_by(place, extra_at(place, word), prev, p, after);
+        let n = next_at(place, word, arg, left);
         let grammar::Next::Due { slot: a, more: b } = n else {
             return Walk::Read { next: q, count: e };
         };

@@ -1,6 +1,6 @@
--- `grammar::fits` meets its contract: each way through the tests has its law.
+-- `grammar::fits` meets its contract: its word answers.
 use borrow.Author.Needs.{needs}
-use Rattle.grammar.proofs.TableWays.{fit-ways}
+use Rattle.grammar.proofs.TableWays.{fits-means}
 use Rattle.grammar.proofs.fits.Statement.{statement}
 use Rattle.grammar.proofs.fits.Tie as tie
 
@@ -8,12 +8,6 @@ pub fits-spec : {M : Type 1} → statement M
 fits-spec =
     tie.close
     (tie.spec
-    (λ c. search (fit-ways, needs))
     (λ c κs. search needs)
-    (λ c. search needs)
-    (λ c. search needs)
     (λ c κs. search needs)
-    (λ c. search needs)
-    (λ c. search (fit-ways, needs))
-    (λ c κs. search needs)
-    (λ c. search (fit-ways, needs)))
+    (λ c. search (fits-means, needs)))

@@ -1,6 +1,6 @@
--- `grammar::next_slot` meets its contract: the bits of the word say what follows.
-use Rattle.grammar.proofs.TableWays.{none-left, next-due}
+-- `grammar::next_slot` meets its contract: its word answers.
 use borrow.Author.Needs.{needs}
+use Rattle.grammar.proofs.TableWays.{follows-means}
 use Rattle.grammar.proofs.next_slot.Statement.{statement}
 use Rattle.grammar.proofs.next_slot.Tie as tie
 
@@ -10,10 +10,4 @@ next-slot-spec =
     (tie.spec
     (λ c κs. search needs)
     (λ c κs. search needs)
-    (λ c. search (none-left, needs))
-    (λ c κs. search needs)
-    (λ c κs. search needs)
-    (λ c. search needs)
-    (λ c.
-    let start = c .before .before .before .before in
-    next-due _ _ _ _ (start .rule-word .ensures) (c .before .before .before .if-set .ensures) (search needs) (c .before .type-number .ensures) (c .if-set2 .ensures)))
+    (λ c. search (follows-means, needs)))

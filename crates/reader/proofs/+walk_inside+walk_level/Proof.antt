@@ -15,8 +15,9 @@ use Rattle.ari.specs.Table.{rule}
 use Rattle.grammar.specs.Code.{slotOf}
 use Rattle.grammar.specs.Code.{IsSlot}
 use Rattle.buffer.specs.Bytes.{part}
-use Rattle.reader.proofs.Bounds.{nothing-inside, opened, bounds, taken-on, taken-in, taken-kind, taken-fits, read-in, read-few, read-on, less-deep, one-in, one-fits, falls-on, span-order, span-within}
+use Rattle.reader.proofs.Bounds.{nothing-inside, opened, bounds, taken-on, taken-in, taken-more, taken-kind, taken-fits, read-in, read-few, read-on, less-deep, one-in, one-fits, falls-to, falls-on, span-order, span-within}
 use Rattle.reader.proofs.Loop.{Leads, First, first-turn, later-turn, levelled, on-level, head-alone, stops, begins, halts, breaks, ends, again, next-slotted, turns}
+use Rattle.reader.proofs.Plain.{plain-ends, plain-slotted, plain-again}
 use Rattle.reader.proofs.walk_inside.Reads as walk-inside
 use Rattle.reader.proofs.walk_inside.Kinds as walk-inside-kinds
 use Rattle.reader.proofs.+walk_inside+walk_level.Lts-walk_inside as walk-inside-lts
@@ -24,11 +25,15 @@ use Rattle.reader.proofs.walk_level.Reads as walk-level
 use Rattle.reader.proofs.walk_level.Kinds as walk-level-kinds
 use Rattle.reader.proofs.+walk_inside+walk_level.Lts-walk_level as walk-level-lts
 use Rattle.item_table.proofs.put.Reads as put-reads
-use Rattle.reader.proofs.key_after.Reads as key-after-reads
+use Rattle.reader.proofs.is_plain.Reads as is-plain-reads
+use Rattle.reader.proofs.extra_at.Reads as extra-at-reads
+use Rattle.reader.proofs.key_by.Reads as key-by-reads
+use Rattle.reader.proofs.next_at.Reads as next-at-reads
+use Rattle.reader.proofs.same_walk.Reads as same-walk-reads
 use Rattle.reader.proofs.stopped.Reads as stopped-reads
 use Rattle.reader.proofs.take_head.Reads as take-head-reads
 use Rattle.grammar.proofs.inside.Reads as inside-reads
-use Rattle.grammar.proofs.next_slot.Reads as next-slot-reads
+use Rattle.grammar.proofs.walk_word.Reads as walk-word-reads
 use Rattle.reader.proofs.+walk_inside+walk_level.{statement}
 use Rattle.reader.proofs.+walk_inside+walk_level.Tie.{close}
 
@@ -76,12 +81,13 @@ pub +walk-inside+walk-level-spec : {M : Type 1} → statement M
     (λ c. search (nothing-inside, needs))
     (λ c. search needs)
     (λ c. search (opened, levelled, needs)))
-    λ t. walk-level-lts.spec (take-head-reads.Asked, take-head-reads.Learnt, stopped-reads.Asked, stopped-reads.Learnt, walk-inside-below t, walk-inside.Post, put-reads.Asked, put-reads.Learnt, key-after-reads.Asked, key-after-reads.Learnt, next-slot-reads.Asked, next-slot-reads.Learnt)
+    λ t. walk-level-lts.spec (walk-word-reads.Asked, walk-word-reads.Learnt, take-head-reads.Asked, take-head-reads.Learnt, stopped-reads.Asked, stopped-reads.Learnt, is-plain-reads.Asked, is-plain-reads.Learnt, put-reads.Asked, put-reads.Learnt, next-at-reads.Asked, next-at-reads.Learnt, walk-inside-below t, walk-inside.Post, same-walk-reads.Asked, same-walk-reads.Learnt, extra-at-reads.Asked, extra-at-reads.Learnt, key-by-reads.Asked, key-by-reads.Learnt)
     (walk-level-at t)
     walk-level.Post
     walk-level-Inv-loop
     walk-level-μ-loop
     (λ c. (search turns, search needs, search needs, search needs, search needs, search needs, search needs, search needs, search needs, search first-turn))
+    (λ c κs. search needs)
     (λ c κs. search needs)
     (λ c. search needs)
     (λ c. search needs)
@@ -91,46 +97,89 @@ pub +walk-inside+walk-level-spec : {M : Type 1} → statement M
     (λ c. search (bounds, needs))
     (λ c. search needs)
     (λ c. search (head-alone, needs))
+    (λ c κs. search needs)
+    (λ c κs. search needs)
+    (λ c κs. search needs)
+    (λ c. search needs)
+    (λ c. search needs)
+    (λ c. search (bounds, needs))
+    (λ c. search needs)
+    (λ c. let l = c .before .before .before .before .before .before .before .before .before .before .before .before .before .before .before .loop .inv in
+    let h = c .before .before .before .before .before .before .before .before .before .before .before .before .before .take-head .ensures in
+    let sp = c .before .before .before .before .before .before .before .before .before .before .before .before .before .before .before .loop .prev in
+    on-level (c .before .before .before .before .before .before .before .before .before .if1 .left) (plain-ends _ (l .7) _ _ _ _ _ _ _ _ _ _ _ (sp .from) (sp .to) _ _ _ (l .1) (l .0) (h .0) (h .1) (c .before .before .before .before .before .before .before .before .before .before .before .t .given .1) (c .before .before .before .before .before .before .before .before .is-plain .ensures) (c .before .before .before .before .before .before .before .if2 .taken) (c .before .before .before .before .before .put .ensures) (c .before .before .next-at .ensures) (search needs)))
+    (λ c. search (bounds, needs))
+    (λ c. let h = c .before .before .before .before .before .before .before .before .before .before .before .before .before .before .take-head .ensures in
+    let q = c .before .before .before .before .before .before .before .before .before .before .before .before .t .given .1 in
+    falls-to _ _ _ (taken-on _ _ _ _ _ _ (h .1) q) (taken-in _ _ _ _ _ _ (h .1) q))
+    (λ c. let l = c .before .before .before .before .before .before .before .before .before .before .before .before .before .before .before .before .loop .inv in
+    let h = c .before .before .before .before .before .before .before .before .before .before .before .before .before .before .take-head .ensures in
+    let q = c .before .before .before .before .before .before .before .before .before .before .before .before .t .given .1 in
+    let sp = c .before .before .before .before .before .before .before .before .before .before .before .before .before .before .before .before .loop .prev in
+    let plain = c .before .before .before .before .before .before .before .before .before .is-plain .ensures in
+    let taken = c .before .before .before .before .before .before .before .before .if2 .taken in
+    let put = c .before .before .before .before .before .before .put .ensures in
+    let nn = c .before .before .before .next-at .ensures in
+    let z = c .before .n .given .1 in (
+      plain-again _ (l .7) _ _ _ _ _ _ _ _ _ _ _ (sp .from) (sp .to) _ _ _ (l .1) (l .0) (h .0) (h .1) q plain taken put nn z,
+      plain-slotted _ (l .7) _ _ _ _ _ _ _ _ _ _ _ (sp .from) (sp .to) _ _ _ (l .1) (l .0) (h .0) (h .1) q plain taken put nn z,
+      l .2,
+      l .3,
+      taken-in _ _ _ _ _ _ (h .1) q,
+      taken-more _ _ _ _ _ _ (h .1) q,
+      omega (arith, c .before .before .before .before .before .before .put .kept .0, l .6),
+      l .7,
+      l .8,
+      later-turn _ _ _ _ _ _ _ _ _ (c .before .before .before .before .before .before .before .before .before .before .if1 .left),
+    ))
     (λ c. search (bounds, needs))
     (λ c κs. (search needs, ((search needs, search needs, search needs, search (bounds, needs), search (bounds, needs)), search (bounds, needs))))
     (λ c. search needs)
     (λ c. search needs)
+    (λ c κs. search needs)
     (λ c. search needs)
-    (λ c. search (on-level, turns, needs))
+    (λ c. rw (c .same-walk .ensures) (search (on-level, turns, needs)))
     (λ c κs. search needs)
     (λ c κs. search needs)
     (λ c κs. search needs)
+    (λ c κs. search needs)
     (λ c. search needs)
     (λ c. search needs)
-    (λ c. search needs)
-    (λ c. search (on-level, turns, bounds, needs))
-    (λ c. let l = c .before .before .before .before .before .before .before .before .before .before .before .before .before .before .before .before .before .before .before .before .before .loop .inv in
-    let h = c .before .before .before .before .before .before .before .before .before .before .before .before .before .before .before .before .before .before .before .before .take-head .ensures in
-    let q = c .before .before .before .before .before .before .before .before .before .before .before .before .before .before .before .before .before .before .t .given .1 in
+    (λ c. omega (arith, c .before .before .before .before .before .before .before .put2 .kept .0, c .before .before .before .before .before .before .before .before .before .before .before .before .before .before .walk-inside .kept .1 .1 .1 .1 .1 .1 .1 .1 .1 .0, c .before .before .before .before .before .before .before .before .before .before .before .before .before .before .before .before .before .before .before .before .before .before .before .before .loop .inv .6))
+    (λ c. let l = c .before .before .before .before .before .before .before .before .before .before .before .before .before .before .before .before .before .before .before .before .before .before .before .before .loop .inv in
+    let h = c .before .before .before .before .before .before .before .before .before .before .before .before .before .before .before .before .before .before .before .before .before .before .take-head .ensures in
+    let q = c .before .before .before .before .before .before .before .before .before .before .before .before .before .before .before .before .before .before .before .before .t .given .1 in
     let m = c .before .before .before .before .before .before .before .before .before .before .before .before .before .before .walk-inside .ensures in
     let g = c .before .before .before .before .before .before .before .before .before .before .r .given .1 in
+    let sp = c .before .before .before .before .before .before .before .before .before .before .before .before .before .before .before .before .before .before .before .before .before .before .before .before .loop .prev in
+    on-level (c .before .before .before .before .before .before .before .before .before .before .before .before .before .before .before .before .before .before .if1 .left) (ends _ (l .7) _ _ _ _ _ _ _ _ _ _ _ (sp .from) (sp .to) _ _ _ (l .1) (l .0) (h .0) q m g (c .before .before .before .before .before .before .before .put2 .ensures) (taken-kind _ _ _ _ _ _ (h .1) q) (taken-fits _ _ _ _ _ _ (h .1) q) (c .before .before .next-at2 .ensures) (search needs) (read-in _ _ _ _ _ _ _ _ m g) (read-few _ _ _ _ _ _ _ _ m g)))
+    (λ c. let l = c .before .before .before .before .before .before .before .before .before .before .before .before .before .before .before .before .before .before .before .before .before .before .before .before .before .loop .inv in
+    let h = c .before .before .before .before .before .before .before .before .before .before .before .before .before .before .before .before .before .before .before .before .before .before .before .take-head .ensures in
+    let q = c .before .before .before .before .before .before .before .before .before .before .before .before .before .before .before .before .before .before .before .before .before .t .given .1 in
+    let m = c .before .before .before .before .before .before .before .before .before .before .before .before .before .before .before .walk-inside .ensures in
+    let g = c .before .before .before .before .before .before .before .before .before .before .before .r .given .1 in
     falls-on _ _ _ _ (taken-on _ _ _ _ _ _ (h .1) q) (read-on _ _ _ _ _ _ _ _ m g) (read-in _ _ _ _ _ _ _ _ m g))
-    (λ c. let l = c .before .before .before .before .before .before .before .before .before .before .before .before .before .before .before .before .before .before .before .before .before .loop .inv in
-    let h = c .before .before .before .before .before .before .before .before .before .before .before .before .before .before .before .before .before .before .before .before .take-head .ensures in
-    let q = c .before .before .before .before .before .before .before .before .before .before .before .before .before .before .before .before .before .before .t .given .1 in
-    let m = c .before .before .before .before .before .before .before .before .before .before .before .before .before .before .walk-inside .ensures in
-    let g = c .before .before .before .before .before .before .before .before .before .before .r .given .1 in
-    let sp = c .before .before .before .before .before .before .before .before .before .before .before .before .before .before .before .before .before .before .before .before .before .loop .prev in
-    let extra = rule (slotOf (c .before .before .before .before .before .before .before .before .before .before .before .before .before .before .before .before .before .before .before .before .before .loop .place)) .extra in
+    (λ c. let l = c .before .before .before .before .before .before .before .before .before .before .before .before .before .before .before .before .before .before .before .before .before .before .before .before .before .loop .inv in
+    let h = c .before .before .before .before .before .before .before .before .before .before .before .before .before .before .before .before .before .before .before .before .before .before .before .take-head .ensures in
+    let q = c .before .before .before .before .before .before .before .before .before .before .before .before .before .before .before .before .before .before .before .before .before .t .given .1 in
+    let m = c .before .before .before .before .before .before .before .before .before .before .before .before .before .before .before .walk-inside .ensures in
+    let g = c .before .before .before .before .before .before .before .before .before .before .before .r .given .1 in
+    let sp = c .before .before .before .before .before .before .before .before .before .before .before .before .before .before .before .before .before .before .before .before .before .before .before .before .before .loop .prev in
+    let extra = rule (slotOf (c .before .before .before .before .before .before .before .before .before .before .before .before .before .before .before .before .before .before .before .before .before .before .before .before .before .loop .place)) .extra in
     let kk = taken-kind _ _ _ _ _ _ (h .1) q in
     let fit = taken-fits _ _ _ _ _ _ (h .1) q in
-    let put = c .before .before .before .before .before .before .before .put .ensures in
-    let y = c .before .before .before .before .key-after .ensures in
-    let nn = c .before .before .before .next-slot .ensures in
-    let z = c .before .n .given .1 in (
+    let put = c .before .before .before .before .before .before .before .before .put2 .ensures in
+    let y = c .before .before .before .before .key-by .ensures in
+    let nn = c .before .before .before .next-at2 .ensures in
+    let z = c .before .n2 .given .1 in (
       again _ (l .7) _ _ _ _ _ _ _ _ _ _ _ (sp .from) (sp .to) _ _ _ (l .1) (l .0) (h .0) q m g put kk fit nn z (y .0) (y .1),
       next-slotted _ (l .7) _ _ _ _ _ _ _ _ _ _ _ (sp .from) (sp .to) _ _ _ (l .1) (l .0) (h .0) q m g put kk fit nn z,
       rw (y .0, y .1) (span-order extra _ _ _ _ (l .2) (le-of-lt (taken-on _ _ _ _ _ _ (h .1) q))),
       rw (y .1) (span-within extra _ _ _ (l .3) (taken-in _ _ _ _ _ _ (h .1) q)),
       read-in _ _ _ _ _ _ _ _ m g,
       read-few _ _ _ _ _ _ _ _ m g,
-      omega (arith, c .before .before .before .before .before .before .before .put .kept .0, c .before .before .before .before .before .before .before .before .before .before .before .before .before .before .walk-inside .kept .1 .1 .1 .1 .1 .1 .1 .1 .1 .0, l .6),
+      omega (arith, c .before .before .before .before .before .before .before .before .put2 .kept .0, c .before .before .before .before .before .before .before .before .before .before .before .before .before .before .before .walk-inside .kept .1 .1 .1 .1 .1 .1 .1 .1 .1 .0, l .6),
       l .7,
       l .8,
-      later-turn _ _ _ _ _ _ _ _ _ (c .before .before .before .before .before .before .before .before .before .before .before .before .before .before .before .before .if1 .left),
+      later-turn _ _ _ _ _ _ _ _ _ (c .before .before .before .before .before .before .before .before .before .before .before .before .before .before .before .before .before .before .before .if1 .left),
     ))

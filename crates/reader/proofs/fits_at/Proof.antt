@@ -1,0 +1,8 @@
+-- `reader::fits_at` meets its contract: the word answers.
+use borrow.Author.Needs.{needs}
+use Rattle.grammar.proofs.TableWays.{word-means}
+use Rattle.reader.proofs.fits_at.Statement.{statement}
+use Rattle.reader.proofs.fits_at.Tie as tie
+
+pub fits-at-spec : {M : Type 1} → statement M
+fits-at-spec = tie.close (tie.spec (λ c κs. search needs) (λ c. search (word-means, needs)))
