@@ -7,6 +7,10 @@
 #include <stddef.h>
 #include <stdint.h>
 
+#ifdef __cplusplus
+extern "C" {
+#endif
+
 /* Room for the words of a failure: two names of files and what went wrong. */
 enum { DAY_FILE_WHY = 9000 };
 
@@ -42,5 +46,9 @@ int day_file_upgrade(const char *name, uint64_t *answer, char why[DAY_FILE_WHY])
      0     *length is how many
      -1    errno says why not */
 int day_file_read(int from, uint8_t *to, size_t room, size_t *length);
+
+#ifdef __cplusplus
+}
+#endif
 
 #endif

@@ -50,6 +50,9 @@
 extern "C" {
 #endif
 
+/* The second number rises with what is added, the first where a host has to change. */
+#define SURFBODKIN_RELEASE "2.0"
+
 /* Limits, beyond which an input is refused (tests 1, 5, 6 and 20), and sizes. A grant
    table and a list of names may have any length. */
 enum surfbodkin_size {
