@@ -3,6 +3,8 @@
 //! them alike, and the best round counts. Buffers are filled before, and rooms
 //! for answers are lent again and again without being cleared.
 
+mod callgrind;
+
 use std::hint::black_box;
 use std::time::Instant;
 
@@ -41,6 +43,12 @@ impl<'a> Run<'a> {
         Run { name, calls_a_pass: inputs.len(), pass: Box::new(pass) }
     }
 
+    /// One pass, counted by callgrind, which writes a profile of that name.
+    fn count(&mut self, row: &str) {
+        (self.pass)();
+        callgrind::count(&format!("{row}|{}", self.name), &mut self.pass);
+    }
+
     /// Nanoseconds a call.
     fn time(&mut self, passes: usize) -> f64 {
         let start = Instant::now();
@@ -55,7 +63,12 @@ impl<'a> Run<'a> {
 struct Best(Vec<(&'static str, f64)>);
 
 impl Best {
-    fn of(mut runs: Vec<Run>) -> Best {
+    /// Where callgrind counts there are no times. It counts rows of one input alone.
+    fn of(row: &str, mut runs: Vec<Run>) -> Best {
+        if callgrind::counts() {
+            runs.iter_mut().filter(|run| run.calls_a_pass == 1).for_each(|run| run.count(row));
+            return Best(Vec::new());
+        }
         let passes: Vec<usize> = runs
             .iter_mut()
             .map(|run| {
@@ -265,7 +278,7 @@ fn time_check(Check { name, messages, string }: Check) {
         let from_utf8 = |string: &[u8]| u64::from(std::str::from_utf8(string).is_ok());
         runs.push(Run::new("from_utf8", string, from_utf8));
     }
-    let best = Best::of(runs);
+    let best = Best::of(name, runs);
     println!(
         "{name:<25}{:>7}{:>7}{:>10}{:>10}{:>10}{:>10}   {:>8}{:>9}{:>10}",
         mean(&messages, <[u8]>::len),
@@ -306,7 +319,7 @@ fn time_call(name: &str, call: &Call, inputs: &[Vec<u8>]) {
     if linked {
         runs.push(Run::new("archive", inputs, |input| (call.archive)(input, &mut room)));
     }
-    let best = Best::of(runs);
+    let best = Best::of(name, runs);
     println!(
         "{name:<36}{:>7}{:>8}{:>10}{:>10}   {:>8}",
         mean(inputs, <[u8]>::len),
@@ -356,12 +369,15 @@ fn time_stream(name: &str, messages: &[Vec<u8>], piece: usize) {
         assert_eq!(fed.close(), archive::list(message, &mut room));
         assert_eq!(fed.listing, room);
     }
-    let best = Best::of(vec![
-        Run::new("check", messages, archive::check_message),
-        Run::new("fed", messages, |message| fed.feed(message, piece)),
-        Run::new("list", messages, |message| archive::list(message, &mut room)),
-        Run::new("closed", messages, |message| closed.feed(message, piece) | closed.close()),
-    ]);
+    let best = Best::of(
+        name,
+        vec![
+            Run::new("check", messages, archive::check_message),
+            Run::new("fed", messages, |message| fed.feed(message, piece)),
+            Run::new("list", messages, |message| archive::list(message, &mut room)),
+            Run::new("closed", messages, |message| closed.feed(message, piece) | closed.close()),
+        ],
+    );
     println!(
         "{name:<25}{:>7}{:>7}{piece:>7}{:>10}{:>10}{:>10}{:>10}   {:>9}{:>13}",
         mean(messages, <[u8]>::len),
@@ -381,11 +397,14 @@ fn time_stream_by_size(name: &str, messages: &[Vec<u8>]) {
     for message in messages {
         assert_eq!([one.feed(message, 1), sixteen.feed(message, 16)], [0; 2]);
     }
-    let best = Best::of(vec![
-        Run::new("check", messages, archive::check_message),
-        Run::new("by 1", messages, |message| one.feed(message, 1)),
-        Run::new("by 16", messages, |message| sixteen.feed(message, 16)),
-    ]);
+    let best = Best::of(
+        name,
+        vec![
+            Run::new("check", messages, archive::check_message),
+            Run::new("by 1", messages, |message| one.feed(message, 1)),
+            Run::new("by 16", messages, |message| sixteen.feed(message, 16)),
+        ],
+    );
     let bytes = mean(messages, <[u8]>::len);
     let a_byte = |run| best.get(run).map_or(f64::NAN, |ns| ns / bytes as f64);
     println!(
@@ -495,7 +514,7 @@ fn time_day(
     if linked {
         runs.push(Run::new("archive", &files, |file| archive(file, &mut room)));
     }
-    let best = Best::of(runs);
+    let best = Best::of(name, runs);
     let (bytes, answer) = (files[0].len(), answer as u32);
     let rate =
         |run| best.get(run).map_or("-".to_string(), |ns| format!("{:.0}", bytes as f64 * 1e3 / ns));
