@@ -8,11 +8,12 @@ mod callgrind;
 use std::hint::black_box;
 use std::time::Instant;
 
-use reading::archive::{self, packed, packed_added, packed_low, packed_release};
-use reading::archive::{packed_compared, packed_why, packed_written};
+use reading::archive::{self, packed, packed_added, packed_low, packed_plain, packed_release};
+use reading::archive::{packed_compared, packed_why, packed_written, MONTH_WORDS};
 use reading::day::{self, file_of, form_of, Form, VERSION_1, VERSION_2};
 use reading::generate::days::message_of_length;
 use reading::generate::{self, Random, Settings};
+use reading::month::{Month, BOUNDS};
 use reading::vectors::hex;
 use reading::{check_message, check_single, Answer, Row, ENTRY, LIMITS};
 
@@ -614,6 +615,42 @@ fn time_days(
     );
 }
 
+/// A file added to a fresh month, which is read then. The lists have 1,000 lines each, for 200
+/// namespaces.
+fn time_months(few: &[Vec<u8>], largest_few: &[Vec<u8>]) {
+    let line = |k: usize, mark: &str| format!("{mark}n{k}={}\n", k % 200);
+    let [published, own] =
+        ["", "!"].map(|mark| (0..1_000).map(|k| line(k, mark)).collect::<String>().into_bytes());
+    let none = (&b""[..], &b""[..]);
+    for (name, messages, form, (published, own)) in [
+        ("m  month, message C again and again", &[hex(C)][..], VERSION_2, none),
+        ("m  month, many items", few, VERSION_2, none),
+        ("m  month, many items, 16,384 bytes", largest_few, VERSION_2, none),
+        ("m  month, 256 namespaces", &[references_of(500, 256)], VERSION_2, none),
+        ("m  month, by name, 2,000 lines", &[named_references(500)], VERSION_1, (&published, &own)),
+    ] {
+        time_day(
+            name,
+            &["surfbodkin_month_add", "surfbodkin_month_read"],
+            full_file(messages, &form),
+            |file, room| {
+                let mut state = [0; MONTH_WORDS];
+                match archive::month_add(&mut state, file, published, own) {
+                    0 => archive::month_read(&state, room),
+                    refused => refused,
+                }
+            },
+            |file, room| {
+                let mut month = Month::default();
+                match month.add(file, published, own, &form, &BOUNDS) {
+                    Ok(()) => packed_low(month.read(room)),
+                    refused => packed_plain(refused),
+                }
+            },
+        );
+    }
+}
+
 fn main() {
     let missing: Vec<&str> =
         archive::FUNCTIONS.iter().filter(|(_, there)| !there).map(|(name, _)| *name).collect();
@@ -805,6 +842,7 @@ fn main() {
     time_call("m  one of 16,384 bytes, repeated", &strike, &largest[..1]);
 
     time_days(&large, &largest, &few, &published, &own);
+    time_months(&few, &largest_few);
 
     if archive::has_stream() {
         time_streams(&large, &largest);

@@ -1,9 +1,10 @@
-//! What the programs of `gate` print of a listing, of items, of a message that was held, and
-//! of two messages beside each other.
+//! What the programs of `gate` print of a listing, of items, of a message that was held, of two
+//! messages beside each other, and of a month.
 
 use std::fmt::Write as _;
 
 use crate::compare::Position;
+use crate::month::{Month, TOTALS};
 use crate::names::name_number;
 use crate::why::{Link, Meaning, Reason, Why};
 use crate::{
@@ -133,4 +134,13 @@ fn name(message: &[u8], place: usize) -> String {
         unreachable!("an accepted name")
     };
     String::from_utf8(rest[..size as usize].to_vec()).expect("an accepted name")
+}
+
+/// What `gate month` prints: a line for each total, and one for each namespace.
+pub fn month_lines(month: &Month) -> String {
+    let names = ["messages", "bytes", "items", "unknown", "relative"];
+    let totals =
+        names.iter().zip(TOTALS).map(|(name, line)| format!("{name} {}\n", month.total(line)));
+    let namespaces = month.namespaces().map(|(number, count)| format!("{number} {count}\n"));
+    totals.chain(namespaces).collect()
 }

@@ -1,16 +1,19 @@
 //! `programs COMMAND PROGRAM [--seed S]`: gives the program of `gate list`, `items`, `stream`,
-//! `text`, `table`, `names`, `release`, `why`, `same`, `compare` or `strike` fixed inputs and
-//! made ones, and compares what it writes with the reading.
+//! `text`, `table`, `names`, `release`, `why`, `same`, `compare`, `strike` or `month` fixed
+//! inputs and made ones, and compares what it writes with the reading.
 
 use std::fmt::Write as _;
 use std::io::Write as _;
 use std::process::{Command, ExitCode, Stdio};
 
 use reading::compare::compare;
+use reading::day::form_of;
 use reading::generate::names::{self as made, Lists};
-use reading::generate::{self, nests, pairs, strikes, tables, texts, Random};
+use reading::generate::{self, months, nests, pairs, strikes, tables, texts, Random};
+use reading::month::{Month, BOUNDS};
 use reading::names::{self, check_names, find_line, lines};
-use reading::printed::{entry_line, item_lines, listing_lines, position_lines, why_lines};
+use reading::printed::{entry_line, item_lines, listing_lines, month_lines};
+use reading::printed::{position_lines, why_lines};
 use reading::strike::{strike, Struck};
 use reading::vectors::{self, hex, to_hex, Call, Line};
 use reading::why::why;
@@ -829,6 +832,50 @@ fn compare_struck(program: &Program, random: &mut Random) -> Result<String, Stri
     ))
 }
 
+/// The figures of some files with their lists, one in each line; or of the first that is refused
+/// the refusal alone, with its name on standard error.
+fn compare_month(program: &Program, random: &mut Random) -> Result<String, String> {
+    let files = Files::new()?;
+    let (mut added, mut refused, mut most) = (0, 0, 0);
+    let months = 600;
+    for k in 0..months {
+        // Among them a month without files.
+        let days = if k == 0 { Vec::new() } else { months::month(random) };
+        let (mut month, mut wrong) = (Month::default(), None);
+        let mut input = String::new();
+        for (n, (file, lists)) in days.iter().enumerate() {
+            let path = files.put(&format!("day{n}"), file)?;
+            let paths = [
+                files.put(&format!("published{n}"), &lists.0)?,
+                files.put(&format!("own{n}"), &lists.1)?,
+            ];
+            let given = list_arguments(random, lists, paths);
+            input += &[&[path.clone()][..], &given].concat().join(" ");
+            input.push('\n');
+            if wrong.is_none() {
+                let answer = month.add(file, &lists.0, &lists.1, &form_of(file), &BOUNDS);
+                added += usize::from(answer.is_ok());
+                wrong = answer.err().map(|refusal| (refusal, path));
+            }
+        }
+        let got = program.run(&[], input.as_bytes())?;
+        let error = String::from_utf8_lossy(&got.error);
+        let (due, is_named) = match &wrong {
+            None => (month_lines(&month), error.is_empty()),
+            Some((refusal, path)) => (format!("{refusal}\n"), error.contains(path)),
+        };
+        refused += usize::from(wrong.is_some());
+        most = most.max(month.namespaces().count());
+        if got.out != due.as_bytes() || !is_named {
+            return Err(format!("input {input:?}\nthe reading: {due:?}\nthe program: {got}"));
+        }
+    }
+    Ok(format!(
+        "{months} months, {refused} of them refused, {added} files added, {most} namespaces at the \
+         most"
+    ))
+}
+
 fn main() -> ExitCode {
     let arguments: Vec<String> = std::env::args().skip(1).collect();
     let (seed, known) = match &arguments[..] {
@@ -850,12 +897,13 @@ fn main() -> ExitCode {
         "same" => Some(compare_same as _),
         "compare" => Some(compare_messages as _),
         "strike" => Some(compare_struck as _),
+        "month" => Some(compare_month as _),
         _ => None,
     });
     let (Some(seed), Some((command, program)), Some(compare)) = (seed, known, compare) else {
         eprintln!(
-            "usage: programs list|items|stream|text|table|names|release|why|same|compare|strike \
-             PROGRAM [--seed S]"
+            "usage: programs list|items|stream|text|table|names|release|why|same|compare|strike|\
+             month PROGRAM [--seed S]"
         );
         return ExitCode::FAILURE;
     };
