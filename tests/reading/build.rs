@@ -1,6 +1,6 @@
 //! Links the gate's C archive where it has been built: the file named by
 //! SURFBODKIN_ARCHIVE, or target/staticlib/libsurfbodkin.a in the repository's
-//! root. Each function that it has is told to the crate by a cfg, so that what is
+//! root; and so the composer's, COMPOSER_ARCHIVE or libcomposer.a there. Each function that it has is told to the crate by a cfg, so that what is
 //! missing (all, without an archive) still builds, and is said when run. The sizes of
 //! a stream's state and of a month's are taken from the header, where hosts find them too.
 
@@ -15,7 +15,7 @@ const FUNCTIONS: [&str; 24] = [
     "month_add", "month_read",
 ];
 
-/// The functions that the archive defines, as nm names them.
+/// The functions of the gate's archive that it defines, as nm names them.
 fn defined(archive: &Path) -> Vec<&'static str> {
     let nm = env::var("NM").unwrap_or("nm".to_string());
     let output = Command::new(&nm)
@@ -46,7 +46,6 @@ fn constant(header: &Path, name: &str) -> String {
 fn main() {
     println!("cargo::rustc-check-cfg=cfg(archive_has, values(\"{}\"))", FUNCTIONS.join("\", \""));
     println!("cargo::rerun-if-changed=build.rs");
-    println!("cargo::rerun-if-env-changed=SURFBODKIN_ARCHIVE");
     println!("cargo::rerun-if-env-changed=NM");
 
     let package = PathBuf::from(env::var("CARGO_MANIFEST_DIR").unwrap());
@@ -55,23 +54,36 @@ fn main() {
     for name in ["SURFBODKIN_STREAM_WORDS", "SURFBODKIN_MONTH_WORDS"] {
         println!("cargo::rustc-env={name}={}", constant(&header, name));
     }
-    let mut archive = match env::var_os("SURFBODKIN_ARCHIVE") {
+    if let Some(archive) = linked(&package, "SURFBODKIN_ARCHIVE", "libsurfbodkin.a") {
+        for function in defined(&archive) {
+            println!("cargo::rustc-cfg=archive_has=\"{function}\"");
+        }
+    }
+    println!("cargo::rustc-check-cfg=cfg(composer)");
+    if linked(&package, "COMPOSER_ARCHIVE", "libcomposer.a").is_some() {
+        println!("cargo::rustc-cfg=composer");
+    }
+}
+
+/// Links the archive that a variable of the environment names, or that of the repository; none
+/// if it is not there.
+fn linked(package: &Path, variable: &str, file: &str) -> Option<PathBuf> {
+    println!("cargo::rerun-if-env-changed={variable}");
+    let mut archive = match env::var_os(variable) {
         Some(path) => env::current_dir().unwrap().join(path),
         None => package.join("../../target/staticlib"),
     };
     if archive.is_dir() {
-        archive.push("libsurfbodkin.a");
+        archive.push(file);
     }
     // A path that is not there yet makes this run again until it is.
     println!("cargo::rerun-if-changed={}", archive.display());
     if !archive.is_file() {
-        return;
+        return None;
     }
     let folder = archive.parent().unwrap().display();
     let name = archive.file_stem().unwrap().to_str().unwrap();
     println!("cargo::rustc-link-search=native={folder}");
     println!("cargo::rustc-link-lib=static={}", name.trim_start_matches("lib"));
-    for function in defined(&archive) {
-        println!("cargo::rustc-cfg=archive_has=\"{function}\"");
-    }
+    Some(archive)
 }

@@ -2,6 +2,8 @@
 //! build.rs). Each answer is one `u64`; [`packed`] and its kin give the numbers
 //! that stand for the reading's answers.
 
+pub mod composer;
+
 use std::ops::Range;
 
 use crate::day::Added;

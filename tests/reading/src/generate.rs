@@ -6,6 +6,7 @@ pub mod days;
 pub mod months;
 pub mod names;
 pub mod nests;
+pub mod orders;
 pub mod pairs;
 pub mod strikes;
 pub mod tables;

@@ -12,13 +12,14 @@
 //! by them; [`why`] says why a message was held; [`day`] has the file of a day's messages,
 //! [`month`] the figures of many; `same` says whether two single ARIs are the same;
 //! [`compare`] says what differs between two messages; [`strike`] takes a target or report
-//! out of one.
+//! out of one; [`composer`] makes messages from texts.
 //!
 //! Not part of the reading: [`archive`] calls the gate, [`generate`] makes
 //! inputs for comparisons and times, [`vectors`] holds the fixed inputs,
 //! [`appendix`] RFC 8949's examples, [`printed`] is what programs print.
 
 pub mod compare;
+pub mod composer;
 pub mod day;
 mod grants;
 mod head;
@@ -120,6 +121,8 @@ pub enum Test {
     DayMessage = 22,
     /// "file full"
     DayFull = 23,
+    /// "a text that is too long, isn't ended or isn't an object reference"
+    NoTarget = 24,
     /// "the file would bring a namespace beyond 256"
     Namespaces = 25,
     /// "a total would pass its bound"

@@ -1,10 +1,7 @@
 //! 'Text': a single ARI's text, and the ARI of a text.
 
 use crate::head::{self, put_head};
-use crate::{
-    check_single, hand_over, walk_single, Answer, Kind, Limits, Refusal, Test, Visitor, Written,
-    LIMITS,
-};
+use crate::{hand_over, walk_single, Kind, Limits, Refusal, Test, Visitor, Written, LIMITS};
 
 /// The types that have a text form, with their names. Left out are the floats (8,
 /// 9) and the sets (20, 21).
@@ -238,19 +235,24 @@ impl<'a> Writer<'a> {
     }
 }
 
-/// The ARI of a text: "15: text that isn't the text of an accepted ARI". The
-/// parser takes no spelling but the writer's; ranges, key order, the spelling of
-/// names, where LABEL may stand and the limits are left to the check.
-pub fn read_text(text: &[u8], room: &mut [u8]) -> Result<Written, Refusal> {
-    if text.len() > LIMITS.text {
+/// The ARI of a text and its item count: "15: text that isn't the text of an accepted
+/// ARI". The parser takes no spelling but the writer's; ranges, key order, the spelling
+/// of names, where LABEL may stand and the limits are left to the check.
+pub fn ari_of(text: &[u8], limits: &Limits) -> Result<(Vec<u8>, usize), Refusal> {
+    if text.len() > limits.text {
         return Err(Refusal { test: Test::TooLong, place: 0 });
     }
     let not_text = Refusal { test: Test::NotText, place: 0 };
     let ari = parse(text).ok_or(not_text)?;
-    match check_single(&ari) {
-        Answer::Accepted(items) => hand_over(&ari, Written { items, size: ari.len() }, room),
-        Answer::Refused { .. } => Err(not_text),
+    match walk_single(&ari, limits, &mut ()) {
+        Ok(items) => Ok((ari, items)),
+        Err(_) => Err(not_text),
     }
+}
+
+pub fn read_text(text: &[u8], room: &mut [u8]) -> Result<Written, Refusal> {
+    let (ari, items) = ari_of(text, &LIMITS)?;
+    hand_over(&ari, Written { items, size: ari.len() }, room)
 }
 
 /// The binary form that a text would have, if it is spelled as one.
