@@ -8,8 +8,11 @@ mod callgrind;
 use std::hint::black_box;
 use std::time::Instant;
 
-use reading::archive::{self, packed, packed_added, packed_low, packed_plain, packed_release};
+use reading::archive::{
+    self, composer, packed, packed_added, packed_low, packed_plain, packed_release,
+};
 use reading::archive::{packed_compared, packed_why, packed_written, MONTH_WORDS};
+use reading::composer::{compose, Nonce};
 use reading::day::{self, file_of, form_of, Form, VERSION_1, VERSION_2};
 use reading::generate::days::message_of_length;
 use reading::generate::{self, Random, Settings};
@@ -205,6 +208,14 @@ fn named_references(count: u16) -> Vec<u8> {
         message.extend(name.as_bytes());
     }
     message
+}
+
+/// An object reference with so many parameters.
+fn parameters(count: u16) -> Vec<u8> {
+    let mut ari = hex("84 00 20 00 99");
+    ari.extend(count.to_be_bytes());
+    ari.extend((0..count).map(|k| (k % 24) as u8));
+    ari
 }
 
 struct Check {
@@ -652,8 +663,8 @@ fn time_months(few: &[Vec<u8>], largest_few: &[Vec<u8>]) {
 }
 
 fn main() {
-    let missing: Vec<&str> =
-        archive::FUNCTIONS.iter().filter(|(_, there)| !there).map(|(name, _)| *name).collect();
+    let functions = archive::FUNCTIONS.iter().chain(&[(composer::FUNCTION, composer::IS_THERE)]);
+    let missing: Vec<&str> = functions.filter(|(_, there)| !there).map(|(name, _)| *name).collect();
     if !missing.is_empty() {
         println!("archive: skipped, not there when this was built: {}", missing.join(", "));
     }
@@ -840,6 +851,19 @@ fn main() {
     time_call("m  one of 4,096 bytes, repeated", &strike, &large[..1]);
     time_call("m  one of 500 like it", &strike, &large);
     time_call("m  one of 16,384 bytes, repeated", &strike, &largest[..1]);
+
+    // From the texts of targets, with the nonce 1234.
+    let order = Call {
+        function: composer::FUNCTION,
+        archive: &|texts, room| composer::compose(1, 1_234, b"", texts, room),
+        reading: &|texts, room| packed_written(compose(Nonce::Number(1_234), texts, room, &LIMITS)),
+    };
+    let line = |ari: &[u8]| reading::text_of(ari, &LIMITS).unwrap().0 + "\n";
+    let orders = [line(&target[0]), line(&target[0]).repeat(300), line(&parameters(4_000))];
+    let [one, many, large_one] = orders.map(|texts| [texts.into_bytes()]);
+    time_call("g  an order of C's target", &order, &one);
+    time_call("g  an order of 300 targets", &order, &many);
+    time_call("g  an order of 4,000 parameters", &order, &large_one);
 
     time_days(&large, &largest, &few, &published, &own);
     time_months(&few, &largest_few);

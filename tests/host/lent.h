@@ -102,7 +102,7 @@ static void take_back(struct lent lent, const uint8_t *expected, const char *nam
 }
 
 /* Takes memory back that may have changed. */
-static void take_back_changed(struct lent lent, uint8_t *content, const char *name) {
+static inline void take_back_changed(struct lent lent, uint8_t *content, const char *name) {
   if (lent.lent.length > 0) memcpy(content, lent.lent.at, lent.lent.length);
   take_back(lent, content, name);
 }

@@ -111,9 +111,9 @@ const fn number(digits: &str) -> usize {
 pub const STREAM_WORDS: usize = number(env!("SURFBODKIN_STREAM_WORDS"));
 pub const MONTH_WORDS: usize = number(env!("SURFBODKIN_MONTH_WORDS"));
 
-/// Whether the archive has a function; if not, its call below panics.
+/// Whether the archive, or the composer's, has a function; if not, its call below panics.
 pub fn has(name: &str) -> bool {
-    FUNCTIONS.contains(&(name, true))
+    FUNCTIONS.contains(&(name, true)) || composer::IS_THERE && name == composer::FUNCTION
 }
 
 pub fn has_stream() -> bool {

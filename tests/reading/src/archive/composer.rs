@@ -15,7 +15,8 @@ extern "C" {
     ) -> u64;
 }
 
-/// Whether it is there; if not, its call panics.
+/// The function's name, and whether it is there; if not, its call panics.
+pub const FUNCTION: &str = "composer_compose";
 pub const IS_THERE: bool = cfg!(composer);
 
 #[cfg(composer)]

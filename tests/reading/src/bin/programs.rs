@@ -1,14 +1,16 @@
 //! `programs COMMAND PROGRAM [--seed S]`: gives the program of `gate list`, `items`, `stream`,
-//! `text`, `table`, `names`, `release`, `why`, `same`, `compare`, `strike` or `month` fixed
-//! inputs and made ones, and compares what it writes with the reading.
+//! `text`, `table`, `names`, `release`, `why`, `same`, `compare`, `strike` or `month`, or the
+//! composer, fixed inputs and made ones, and compares what it writes with the reading.
 
 use std::fmt::Write as _;
 use std::io::Write as _;
 use std::process::{Command, ExitCode, Stdio};
 
 use reading::compare::compare;
+use reading::composer::{composed, Nonce};
 use reading::day::form_of;
 use reading::generate::names::{self as made, Lists};
+use reading::generate::orders::{self, Order};
 use reading::generate::{self, months, nests, pairs, strikes, tables, texts, Random};
 use reading::month::{Month, BOUNDS};
 use reading::names::{self, check_names, find_line, lines};
@@ -876,6 +878,72 @@ fn compare_month(program: &Program, random: &mut Random) -> Result<String, Strin
     ))
 }
 
+/// The most that the composer reads of its standard input.
+const TEXTS: usize = 262_143;
+
+/// A nonce as it is given to the program: "`null`, a number in decimal or `h` and hex digits in
+/// quotes as in ARI text".
+fn nonce_word(nonce: Nonce) -> String {
+    match nonce {
+        Nonce::Null => "null".to_string(),
+        Nonce::Number(number) => number.to_string(),
+        Nonce::Bytes(bytes) => format!("h%27{}%27", to_hex(bytes)),
+    }
+}
+
+/// The message and nothing behind it, or a refusal's line.
+fn composed_lines(nonce: Nonce, texts: &[u8]) -> Printed {
+    composed(nonce, texts, &LIMITS).map_or_else(line, |(message, _)| Printed::out(message))
+}
+
+fn compare_composer(program: &Program, random: &mut Random) -> Result<String, String> {
+    let (mut written, mut refused, mut targets) = (0, 0, 0);
+    let mut compare = |nonce: Nonce<'_>, texts: &[u8]| {
+        let due = composed_lines(nonce, texts);
+        let is_refused = due.out.starts_with(b"refused");
+        *(if is_refused { &mut refused } else { &mut written }) += 1;
+        targets += texts.split(|byte| *byte == b'\n').filter(|_| !is_refused).count();
+        program.compare(&[&nonce_word(nonce)], texts, due)
+    };
+    let mut made = 0;
+    while made < 1_500 {
+        let Order { kind, number, nonce, texts } = orders::order(random);
+        let Ok(nonce) = Nonce::of(kind, number, &nonce) else { continue };
+        if texts.len() > TEXTS || nonce_word(nonce).len() > 100_000 {
+            continue;
+        }
+        compare(nonce, &texts)?;
+        made += 1;
+    }
+    // At the ends of what the program takes.
+    compare(Nonce::Null, &vec![b'0'; TEXTS])?;
+    compare(Nonce::Null, &b"./-1/0\n".repeat(TEXTS / 7))?;
+    for number in [0, 1 << 32, i64::MAX as u64, 1 << 63, u64::MAX] {
+        compare(Nonce::Number(number), b"./-1/0\n")?;
+    }
+    // A number that is far out of range is so as well.
+    for number in ["18446744073709551616", "99999999999999999999999999999999"] {
+        program.compare(&[number], b"./-1/0\n", Printed::out("refused 7 0\n"))?;
+    }
+    // Where it cannot do its work it writes nothing, and says why.
+    let fails = |arguments: &[&str], texts: &[u8]| {
+        let got = program.run(arguments, texts)?;
+        match got.out.is_empty() && !got.error.is_empty() {
+            true => Ok(()),
+            false => Err(format!("{arguments:?}, {} bytes of texts: {got}", texts.len())),
+        }
+    };
+    let wrong =
+        ["", "-1", "+1", "007", "1 ", "Null", "nil", "h", "h%27", "h%270%27", "h%27zz%27", "x"];
+    for nonce in wrong {
+        fails(&[nonce], b"./-1/0\n")?;
+    }
+    fails(&[], b"./-1/0\n")?;
+    fails(&["null", "null"], b"./-1/0\n")?;
+    fails(&["null"], &vec![b'0'; TEXTS + 1])?;
+    Ok(format!("{} orders: {written} composed with {targets} targets, {refused} refused", made + 7))
+}
+
 fn main() -> ExitCode {
     let arguments: Vec<String> = std::env::args().skip(1).collect();
     let (seed, known) = match &arguments[..] {
@@ -898,12 +966,13 @@ fn main() -> ExitCode {
         "compare" => Some(compare_messages as _),
         "strike" => Some(compare_struck as _),
         "month" => Some(compare_month as _),
+        "composer" => Some(compare_composer as _),
         _ => None,
     });
     let (Some(seed), Some((command, program)), Some(compare)) = (seed, known, compare) else {
         eprintln!(
             "usage: programs list|items|stream|text|table|names|release|why|same|compare|strike|\
-             month PROGRAM [--seed S]"
+             month|composer PROGRAM [--seed S]"
         );
         return ExitCode::FAILURE;
     };
@@ -913,7 +982,7 @@ fn main() -> ExitCode {
             ExitCode::SUCCESS
         }
         Err(difference) => {
-            eprintln!("gate {command}: {difference}");
+            eprintln!("{command}: {difference}");
             ExitCode::FAILURE
         }
     }
