@@ -83,7 +83,7 @@ pub fn composed(nonce: Nonce, texts: &[u8], limits: &Limits) -> Result<(Vec<u8>,
     let mut targets = Vec::new();
     for (place, (_, line)) in lines(texts).enumerate() {
         let target = target(line, limits);
-        targets.push(target.ok_or(Refusal { test: Test::NoTarget, place })?);
+        targets.push(target.ok_or(Refusal { test: Test::NoReference, place })?);
     }
     let mut message = vec![0x01, 0x82, 0x14];
     put_head(&mut message, 4, 1 + targets.len() as u64);

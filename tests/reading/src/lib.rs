@@ -122,7 +122,7 @@ pub enum Test {
     /// "file full"
     DayFull = 23,
     /// "a text that is too long, isn't ended or isn't an object reference"
-    NoTarget = 24,
+    NoReference = 24,
     /// "the file would bring a namespace beyond 256"
     Namespaces = 25,
     /// "a total would pass its bound"

@@ -282,7 +282,7 @@ fn orders() {
                     assert_eq!(refusal, Refusal { test: Test::NotAllowed, place: 0 });
                 }
                 (Err(refusal), false, Some(place)) => {
-                    assert_eq!(refusal, Refusal { test: Test::NoTarget, place }, "seed {seed}");
+                    assert_eq!(refusal, Refusal { test: Test::NoReference, place }, "seed {seed}");
                 }
                 (answer, false, None) => {
                     let far = Limits { bytes: 1 << 30, items: 1 << 30, containers: 99, ..limits };
