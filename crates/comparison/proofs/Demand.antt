@@ -3,8 +3,8 @@
 use Prim.Native.Nat.{ℕ, zero, suc, _+_, _≤_, _<_, max}
 use mathlib.Core.Logic.{_⊎_, inl, inr, _↔_}
 use mathlib.Core.Path.{_≡_, refl, sym, _∙_, ap}
-use mathlib.Core.Bool.{Bool, true, false, not, _&&_, cond, true≢false}
-use mathlib.Core.List.{List, [], _∷_, _++_, map, List·Memᴰ, List·Memᴰ·head, List·Memᴰ·tail}
+use mathlib.Core.Bool.{Bool, true, false, _&&_, cond, true≢false}
+use mathlib.Core.List.{List, [], _∷_, map, List·Memᴰ, List·Memᴰ·head, List·Memᴰ·tail}
 use native.Mathlib.Omega.{arith}
 use lib.ListN.{length, getD, length-map}
 use lib.Dec.{eqb}
@@ -21,12 +21,12 @@ use Rattle.ari.specs.Rules.{Is}
 use Rattle.ari.specs.Same.{foldedAt}
 use Rattle.ari.specs.Targets.{isTarget, targets, targetOf}
 use Rattle.ari.proofs.Members.{within}
-use Rattle.ari.proofs.Targets.{Lies, numbered}
+use Rattle.ari.proofs.Targets.{numbered}
 use Rattle.grammar.specs.Code.{slotNumber}
 use Rattle.item_table.specs.Entries.{noSpot, spotNumber}
 use Rattle.comparison.specs.Comparison.{Part, partsFrom, parts, foldedPart, isSamePart, alike, itemsOf, alikeFor, Entry, same, changed, onlyFirst, onlySecond, entryOf, compared, comparison, whatOf, different}
 use Rattle.comparison.proofs.Runs.{Own, own, Fitting, fitting}
-use Rattle.comparison.proofs.Pairing.{same-slot, Paired, are-same, are-different, paired, Likes, likes-length, likes-to, Unlike, unlike-at, UnlikeAt, AlikeTo}
+use Rattle.comparison.proofs.Pairing.{same-slot, Paired, are-same, are-different, paired, Likes, likes-to, unlike-at, UnlikeAt}
 use Rattle.comparison.proofs.Words.{length-compared}
 
 -- R195: the targets and reports are those of R168, each with the number of its item.

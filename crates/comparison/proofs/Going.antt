@@ -1,20 +1,19 @@
 -- The entries one after the other, and the answer. The idea: what is put, and what is left to compare from the two targets or reports that are reached, is
 -- the whole comparison.
-use Prim.Native.Nat.{ℕ, zero, suc, _+_, _-_, _*_, _/_, _≤_, _<_, max, min}
+use Prim.Native.Nat.{ℕ, suc, _+_, _-_, _*_, _/_, _≤_, _<_, max, min}
 use mathlib.Core.Logic.{_⊎_, inl, inr}
 use mathlib.Core.Path.{_≡_, refl, sym, _∙_, ap}
-use mathlib.Core.Bool.{Bool, true, false, _||_, cond}
+use mathlib.Core.Bool.{Bool, true, false, cond}
 use mathlib.Core.List.{List, [], _∷_, _++_, append-nil, append-assoc}
 use native.Mathlib.Omega.{arith}
 use lib.ListN.{length, take, drop, getD, length-append}
 use lib.Seq.{sets-eq, getD-take, length-take-le}
-use lib.Dec.{ltb, eqb}
+use lib.Dec.{eqb}
 use borrow.Author.Tests.{lt-ltb, le-ltb, eq-eqb, ne-eqb}
-use mir.Syntax.{w8, w64}
+use mir.Syntax.{w8}
 use mir.Val.{Fits}
 use Rattle.buffer.specs.Bytes.{be}
 use Rattle.buffer.specs.Put.{Put}
-use Rattle.buffer.proofs.ByteLaws.{length-be}
 use Rattle.buffer.proofs.Putting.{put-nothing, put-both, put-size}
 use Rattle.ari.specs.declared.Limits.{Limits}
 use Rattle.ari.specs.declared.Input.the-variants.{Message}
@@ -29,7 +28,7 @@ use Rattle.comparison.specs.declared.Difference.{Difference}
 use Rattle.comparison.specs.declared.Tally.{Tally}
 use Rattle.comparison.specs.declared.Compared.{Compared}
 use Rattle.comparison.specs.declared.Compared.the-variants.{Entries, Refused}
-use Rattle.comparison.specs.Comparison.{Part, parts, Entry, same, changed, onlyFirst, onlySecond, entryOf, compared, comparison, whatOf, entryBytes, entriesBytes, different, enoughFor, secondBy, compareMessages, roomAfter}
+use Rattle.comparison.specs.Comparison.{parts, Entry, onlyFirst, onlySecond, entryOf, compared, comparison, whatOf, entryBytes, entriesBytes, different, enoughFor, secondBy, compareMessages, roomAfter}
 use Rattle.comparison.specs.Code.{Table, whole, targetsIn, nextTarget, targetBehind, Reached, partAt, entryAt, withoutItems, differenceOf, differenceBytes, isDifferent, tallyOf}
 use Rattle.comparison.proofs.Words.{few-words, behind-later, behind-further, partsAt, Standing, one, over, standing, reached-first, reached-behind, parts-first, targets-are, few-targets, length-compared}
 

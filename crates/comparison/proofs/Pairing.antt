@@ -2,7 +2,7 @@
 -- items of one number. The idea: items that are alike announce the same members, so that both run side by side up to the first that differ, or to the end.
 use Prim.Native.Nat.{ℕ, zero, suc, _+_, _≤_, _<_}
 use mathlib.Core.Path.{_≡_, refl, sym, _∙_, ap}
-use mathlib.Core.Bool.{Bool, true, false, not, _&&_, cond, true≢false}
+use mathlib.Core.Bool.{Bool, true, false, cond, true≢false}
 use mathlib.Core.List.{List, [], _∷_, _++_, append-nil}
 use native.Mathlib.Omega.{arith}
 use lib.ListN.{length, getD, length-map}
@@ -24,7 +24,7 @@ use Rattle.ari.proofs.Well.{trees, Well}
 use Rattle.ari.proofs.Weight.{well-fit}
 use Rattle.ari.proofs.Decoded.{decode-encode}
 use Rattle.ari.proofs.Shortened.{short-kind, short-arg, short-sound}
-use Rattle.ari.proofs.Same.{seen-slot, seen-kind, seen-arg, seen-string, seen-from}
+use Rattle.ari.proofs.Same.{seen-slot, seen-kind, seen-arg, seen-from}
 use Rattle.grammar.specs.Code.{slotOf, slotNumber}
 use Rattle.item_table.specs.Entries.{noSpot}
 use Rattle.comparison.specs.Comparison.{foldedPart, isSamePart, alike, itemsOf, alikeFor}

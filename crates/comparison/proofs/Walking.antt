@@ -1,9 +1,9 @@
 -- Two targets or reports gone through side by side, item by item. The idea: the first ends at the first item that begins behind its last byte, and the
 -- second has an item wherever the first has one, as long as all before are alike.
-use Prim.Native.Nat.{ℕ, zero, suc, _+_, _*_, _≤_, _<_}
+use Prim.Native.Nat.{ℕ, _+_, _*_, _≤_, _<_}
 use mathlib.Core.Path.{_≡_, refl, sym, _∙_, ap}
-use mathlib.Core.Bool.{Bool, true, false, not, _&&_, cond}
-use mathlib.Core.List.{List, [], _∷_}
+use mathlib.Core.Bool.{Bool, true, false, not}
+use mathlib.Core.List.{List}
 use native.Mathlib.Omega.{arith}
 use lib.ListN.{length, getD}
 use lib.Dec.{eqb, ltb}
@@ -11,12 +11,9 @@ use borrow.Author.Tests.{eqb-true, eqb-false, ltb-true, ltb-false, not-true, not
 use mir.Syntax.{w64}
 use mir.Val.{Fits}
 use Rattle.buffer.proofs.ByteLaws.{and-true}
-use Rattle.ari.specs.Table.{Slot}
 use Rattle.ari.specs.declared.Input.the-variants.{Message}
 use Rattle.ari.specs.Items.{Spot, spotsOf}
 use Rattle.ari.specs.Decode.{decode}
-use Rattle.ari.specs.Targets.{isTarget}
-use Rattle.ari.specs.Same.{seen}
 use Rattle.grammar.specs.Code.{slotOf, slotNumber}
 use Rattle.item_table.specs.declared.Item.{Item}
 use Rattle.item_table.specs.Entries.{itemOf, noSpot, spotNumber}
@@ -24,7 +21,7 @@ use Rattle.item_table.proofs.Entries.{item-at, fine-at}
 use Rattle.sameness.specs.Code.{alikeBy}
 use Rattle.sameness.proofs.Alike as words
 use Rattle.comparison.specs.declared.Difference.{Difference}
-use Rattle.comparison.specs.Comparison.{Entry, same, changed, isSamePart, alike, itemsOf, alikeFor, entryOf}
+use Rattle.comparison.specs.Comparison.{alike, itemsOf, entryOf}
 use Rattle.comparison.specs.Code.{Both, partAt, differenceOf, withoutItems}
 use Rattle.comparison.proofs.Runs.{Own, own, fitting}
 use Rattle.comparison.proofs.Pairing.{Paired, paired, AlikeTo, alike-seen, seen-alike, further, to-the-end, up-to}

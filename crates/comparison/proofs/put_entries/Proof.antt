@@ -1,6 +1,6 @@
 -- `comparison::put_entries` meets its contract: what is put, and what is left to compare from i and j on, are all entries.
-use Prim.Native.Nat.{_+_, _-_, _<_}
-use mathlib.Core.Logic.{_⊎_, inl, inr}
+use Prim.Native.Nat.{_+_, _-_}
+use mathlib.Core.Logic.{inl, inr}
 use native.Mathlib.Omega.{arith}
 use lib.ListN.{length}
 use borrow.Author.Needs.{needs}
@@ -15,35 +15,11 @@ Inv-loop a b xs ys out₀ i₀ j₀ p₀ different₀ out i j p different = Gone
 abbrev μ-loop : tie.MeasureT-loop
 μ-loop a b xs ys out₀ i₀ j₀ p₀ different₀ out i j p different = (length xs - i) + (length ys - j)
 
-next-target-requires : tie.Need-next-target-requires Inv-loop μ-loop
-next-target-requires c κs = search needs
-
-next-target-requires-2 : tie.Need-next-target-requires-2 Inv-loop μ-loop
-next-target-requires-2 c κs = search needs
-
-loop-holds : tie.Need-loop-holds Inv-loop μ-loop
-loop-holds c = search (gone-none, needs)
-
-entry-at-requires : tie.Need-entry-at-requires Inv-loop μ-loop
-entry-at-requires c κs = (gone-first (c .before .loop .inv), gone-second (c .before .loop .inv))
-
-put-entry-requires : tie.Need-put-entry-requires Inv-loop μ-loop
-put-entry-requires c κs = search needs
-
-is-different-requires : tie.Need-is-different-requires Inv-loop μ-loop
-is-different-requires c κs = search needs
-
 add-different : tie.Need-add-different Inv-loop μ-loop
 add-different c =
     let entry = c .before .before .before .before .before in
     let turn = entry .before .before in
     record { fits = omega (arith, gone-few (turn .loop .inv), one-at-most (entry .entry-at .result), c .is-different .ensures) }
-
-target-behind-requires : tie.Need-target-behind-requires Inv-loop μ-loop
-target-behind-requires c κs = search needs
-
-target-behind-requires-2 : tie.Need-target-behind-requires-2 Inv-loop μ-loop
-target-behind-requires-2 c κs = search needs
 
 loop-less : tie.Need-loop-less Inv-loop μ-loop
 loop-less c =
@@ -59,9 +35,6 @@ loop-again c =
     (c .before .target-behind .ensures) (c .target-behind2 .ensures) (entry .entry-at .ensures) (c .before .before .before .before .before .put-entry .ensures)
     (c .before .before .is-different .ensures)
 
-same-length : tie.Need-same-length Inv-loop μ-loop
-same-length c = search (gone-size, needs)
-
 returns : tie.Need-returns Inv-loop μ-loop
 returns c =
     let turn = c .before .before in
@@ -74,16 +47,16 @@ put-entries-spec =
     (tie.spec
     Inv-loop
     μ-loop
-    next-target-requires
-    next-target-requires-2
-    loop-holds
-    entry-at-requires
-    put-entry-requires
-    is-different-requires
+    (λ c κs. search needs)
+    (λ c κs. search needs)
+    (λ c. search (gone-none, needs))
+    (λ c κs. (gone-first (c .before .loop .inv), gone-second (c .before .loop .inv)))
+    (λ c κs. search needs)
+    (λ c κs. search needs)
     add-different
-    target-behind-requires
-    target-behind-requires-2
+    (λ c κs. search needs)
+    (λ c κs. search needs)
     loop-less
     loop-again
-    same-length
+    (λ c. search (gone-size, needs))
     returns)
