@@ -31,9 +31,8 @@
 #include <unistd.h>
 
 #include "day_file.h"
+#include "program.h"
 #include "surfbodkin.h"
-
-enum { DONE, REFUSED, FAILED };
 
 static const char USAGE[] =
     "usage: gate day check FILE\n"
@@ -42,92 +41,6 @@ static const char USAGE[] =
     "       gate day upgrade FILE\n"
     "       gate day list FILE [PUBLISHED [OWN]]\n"
     "       gate day search FILE NAMESPACE [PUBLISHED [OWN]]\n";
-
-static void fail(const char *format, ...) {
-  va_list arguments;
-  va_start(arguments, format);
-  fputs("gate day: ", stderr);
-  vfprintf(stderr, format, arguments);
-  fputc('\n', stderr);
-  va_end(arguments);
-  /* What may still wait for standard output is not worth a try. */
-  _exit(FAILED);
-}
-
-/* What is said if standard output can't be written; `add` and `upgrade` have more to say. */
-static char after_all[80];
-
-static void fail_to_say(void) {
-  fail("standard output: %s%s", strerror(errno), after_all);
-}
-
-static void say(const char *format, ...) {
-  va_list arguments;
-  va_start(arguments, format);
-  if (vprintf(format, arguments) < 0) fail_to_say();
-  va_end(arguments);
-}
-
-static void say_bytes(const uint8_t *at, size_t length) {
-  if (fwrite(at, 1, length, stdout) != length) fail_to_say();
-}
-
-static int refuse(uint64_t answer) {
-  say("refused %u %" PRIu64 "\n", surfbodkin_number(answer), surfbodkin_place(answer));
-  return REFUSED;
-}
-
-static int refused(uint64_t answer) {
-  return surfbodkin_number(answer) != SURFBODKIN_ACCEPTED;
-}
-
-struct bytes {
-  uint8_t *at;
-  size_t length;
-};
-
-/* A file's bytes, or so many of them; to be freed. */
-static struct bytes read_file(const char *name, size_t most) {
-  struct bytes bytes = {NULL, 0};
-  size_t room = 0, got;
-  int from = open(name, O_RDONLY | O_CLOEXEC);
-  if (from < 0) fail("%s: %s", name, strerror(errno));
-  do {
-    room = room == 0 ? 65536 : 2 * room;
-    if (room > most) room = most;
-    uint8_t *at = realloc(bytes.at, room);
-    if (at == NULL) fail("%s: %s", name, strerror(errno));
-    bytes.at = at;
-    if (day_file_read(from, bytes.at + bytes.length, room - bytes.length, &got) != 0) {
-      fail("%s: %s", name, strerror(errno));
-    }
-    bytes.length += got;
-  } while (bytes.length == room && room < most);
-  close(from);
-  return bytes;
-}
-
-/* One byte past the limit is enough to be refused. */
-static struct bytes read_day(const char *name) {
-  return read_file(name, SURFBODKIN_DAY_BYTES + 1);
-}
-
-/* The lists of names that the words give; one that is missing is empty. */
-struct lists {
-  struct bytes published, own;
-};
-
-static struct lists read_lists(int count, char **words) {
-  struct lists lists = {{NULL, 0}, {NULL, 0}};
-  if (count > 0) lists.published = read_file(words[0], SIZE_MAX);
-  if (count > 1) lists.own = read_file(words[1], SIZE_MAX);
-  return lists;
-}
-
-static void free_lists(struct lists lists) {
-  free(lists.published.at);
-  free(lists.own.at);
-}
 
 /* Digits alone, without a zero in front of others. */
 static int plain(const char *digits) {
@@ -325,10 +238,6 @@ static int with_lists(int count, char **words) {
   return status;
 }
 
-static int help(const char *word) {
-  return strcmp(word, "-h") == 0 || strcmp(word, "--help") == 0;
-}
-
 static int run(int count, char **words) {
   const char *command = count > 1 ? words[1] : "";
   if (help(command) || (count == 3 && help(words[2]))) {
@@ -350,9 +259,5 @@ static int run(int count, char **words) {
 }
 
 int main(int count, char **words) {
-  /* A reader that has gone is an error like others. */
-  signal(SIGPIPE, SIG_IGN);
-  int status = run(count, words);
-  if (fflush(stdout) != 0) fail_to_say();
-  return status;
+  return program("gate day", run, count, words);
 }

@@ -1,7 +1,7 @@
 /* Surfbodkin: a gate that reads AMP messages, whole or as a link delivers them, and
    ARIs, lists the references in a message, says whether a subscriber's grants cover
-   them and why not, takes a target out of it, and keeps the messages of a day in one
-   file.
+   them and why not, takes a target out of it, compares two messages, keeps the messages
+   of a day in one file, and counts such files for a month's bill.
 
    To use it, link with libsurfbodkin.a (x86-64), which rt staticlib surfbodkin builds
    as target/staticlib/libsurfbodkin.a:
@@ -15,20 +15,20 @@
    WHAT HOLDS OF EVERY CALL
 
    - Memory is lent for the call only; nothing is kept, freed or allocated. What a
-     stream keeps from call to call is in the memory that the caller lends to each of
-     its calls, and nowhere else: threads may call at the same time, each with
-     streams of its own. A call takes less than 256 KB of stack.
+     stream or a month keeps from call to call is in the memory that the caller lends
+     to each of its calls, and nowhere else: threads may call at the same time, each
+     with streams and months of its own. A call takes less than 256 KB of stack.
    - Nothing is written but the answer buffer `out`, release's `compared`,
-     name_number's `number`, and a stream's `state` and `message`. On a refusal `out`
-     and `compared` are as they were; on an acceptance only the front of `out` is
-     written, as far as the answer reaches.
+     name_number's `number`, a stream's `state` and `message`, and a month's `state`.
+     On a refusal `out`, `compared` and a month's `state` are as they were; on an
+     acceptance only the front of `out` is written, as far as the answer reaches.
    - What may be written must not overlap anything else that is lent to the same
      call. A pointer whose length is 0 is not followed, and may be NULL.
    - Every input has an answer; none has to be tested before.
 
    ANSWERS are one uint64_t. Its top byte tells which:
 
-     0          accepted; released; the table passes; the stream goes on
+     0          accepted; released; the table passes; the stream goes on; counted
      1 to 27    refused, by the test of that number (see enum surfbodkin_test);
                 the other 56 bits are the place, or another number, that goes with it
      255        held back (release's no); the other 56 bits are the entry. Why
@@ -36,10 +36,10 @@
 
    An acceptance has the number of items (CBOR heads) of the input in bits 32 to 55,
    and in bits 0 to 31 the size of what was written to `out`, 0 for a check; those of
-   a day file, of compare and of name_number have there what is said with them, and 0
-   where nothing is said. The yes of a release, a table that passes and a stream that
-   goes on are plain 0. The functions surfbodkin_number, _place, _count and _low below
-   take an answer apart. */
+   a day file, of a month, of compare and of name_number have there what is said with
+   them, and 0 where nothing is said. The yes of a release, a table that passes, a stream
+   that goes on and a file that a month has counted are plain 0. The functions
+   surfbodkin_number, _place, _count and _low below take an answer apart. */
 #ifndef SURFBODKIN_H
 #define SURFBODKIN_H
 
@@ -74,6 +74,11 @@ enum surfbodkin_size {
   SURFBODKIN_DAY_MESSAGES = 65535, /* of a day file */
   SURFBODKIN_DAY_TRAILER_BYTES = 8, /* of its trailer, and of a file without messages */
   SURFBODKIN_DAY_ENTRIES = 524288,  /* no search finds more: a reference takes two bytes */
+  SURFBODKIN_MONTH_WORDS = 518,     /* of a month's state, each a uint64_t */
+  SURFBODKIN_MONTH_LINES = 256,     /* namespaces of a month */
+  SURFBODKIN_MONTH_TOTALS = 40,     /* bytes of its five totals */
+  SURFBODKIN_MONTH_LINE = 16,       /* bytes of a namespace with its references */
+  SURFBODKIN_MONTH_BYTES = 4136,    /* no month's figures have more */
   SURFBODKIN_BYTES_1 = 4096,        /* of a message in a day file of version 1, */
   SURFBODKIN_ITEMS_1 = 1024,        /* its items, */
   SURFBODKIN_CONTAINERS_1 = 12      /* and its arrays and maps open at once */
@@ -110,6 +115,8 @@ enum surfbodkin_test {
   SURFBODKIN_DAY_TABLE = 21,          /* day file; place: an entry of its table */
   SURFBODKIN_DAY_MESSAGE = 22,        /* day file; place: a message's number */
   SURFBODKIN_DAY_FULL = 23,           /* no room in a day file; place 0 */
+  SURFBODKIN_MONTH_NAMESPACES = 25,   /* one namespace too many; place 0 */
+  SURFBODKIN_MONTH_TOTAL = 26,        /* a total would pass 2^63 - 1; place 0 */
   SURFBODKIN_NO_TARGET = 27,          /* no target or report of that number; place:
                                          their count */
   SURFBODKIN_HELD = 255               /* not released; place: an entry */
@@ -351,6 +358,52 @@ uint64_t surfbodkin_day_search(const uint8_t *file, size_t length,
                                const uint8_t *own, size_t own_length,
                                uint64_t space, uint8_t *out, size_t out_length);
 
+/* A MONTH counts day files, given one after another, each with the two lists of names
+   that go with it. Its three calls are lent the same `state`, SURFBODKIN_MONTH_WORDS
+   words. A state of all zeros is fresh: nothing is counted yet. The calls change it;
+   between them the host must not. Any contents are safe; but the answers are as told
+   here only for a state that began fresh and went through these calls alone. If more
+   words are lent the rest is not used; if fewer, the call changes nothing and answers
+
+     refused    16, place: the bytes needed (8 * SURFBODKIN_MONTH_WORDS)
+
+   The figures are sums over the messages of all files that were counted, whatever order
+   these came in: the messages, their bytes, their items, the listed references whose
+   name stands for no number, those that are relative, and for each namespace that
+   occurs those to it. A name counts under the number that it stands for by the lists of
+   its file, as in release. The namespaces' references with the two others are all that
+   is listed. */
+
+/* Makes a state fresh, whatever it holds: what was counted before is dropped.
+     0          it is fresh */
+uint64_t surfbodkin_month_open(uint64_t *state, size_t words);
+
+/* Counts a day file. Each of its messages is read once; the count is made in a copy,
+   which takes the state's place when the whole file was taken. A file that is refused
+   leaves the state as it was, to the word.
+     0          it is counted
+     refused    20 to 22 as day_check
+                19 as check_names
+                25, place 0: with this file there would be more than
+                SURFBODKIN_MONTH_LINES namespaces
+                26, place 0: with it some total, or the references to some namespace,
+                would pass 2^63 - 1 */
+uint64_t surfbodkin_month_add(uint64_t *state, size_t words,
+                              const uint8_t *file, size_t length,
+                              const uint8_t *published, size_t published_length,
+                              const uint8_t *own, size_t own_length);
+
+/* Writes the figures, each number big-endian in 8 bytes: messages, bytes, items, names
+   unknown, relative references; then for each namespace, in rising order of their
+   numbers, its number in two's complement and its references. To be read with
+   surfbodkin_get_total and surfbodkin_get_line. The state is not changed, and may be
+   counted on.
+     accepted   low: the namespaces
+     refused    16 as above, or place: the bytes of the figures, if `out` has fewer.
+                SURFBODKIN_MONTH_BYTES always suffice */
+uint64_t surfbodkin_month_read(const uint64_t *state, size_t words,
+                               uint8_t *out, size_t out_length);
+
 /* The number that a name stands for by two lists, as release takes it. Lines that are
    not well-formed match no name; they are not refused here.
      accepted   low: 1, and `number`, which must not be NULL, is set to the number in
@@ -536,6 +589,36 @@ static inline struct surfbodkin_found surfbodkin_get_found(const uint8_t *out,
   found.first = surfbodkin_get_number(at + 8, 8);
   found.after = surfbodkin_get_number(at + 16, 8);
   return found;
+}
+
+/* The totals of a month, in the order in which surfbodkin_month_read writes them. */
+enum surfbodkin_total {
+  SURFBODKIN_MONTH_MESSAGES_TOTAL = 0,
+  SURFBODKIN_MONTH_BYTES_TOTAL = 1,
+  SURFBODKIN_MONTH_ITEMS_TOTAL = 2,
+  SURFBODKIN_MONTH_UNKNOWN_TOTAL = 3,  /* references by names that stand for no number */
+  SURFBODKIN_MONTH_RELATIVE_TOTAL = 4  /* references without a namespace */
+};
+
+static inline uint64_t surfbodkin_get_total(const uint8_t *out,
+                                            enum surfbodkin_total total) {
+  return surfbodkin_get_number(out + 8 * (size_t)total, 8);
+}
+
+/* A namespace of a month. */
+struct surfbodkin_line {
+  int64_t space;       /* its number */
+  uint64_t references; /* to it */
+};
+
+/* Namespace k, counted from 0, of the figures in `out`. */
+static inline struct surfbodkin_line surfbodkin_get_line(const uint8_t *out, size_t k) {
+  const uint8_t *at = out + SURFBODKIN_MONTH_TOTALS + k * SURFBODKIN_MONTH_LINE;
+  struct surfbodkin_line line;
+  uint64_t space = surfbodkin_get_number(at, 8);
+  line.space = space >> 63 ? -1 - (int64_t)~space : (int64_t)space;
+  line.references = surfbodkin_get_number(at + 8, 8);
+  return line;
 }
 
 /* Writes a row of a grant table, SURFBODKIN_ROW bytes. */

@@ -639,7 +639,7 @@ day_tests() {
     fail 'gate day wrote something else than day.expected'
   fi
   if $CC $strict -g -O1 -fsanitize=address,undefined -fno-sanitize-recover=undefined -o gate_day-address \
-    "$root/host/day.c" "$root/host/day_file.c" "$SURFBODKIN_ARCHIVE" 2>/dev/null; then
+    "$root/host/day.c" "$root/host/program.c" "$root/host/day_file.c" "$SURFBODKIN_ARCHIVE" 2>/dev/null; then
     day_transcript "$day_made/gate_day-address" address.out
     if diff day.part address.out; then
       printf 'host: day with the sanitizers: the same\n'
@@ -684,13 +684,13 @@ day_tests() {
 missing=$(missing day_check day_find day_add day_search day_upgrade name_number)
 if [ -n "$missing" ]; then
   printf 'host: day: skipped, not in the archive:%s\n' "$missing"
-  for source in host/day.c host/day_file.c; do
+  for source in host/day.c host/program.c host/day_file.c; do
     $CC $strict -fsyntax-only $source || fail "$source is not good C"
   done
 else
   rm -rf "$day_made"
   mkdir -p "$day_made"
-  if $CC $strict -O2 -o "$day_made/gate_day" host/day.c host/day_file.c "$SURFBODKIN_ARCHIVE"; then
+  if $CC $strict -O2 -o "$day_made/gate_day" host/day.c host/program.c host/day_file.c "$SURFBODKIN_ARCHIVE"; then
     cd "$day_made" && day_tests
     cd "$root" || exit 1
   else

@@ -10,7 +10,7 @@ use Rattle.month_lines.specs.Lines.{mostLines}
 use Rattle.month_lines.specs.Code.{beyond, Counts}
 use Rattle.month_figures.specs.Figures.{turned, Figures}
 use Rattle.month.specs.declared.Tally.{Tally}
-use Rattle.month.specs.Code.{withLine, withUnknown, withRelative, withCode, withSize, Held, Goes, sized}
+use Rattle.month.specs.Code.{withLine, withUnknown, withRelative, withCode, withSize, Held, Goes, oneUnknown, oneRelative, sized}
 
 more : (a d : ℕ) {v x : ℕ} → x ≡ min a beyond → v ≡ min (x + d) beyond → v ≡ min (a + d) beyond
 more a d h e = omega arith
@@ -31,25 +31,23 @@ module _ (t : Tally) (ps cs : List ℕ) where
     pub space-number : {w : ℕ} → n ≡ code.Number w → {r : Tally} {ps′ cs′ : List ℕ} → Goes t ps cs (withLine (turned w)) r ps′ cs′ → Goes t ps cs (withCode n) r ps′ cs′
     space-number e g = rw e g
 
-    pub space-unknown : {p l : ℕ} → n ≡ code.Name p l → {v : ℕ} → v ≡ min (t .unknown + 1) beyond
-        → Goes t ps cs (withCode n) (record { messages = t .messages; bytes = t .bytes; items = t .items; unknown = v; relative = t .relative; lines = t .lines }) ps cs
-    space-unknown e g = rw e (record { on = λ f h. record {
+    pub space-unknown : {p l : ℕ} → n ≡ code.Name p l → {r : Tally} → r ≡ oneUnknown t → Goes t ps cs (withCode n) r ps cs
+    space-unknown e g = rw (e, g) (record { on = λ f h. record {
       messages = h .messages;
       bytes = h .bytes;
       items = h .items;
-      unknown = more (f .unknown) 1 (h .unknown) g;
+      unknown = more (f .unknown) 1 (h .unknown) refl;
       relative = h .relative;
       lined = h .lined;
     } })
 
-    pub space-relative : n ≡ code.Relative → {v : ℕ} → v ≡ min (t .relative + 1) beyond
-        → Goes t ps cs (withCode n) (record { messages = t .messages; bytes = t .bytes; items = t .items; unknown = t .unknown; relative = v; lines = t .lines }) ps cs
-    space-relative e g = rw e (record { on = λ f h. record {
+    pub space-relative : n ≡ code.Relative → {r : Tally} → r ≡ oneRelative t → Goes t ps cs (withCode n) r ps cs
+    space-relative e g = rw (e, g) (record { on = λ f h. record {
       messages = h .messages;
       bytes = h .bytes;
       items = h .items;
       unknown = h .unknown;
-      relative = more (f .relative) 1 (h .relative) g;
+      relative = more (f .relative) 1 (h .relative) refl;
       lined = h .lined;
     } })
 
@@ -63,8 +61,14 @@ module _ (t : Tally) (ps cs : List ℕ) where
     lined = h .lined;
   } }
 
+pub unknown-is : (t : Tally) {x : ℕ} → x ≡ min (t .unknown + 1) beyond → record { messages = t .messages; bytes = t .bytes; items = t .items; unknown = x; relative = t .relative; lines = t .lines } ≡ oneUnknown t
+unknown-is t e = rw e
+
+pub relative-is : (t : Tally) {x : ℕ} → x ≡ min (t .relative + 1) beyond → record { messages = t .messages; bytes = t .bytes; items = t .items; unknown = t .unknown; relative = x; lines = t .lines } ≡ oneRelative t
+relative-is t e = rw e
+
 pub sized-is : (t : Tally) (b i : ℕ) {x y z : ℕ} → x ≡ min (t .messages + 1) beyond → y ≡ min (t .bytes + b) beyond → z ≡ min (t .items + i) beyond
     → record { messages = x; bytes = y; items = z; unknown = t .unknown; relative = t .relative; lines = t .lines } ≡ sized t b i
 sized-is t b i e f g = rw (e, f, g)
 
-pub ruleset counts = (number-counted, space-number, space-unknown, space-relative, sized-is)
+pub ruleset counts = (number-counted, space-number, space-unknown, space-relative, unknown-is, relative-is, sized-is)

@@ -77,6 +77,12 @@ pub record Held (t : Tally) (ps cs : List ℕ) (f : Figures) : Type 0 where
 pub record Goes (t : Tally) (ps cs : List ℕ) (g : Figures → Figures) (t′ : Tally) (ps′ cs′ : List ℕ) : Type 0 where
   pub on : (f : Figures) → Held t ps cs f → Held t′ ps′ cs′ (g f)
 
+abbrev pub oneUnknown : Tally → Tally
+oneUnknown t = record { messages = t .messages; bytes = t .bytes; items = t .items; unknown = min (t .unknown + 1) beyond; relative = t .relative; lines = t .lines }
+
+abbrev pub oneRelative : Tally → Tally
+oneRelative t = record { messages = t .messages; bytes = t .bytes; items = t .items; unknown = t .unknown; relative = min (t .relative + 1) beyond; lines = t .lines }
+
 abbrev pub sized : Tally → ℕ → ℕ → Tally
 sized t b i = record { messages = min (t .messages + 1) beyond; bytes = min (t .bytes + b) beyond; items = min (t .items + i) beyond; unknown = t .unknown; relative = t .relative; lines = t .lines }
 

@@ -14,7 +14,7 @@ ghost use mathlib.Core.List.{map};
 ghost use Rattle.day_file.specs.Day.{messageIn};
 ghost use Rattle.day_file.specs.Versions.{formatOf, limitsOf};
 ghost use Rattle.month.specs.Adding.{sourceOf, Adds};
-ghost use Rattle.month.specs.Code.{withLine, withCode, withSpaces, withMessage, Goes, sized, MessageWalked, FileWalked, tallyIn, tallyWords, Fetches, putBack, totalsSmall, linesSmall, Judges, Settles, CountedOn, MessagesAdded, Files};
+ghost use Rattle.month.specs.Code.{withLine, withCode, withSpaces, withMessage, Goes, oneUnknown, oneRelative, sized, MessageWalked, FileWalked, tallyIn, tallyWords, Fetches, putBack, totalsSmall, linesSmall, Judges, Settles, CountedOn, MessagesAdded, Files};
 use ari::Input;
 use ari::Limits;
 use day_file::Day;
@@ -56,6 +56,32 @@ fn count_number(places: &mut [u64], amounts: &mut [u64], t: Tally, word: u64) ->
     }
 }
 
+fn one_unknown(t: Tally) -> Tally
+    ensures { λ r. ⌜ r ≡ oneUnknown t ⌝ }
+{
+    Tally {
+        messages: t.messages,
+        bytes: t.bytes,
+        items: t.items,
+        unknown: month_lines::more(t.unknown, 1),
+        relative: t.relative,
+        lines: t.lines,
+    }
+}
+
+fn one_relative(t: Tally) -> Tally
+    ensures { λ r. ⌜ r ≡ oneRelative t ⌝ }
+{
+    Tally {
+        messages: t.messages,
+        bytes: t.bytes,
+        items: t.items,
+        unknown: t.unknown,
+        relative: month_lines::more(t.relative, 1),
+        lines: t.lines,
+    }
+}
+
 // One reference more: to a number, by a name that stands for none, or with no namespace.
 fn count_space(places: &mut [u64], amounts: &mut [u64], t: Tally, namespace: Namespace) -> Tally
     requires { ⌜ (256 ≤ length (now places)) × (256 ≤ length (now amounts)) ⌝ }
@@ -66,22 +92,8 @@ fn count_space(places: &mut [u64], amounts: &mut [u64], t: Tally, namespace: Nam
         Namespace::Name {
             place: _,
             length: _,
-        } => Tally {
-            messages: t.messages,
-            bytes: t.bytes,
-            items: t.items,
-            unknown: month_lines::more(t.unknown, 1),
-            relative: t.relative,
-            lines: t.lines,
-        },
-        Namespace::Relative => Tally {
-            messages: t.messages,
-            bytes: t.bytes,
-            items: t.items,
-            unknown: t.unknown,
-            relative: month_lines::more(t.relative, 1),
-            lines: t.lines,
-        },
+        } => one_unknown(t),
+        Namespace::Relative => one_relative(t),
     }
 }
 
