@@ -1,31 +1,12 @@
 -- Figures counted on message by message are the sums over all messages.
 use Prim.Native.Nat.{ℕ, suc, _+_}
 use mathlib.Core.Path.{_≡_, refl, sym, _∙_, ap}
-use mathlib.Core.Bool.{Bool}
-use mathlib.Core.List.{List, [], _∷_, _++_, append-assoc}
+use mathlib.Core.List.{List, [], _∷_, _++_}
 use native.Mathlib.Omega.{arith}
 use Rattle.ari.specs.Listing.{Space, number, name, relative}
-use Rattle.month_lines.specs.Lines.{Line, counted}
-use Rattle.month_figures.specs.Figures.{Message, total, oneEach, bytesIn, itemsIn, many, isUnknown, isRelative, manyIn, placeOf, spacesOf, places, linesFrom, Figures, figures}
+use Rattle.month_figures.specs.Figures.{Message, total, oneEach, bytesIn, itemsIn, many, isUnknown, isRelative, manyIn, spacesOf, places, linesFrom, Figures, figures}
+use Rattle.month_figures.proofs.Figured.{total-append, spaces-append, places-append, lines-append, same}
 use Rattle.month.specs.Code.{withSpace, withSpaces, withSize, withMessage, withMessages}
-
-pub lines-append : (ls : List Line) (a b : List ℕ) → linesFrom ls (a ++ b) ≡ linesFrom (linesFrom ls a) b
-lines-append ls [] b = refl
-lines-append ls (p ∷ a) b = lines-append (counted p ls) a b
-
-pub places-append : (a b : List Space) → places (a ++ b) ≡ places a ++ places b
-places-append [] b = refl
-places-append (number z ∷ a) b = ap (λ (l : List ℕ). placeOf z ∷ l) (places-append a b)
-places-append (name p n ∷ a) b = places-append a b
-places-append (relative ∷ a) b = places-append a b
-
-pub spaces-append : (a b : List Message) → spacesOf (a ++ b) ≡ spacesOf a ++ spacesOf b
-spaces-append [] b = refl
-spaces-append (x ∷ a) b = ap (λ (l : List Space). x .spaces ++ l) (spaces-append a b) ∙ sym (append-assoc (x .spaces) (spacesOf a) (spacesOf b))
-
-pub total-append : (f : Message → ℕ) (a b : List Message) → total f (a ++ b) ≡ total f a + total f b
-total-append f [] b = omega arith
-total-append f (x ∷ a) b = omega (arith, total-append f a b)
 
 -- figures with more in them
 abbrev plus : ℕ → ℕ → ℕ → ℕ → ℕ → List ℕ → Figures → Figures
@@ -37,14 +18,6 @@ plus a b c d e ps f = record {
   relative = f .relative + e;
   lines = linesFrom (f .lines) ps;
 }
-
-abbrev of : ℕ → ℕ → ℕ → ℕ → ℕ → List Line → Figures
-of a b c d e l = record { messages = a; bytes = b; items = c; unknown = d; relative = e; lines = l }
-
-same : (f g : Figures) → f .messages ≡ g .messages → f .bytes ≡ g .bytes → f .items ≡ g .items → f .unknown ≡ g .unknown → f .relative ≡ g .relative → f .lines ≡ g .lines → f ≡ g
-same f g a b c d e l =
-    let whole : of (f .messages) (f .bytes) (f .items) (f .unknown) (f .relative) (f .lines) ≡ of (g .messages) (g .bytes) (g .items) (g .unknown) (g .relative) (g .lines) = rw (a, b, c, d, e, l) in
-    whole
 
 spaces-plus : (xs : List Space) (f : Figures) → withSpaces xs f ≡ plus 0 0 0 (many isUnknown xs) (many isRelative xs) (places xs) f
 spaces-plus [] f = same f (plus 0 0 0 0 0 [] f) (omega arith) (omega arith) (omega arith) (omega arith) (omega arith) refl
