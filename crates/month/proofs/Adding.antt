@@ -97,10 +97,9 @@ module _ (f : Format) (m : Limits) (b published own ws : List ℕ) (room : words
     after = λ xs held.
         let (answer, after) = h .answer (figures xs) held in
         let whole : withMessages (messagesOf source) (figures xs) ≡ figures (xs ++ messagesOf source) = figures-plus xs (messagesOf source) in
-        let names : lists.Passes ≡ checkNames published own = sym g ∙ e in
-        (
+        let names : lists.Passes ≡ checkNames published own = sym g ∙ e in (
           answer ∙ by-day (checkDay f m b) (withMessages (messagesOf source) (figures xs)) ∙ ap (λ (q : Names). addedBy (checkDay f m b) q (withMessages (messagesOf source) (figures xs))) names
-          ∙ ap (addedBy (checkDay f m b) (checkNames published own)) whole,
+              ∙ ap (addedBy (checkDay f m b) (checkNames published own)) whole,
           λ d. rw whole at (after d),
         );
   }
@@ -121,7 +120,7 @@ module _ (f : Format) (m : Limits) (b published own ws : List ℕ) (room : words
       kept = λ _. refl;
       after = λ xs held. (
         ap (λ (y : Names). addedBy (day.Messages n) y (figures (xs ++ messagesOf source))) (sym g ∙ e)
-        ∙ ap (λ (y : Day). addedBy y (checkNames published own) (figures (xs ++ messagesOf source))) (sym j ∙ i),
+            ∙ ap (λ (y : Day). addedBy y (checkNames published own) (figures (xs ++ messagesOf source))) (sym j ∙ i),
         λ z. absurd (refused-not-done 19 p z),
       );
     }

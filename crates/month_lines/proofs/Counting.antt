@@ -101,12 +101,14 @@ new p (l ∷ ls) (suc i) b h f =
 -- the ways of `count`
 module _ (ps cs : List ℕ) (n p : ℕ) where
   pub count-beyond : mostLines < n → Counts ps cs n p n ps cs
-  count-beyond h = record { counts = λ a b ls x. record {
-    size = omega (arith, x .size, no-fewer p ls);
-    rising = rising-counted p ls (x .rising);
-    places = λ k. absurd (omega (arith, x .size, no-fewer p ls));
-    amounts = λ k. absurd (omega (arith, x .size, no-fewer p ls));
-  } }
+  count-beyond h = record {
+    counts = λ a b ls x. record {
+      size = omega (arith, x .size, no-fewer p ls);
+      rising = rising-counted p ls (x .rising);
+      places = λ k. absurd (omega (arith, x .size, no-fewer p ls));
+      amounts = λ k. absurd (omega (arith, x .size, no-fewer p ls));
+    };
+  }
 
   pub count-few-places : length ps < mostLines → Counts ps cs n p n ps cs
   count-few-places h = record { counts = λ a b ls x. absurd (omega arith) }

@@ -69,12 +69,7 @@ fn is_there(places: &[u64], lines: usize, at: usize, place: u64) -> bool
 }
 
 // One reference more to the namespace at a place; answers how many lines there are then. Of less room than for all lines nothing is promised.
-pub fn count(
-    places: &mut [u64],
-    amounts: &mut [u64],
-    lines: usize,
-    place: u64,
-) -> usize
+pub fn count(places: &mut [u64], amounts: &mut [u64], lines: usize, place: u64) -> usize
     ensures { λ r. ⌜ Counts (now (places .entry)) (now (amounts .entry)) lines place r (now (places .exit)) (now (amounts .exit)) ⌝ }
 {
     if LINES < lines {

@@ -16,8 +16,7 @@ abbrev μ-loop : tie.MeasureT-loop
 again : tie.Need-loop-again Inv-loop μ-loop
 again c =
     let answered = c .before .before .before .before .before .before .before .before .before in
-    let turn = answered .before .before .before .before in
-    (
+    let turn = answered .before .before .before .before in (
       search needs,
       search needs,
       search needs,
