@@ -16,6 +16,7 @@ pub mod Numbers
 pub mod Referring
 pub mod Listed
 pub mod Targets
+pub mod RuledTargets
 pub mod Shortened
 pub mod Case
 pub mod Same

@@ -182,11 +182,11 @@ members-by P s l x y z = go (eqb (l .kind) array) (eqb (l .kind) map)
 record InnerLevel (v : Level) : Type 0 where
   is : innerLevel v ≡ true
 
-inner-members : (s : Slot) (l : Lead) → inner s ≡ true → innerLevel (members s l) ≡ true
+pub inner-members : (s : Slot) (l : Lead) → inner s ≡ true → innerLevel (members s l) ≡ true
 inner-members s l e =
     members-by InnerLevel s l (record { is = refl }) (λ a. record { is = inner-array s a e }) (λ a. record { is = inner-map s a e }) .is
 
-target-members : (s : Slot) (l : Lead) → isTarget s ≡ true → innerLevel (members s l) ≡ true
+pub target-members : (s : Slot) (l : Lead) → isTarget s ≡ true → innerLevel (members s l) ≡ true
 unfolding rule
 target-members version l e = absurd (true≢false (sym e))
 target-members (ari w) l e = absurd (true≢false (sym e))
@@ -627,6 +627,10 @@ no-targets (x ∷ xs) (spot-too h a) = rw (h, no-targets xs a)
 
 inner-uncounted : (g : Items) (v : Level) (prev : List ℕ) (p d : ℕ) → Fit g false v prev → innerLevel v ≡ true → All Uncounted (spots g false v p d)
 inner-uncounted g v prev p d f e = all-map uncounted (inner-all g v prev p d f e)
+
+-- no target or report stands where only what may be inside one is due
+pub none-inside : (g : Items) (v : Level) (prev : List ℕ) (p d : ℕ) → Fit g false v prev → innerLevel v ≡ true → targets (spots g false v p d) ≡ []
+none-inside g v prev p d f e = no-targets (spots g false v p d) (inner-uncounted g v prev p d f e)
 
 -- the two members of a typed literal
 typed-uncounted : (g : Items) (p d : ℕ) → Fit g false (due (type alone) 0) [] → ((l₁ : Lead) (s₁ : List ℕ) (m₁ rs : Items) → g ≡ item l₁ s₁ m₁ rs → eqb (l₁ .arg) 20 || eqb (l₁ .arg) 21 ≡ false)

@@ -16,11 +16,12 @@ use Rattle.ari.specs.Table.{max64}
 use Rattle.ari.specs.declared.Limits.{Limits}
 use Rattle.ari.specs.declared.Input.the-variants.{Message}
 use Rattle.ari.specs.Reader.{accept, read}
-use Rattle.ari.specs.Items.{Items, none, item, encode, heads, depth}
+use Rattle.ari.specs.Items.{Items, none, item, encode, heads, depth, spotsOf}
 use Rattle.ari.specs.Decode.{decode}
 use Rattle.ari.specs.Rules.{Targets, Is}
 use Rattle.ari.specs.Listing.{listing}
 use Rattle.ari.specs.References.{inTargets, entryFor}
+use Rattle.ari.proofs.RuledTargets.{counted}
 use Rattle.ari.proofs.Demand.{is-read, unique}
 use Rattle.ari.proofs.Listed.{listing-is}
 use Rattle.text.specs.Answer.{refused, output}
@@ -29,8 +30,8 @@ use Rattle.composer.specs.Code.{frontBytes}
 use Rattle.composer.specs.Apart.{behind, orderIn, nonceBy, nonceIn, textsBy, textsFor}
 use Rattle.composer.proofs.Texts.{Clean, clean, many-most, joined-back}
 use Rattle.composer.proofs.Reading.{ReadAs, read-as, as-read}
-use Rattle.composer.proofs.Gathering.{Are, gathered-exactly, are-targets, are-many, are-ended, are-joined, aris, are-aris}
-use Rattle.composer.proofs.Order.{order-stands, firstTarget, order-references, order-bytes, front-length}
+use Rattle.composer.proofs.Gathering.{Are, gathered-exactly, are-targets, are-many, are-ended, are-joined, aris, are-aris, placedBytes, eachAri, are-each}
+use Rattle.composer.proofs.Order.{order-stands, firstTarget, order-references, order-targets, order-bytes, front-length}
 
 -- texts of bytes, and a nonce's string that a head can announce
 pub record Given (z : Nonce) (b : List ℕ) : Type 0 where
@@ -96,9 +97,9 @@ module _ (m : Limits) where
       )
 
   -- the limits one by one, of a finished message
-  pub one-exactly : (g : Items) → (finished m g ≡ refused 1 0) ↔ (m .bytes < length (encode g))
+  pub one-exactly-if-too-many-bytes : (g : Items) → (finished m g ≡ refused 1 0) ↔ (m .bytes < length (encode g))
   unfolding finished
-  one-exactly g = (λ e. forth (ltb (m .bytes) (length (encode g))) refl (ltb (m .items) (heads g)) (ltb (m .containers) (depth g)) e, λ h. rw (lt-ltb (m .bytes) (length (encode g)) h))
+  one-exactly-if-too-many-bytes g = (λ e. forth (ltb (m .bytes) (length (encode g))) refl (ltb (m .items) (heads g)) (ltb (m .containers) (depth g)) e, λ h. rw (lt-ltb (m .bytes) (length (encode g)) h))
     where
       forth : (x : Bool) → ltb (m .bytes) (length (encode g)) ≡ x → (y z : Bool)
           → cond x (refused 1 0) (cond y (refused 5 0) (cond z (refused 6 0) (output (encode g) (heads g)))) ≡ refused 1 0 → m .bytes < length (encode g)
@@ -107,9 +108,9 @@ module _ (m : Limits) where
       forth false p false true f = absurd (let w : _≡_ {A = ℕ} 6 1 = cc in omega arith)
       forth false p false false f = absurd (no-output (sym f))
 
-  pub five-exactly : (g : Items) → (finished m g ≡ refused 5 0) ↔ ((length (encode g) ≤ m .bytes) × (m .items < heads g))
+  pub five-exactly-if-too-many-items : (g : Items) → (finished m g ≡ refused 5 0) ↔ ((length (encode g) ≤ m .bytes) × (m .items < heads g))
   unfolding finished
-  five-exactly g = (
+  five-exactly-if-too-many-items g = (
     λ e. forth (ltb (m .bytes) (length (encode g))) refl (ltb (m .items) (heads g)) refl (ltb (m .containers) (depth g)) e,
     λ (h, i). rw (le-ltb (m .bytes) (length (encode g)) h, lt-ltb (m .items) (heads g) i),
   )
@@ -122,9 +123,9 @@ module _ (m : Limits) where
       forth false p false q true f = absurd (let w : _≡_ {A = ℕ} 6 5 = cc in omega arith)
       forth false p false q false f = absurd (no-output (sym f))
 
-  pub six-exactly : (g : Items) → (finished m g ≡ refused 6 0) ↔ ((length (encode g) ≤ m .bytes) × (heads g ≤ m .items) × (m .containers < depth g))
+  pub six-exactly-if-too-deep : (g : Items) → (finished m g ≡ refused 6 0) ↔ ((length (encode g) ≤ m .bytes) × (heads g ≤ m .items) × (m .containers < depth g))
   unfolding finished
-  six-exactly g = (
+  six-exactly-if-too-deep g = (
     λ e. forth (ltb (m .bytes) (length (encode g))) refl (ltb (m .items) (heads g)) refl (ltb (m .containers) (depth g)) refl e,
     λ (h, i, j). rw (le-ltb (m .bytes) (length (encode g)) h, le-ltb (m .items) (heads g) i, lt-ltb (m .containers) (depth g) j),
   )
@@ -172,9 +173,9 @@ module _ (m : Limits) where
     few-targets a = omega (arith, are-many a, many-most b, g .short)
 
     -- 7 exactly if the nonce is out of range
-    pub seven-exactly : (compose m z b ≡ refused 7 0) ↔ (inRange z ≡ false)
+    pub seven-exactly-if-out-of-range : (compose m z b ≡ refused 7 0) ↔ (inRange z ≡ false)
     unfolding compose finished
-    seven-exactly = (λ e. forth (inRange z) refl (gather m 0 (textsIn b)) e, λ e. rw e)
+    seven-exactly-if-out-of-range = (λ e. forth (inRange z) refl (gather m 0 (textsIn b)) e, λ e. rw e)
       where
         never : (h : Items) → finished m h ≡ refused 7 0 → ⊥
         never h e = go (ltb (m .bytes) (length (encode h))) (ltb (m .items) (heads h)) (ltb (m .containers) (depth h)) e
@@ -191,9 +192,9 @@ module _ (m : Limits) where
         forth false p y f = p
 
     -- 24 exactly if it is in range, with the number of the first text that is wrong
-    pub twenty-four-exactly : (k : ℕ) → (compose m z b ≡ refused 24 k) ↔ ((inRange z ≡ true) × WrongAt m 0 (textsIn b) k)
+    pub twenty-four-exactly-if-a-text-is-wrong : (k : ℕ) → (compose m z b ≡ refused 24 k) ↔ ((inRange z ≡ true) × WrongAt m 0 (textsIn b) k)
     unfolding compose finished
-    twenty-four-exactly k = (λ e. forth (inRange z) refl (gather m 0 (textsIn b)) refl e, λ (e, w). rw (e, wrong-gathered 0 (textsIn b) all-clean w))
+    twenty-four-exactly-if-a-text-is-wrong k = (λ e. forth (inRange z) refl (gather m 0 (textsIn b)) refl e, λ (e, w). rw (e, wrong-gathered 0 (textsIn b) all-clean w))
       where
         never : (h : Items) → finished m h ≡ refused 24 k → ⊥
         never h e = go (ltb (m .bytes) (length (encode h))) (ltb (m .items) (heads h)) (ltb (m .containers) (depth h)) e
@@ -279,6 +280,14 @@ module _ (m : Limits) where
       -- the targets are the texts' ARIs in order
       pub its-targets : Are m (textsIn b) (composed .many) (behind (orderIn (decode u)))
       its-targets = subst (λ (i : Items). Are m (textsIn b) (composed .many) (behind (orderIn i))) (sym its-tree) (composed .are)
+
+      -- as the gate counts targets (R168): one by one they have the bytes of the texts' ARIs
+      pub its-targets-one-by-one : map placedBytes (counted (spotsOf Message (decode u))) ≡ eachAri (composed .are)
+      its-targets-one-by-one =
+          let c = composed in
+          ap (λ (i : Items). map placedBytes (counted (spotsOf Message i))) its-tree
+          ∙ ap (map placedBytes) (order-targets z (c .ranged) (g .nonce-fits) (few-targets (c .are)) (are-targets (c .are)))
+          ∙ are-each (c .are) (firstTarget z (c .many))
 
       -- by the rules too, and in bytes: from the first target on the message is the texts' ARIs, one behind the other
       pub targets-by-the-rules : Targets (composed .many) (behind (orderIn (decode u)))

@@ -2,7 +2,7 @@
 use Prim.Native.Nat.{ℕ, suc, _+_, _≤_}
 use mathlib.Core.Logic.{_↔_}
 use mathlib.Core.Path.{_≡_, refl, sym, _∙_, ap}
-use mathlib.Core.List.{List, [], _++_, append-nil, append-assoc}
+use mathlib.Core.List.{List, [], _++_, append-nil, append-assoc, map, _∷_}
 use native.Mathlib.Omega.{arith}
 use lib.ListN.{length, length-append}
 use Rattle.cbor.specs.Head.{Lead}
@@ -10,6 +10,8 @@ use Rattle.cbor.proofs.HeadLaws.{length-lead}
 use Rattle.ari.specs.Table.{max64}
 use Rattle.ari.specs.declared.Limits.{Limits}
 use Rattle.ari.specs.Items.{Items, none, item, encode}
+use Rattle.ari.specs.References.{Placed, past}
+use Rattle.ari.proofs.RuledTargets.{eachTarget}
 use Rattle.ari.specs.Rules.{Targets, no-targets}
 use Rattle.ari.specs.Rules as rules
 use Rattle.text.specs.Text.{textOf}
@@ -70,6 +72,10 @@ module _ (m : Limits) where
   pub gathered-exactly : (k : ℕ) (ts : Texts) {n : ℕ} {g : Items} → Clean max64 max64 ts → (gather m k ts ≡ targets n g) ↔ Are m ts n g
   gathered-exactly k ts c = (gathered-are max64 k ts (omega arith) c, are-gathered max64 k ts (omega arith) c)
 
+-- the bytes of an item with its place
+abbrev pub placedBytes : Placed → List ℕ
+placedBytes x = encode (item (x .lead) (x .str) (x .inside) none)
+
 pub encode-front : (l : Lead) (s : List ℕ) (ms rs : Items) → encode (item l s ms rs) ≡ encode (item l s ms none) ++ encode rs
 encode-front l s ms rs = simp (append-assoc, append-nil)
 
@@ -106,3 +112,13 @@ module _ {m : Limits} where
   unfolding aris
   are-aris no-texts = refl
   are-aris (a-text {l = l} {s = s} {ms = ms} {rs = rs} r a) = encode-front l s ms rs ∙ rw (its-bytes r, are-aris a)
+
+  -- and one by one
+  pub eachAri : {ts : Texts} {n : ℕ} {g : Items} → Are m ts n g → List (List ℕ)
+  eachAri no-texts = []
+  eachAri (a-text r a) = r .ari ∷ eachAri a
+
+  pub are-each : {ts : Texts} {n : ℕ} {g : Items} (a : Are m ts n g) (p : ℕ) → map placedBytes (eachTarget (are-targets a) p) ≡ eachAri a
+  unfolding eachAri are-targets
+  are-each no-texts p = refl
+  are-each (a-text {l = l} {s = s} {ms = ms} r a) p = rw (its-bytes r, are-each a (past p l s ms))

@@ -1,7 +1,7 @@
 -- The message of a nonce and targets stands by the rules, whatever its size; so it is accepted exactly if it keeps the limits, and its listing is that of
 -- its targets' references.
 use Prim.Native.Nat.{ℕ, suc, _+_, _<_, _≤_}
-use mathlib.Core.Path.{_≡_, refl, sym}
+use mathlib.Core.Path.{_≡_, refl, sym, _∙_}
 use mathlib.Core.Bool.{true, false, true≢false}
 use mathlib.Core.List.{[], _∷_, _++_, append-nil, append-assoc, map}
 use native.Mathlib.Omega.{arith}
@@ -15,10 +15,11 @@ use Rattle.cbor.proofs.HeadLaws.{shortest-carries, length-lead}
 use Rattle.ari.specs.Table.{max63, max64, message, row, types}
 use Rattle.ari.specs.declared.Limits.{Limits}
 use Rattle.ari.specs.declared.Input.the-variants.{Message}
-use Rattle.ari.specs.Items.{Items, none, encode, heads, depth, insideAt}
+use Rattle.ari.specs.Items.{Items, none, encode, heads, depth, insideAt, spotsOf}
 use Rattle.ari.specs.Decode.{decode}
 use Rattle.ari.specs.Rules.{Plain, Holds, Nonce, TypeAt, typed, execset, Targets, no-more, set, Stands, a-message, Is}
 use Rattle.ari.specs.References.{inTargets, past, references}
+use Rattle.ari.proofs.RuledTargets.{eachTarget, counted as targetsAmong, ruled-targets}
 use Rattle.ari.proofs.Demand.{unique}
 use Rattle.composer.specs.Compose.{null, number, string, other, inRange, nonceLead, nonceString, orderOf}
 use Rattle.composer.specs.Code.{frontBytes}
@@ -70,6 +71,11 @@ module _ (z : compose.Nonce) {n : ℕ} {ts : Items} (e : inRange z ≡ true) (h 
   pub order-references : references (order-stands z e h f t) ≡ inTargets t (firstTarget z n)
   unfolding order-stands leadOf
   order-references = append-nil (inTargets t (firstTarget z n))
+
+  -- and its targets (R168) are those, each from where it stands
+  pub order-targets : targetsAmong (spotsOf Message (orderOf z n ts)) ≡ eachTarget t (firstTarget z n)
+  unfolding order-stands leadOf
+  order-targets = ruled-targets (order-stands z e h f t) ∙ append-nil (eachTarget t (firstTarget z n))
 
 -- its bytes, the targets' last
 pub order-bytes : (z : compose.Nonce) (n : ℕ) (ts : Items) → encode (orderOf z n ts) ≡ frontBytes z n ++ encode ts

@@ -1,5 +1,6 @@
 -- A text taken: what `text_read` hands over is the ARI of the text; a room that is too short for it is told by 16, by which no text is refused.
 use Prim.Native.Nat.{ℕ, _+_, _-_, _<_, _≤_}
+use mathlib.Core.Logic.{_⊎_, inl, inr}
 use mathlib.Core.Path.{_≡_, refl, sym, _∙_, ap}
 use mathlib.Core.Bool.{Bool, true, false, cond}
 use mathlib.Core.List.{List, [], _++_, append-nil, append-assoc}
@@ -10,7 +11,6 @@ use lib.Dec.{ltb}
 use borrow.Author.Tests.{ltb-true, ltb-false}
 use mir.Syntax.{w8}
 use mir.Val.{Fits}
-use Rattle.buffer.specs.Bytes.{same}
 use Rattle.buffer.proofs.ByteLaws.{all-bytes}
 use Rattle.cbor.specs.Head.{Lead, leadBytes}
 use Rattle.cbor.specs.Answer.{headAt}
@@ -21,9 +21,8 @@ use Rattle.ari.specs.declared.Input.the-variants.{Single}
 use Rattle.ari.specs.Limits.{capped}
 use Rattle.ari.specs.Items.{Items, none, item, encode, heads}
 use Rattle.ari.specs.Rules.{Stands, an-ari}
-use Rattle.text.specs.Parse.{candidate}
-use Rattle.text.specs.Answer.{Output, refused, output, writeText, checked, readText, lent, Spelled}
-use Rattle.text.proofs.Round.{read-exactly, read-too-long}
+use Rattle.text.specs.Answer.{Output, refused, output, readText, lent, Spelled}
+use Rattle.text.proofs.Round.{read-exactly, read-too-long, read-refusals}
 use Rattle.text_write.specs.declared.Written.{Written}
 use Rattle.text_write.specs.declared.Written.the-variants.{Bytes, Refused}
 use Rattle.text_write.specs.Written.{writtenOf, roomAfter}
@@ -34,17 +33,11 @@ use Rattle.composer.specs.declared.Taken.the-variants.{Nothing, TooLong,
 use Rattle.composer.proofs.Reading.{sound-single}
 
 never-sixteen : (m : Limits) (t : List ℕ) {p : ℕ} → readText m t ≡ refused 16 p → ⊥
-unfolding readText
-never-sixteen m t {p} e = go (ltb (m .text) (length t)) (encode (candidate m t)) (writeText m (encode (candidate m t))) e
+never-sixteen m t e = go (read-refusals m t e)
   where
-    by : (b : List ℕ) (x : Bool) (n : ℕ) → cond x (output b n) (refused 15 0) ≡ refused 16 p → ⊥
-    by b true n q = let z : _≡_ {A = ℕ} 0 1 = cc in omega arith
-    by b false n q = let z : _≡_ {A = ℕ} 15 16 = cc in omega arith
-
-    go : (x : Bool) (b : List ℕ) (w : Output) → cond x (refused 1 0) (checked t b w) ≡ refused 16 p → ⊥
-    go true b w q = let z : _≡_ {A = ℕ} 1 16 = cc in omega arith
-    go false b (refused r i) q = let z : _≡_ {A = ℕ} 15 16 = cc in omega arith
-    go false b (output u n) q = by b (same u t) n q
+    go : (_≡_ {A = ℕ} 16 1) ⊎ (_≡_ {A = ℕ} 16 15) → ⊥
+    go (inl q) = omega arith
+    go (inr q) = omega arith
 
 -- the three ways of reading a text into a room
 data Ways (m : Limits) (t room : List ℕ) (w : Written) (room′ : List ℕ) : Type 0 where

@@ -1,6 +1,6 @@
 -- R110, R111: what is written is read again, what is read is written again, and nothing else is read.
 use Prim.Native.Nat.{ℕ, _+_, _*_, _≤_, _<_}
-use mathlib.Core.Logic.{_↔_}
+use mathlib.Core.Logic.{_↔_, _⊎_, inl, inr}
 use mathlib.Core.Path.{_≡_, refl, sym, _∙_, ap, subst}
 use mathlib.Core.Bool.{Bool, true, false, cond, true≢false}
 use mathlib.Core.List.{List, []}
@@ -170,7 +170,16 @@ module _ (m : Limits) where
         back (h, x) (no-text l y q) = q
         back (h, x) (a-text l k y q) = let c = candidate-bytes m t (record { octets = o; short = f }) in absurd (x (tried t) k c (written-spelled c y))
 
-  -- R51: a text that is too long is 1; there is no third refusal
+  -- R51, R65: a text is refused by 1 or by 15
+  pub read-refusals : (t : List ℕ) {r p : ℕ} → readText m t ≡ refused r p → (r ≡ 1) ⊎ (r ≡ 15)
+  read-refusals t {r} {p} e = go (read-tried t)
+    where
+      go : Tried t (readText m t) → (r ≡ 1) ⊎ (r ≡ 15)
+      go (too-long h q) = inl (let z : r ≡ 1 = cc in z)
+      go (no-text h x q) = inr (let z : r ≡ 15 = cc in z)
+      go (a-text h k x q) = absurd (never (sym e ∙ q))
+
+  -- R51: a text that is too long is 1
   pub read-too-long : (t : List ℕ) → (readText m t ≡ refused 1 0) ↔ (m .text < length t)
   read-too-long t = (λ e. forth e (read-tried t), λ h. back h (read-tried t))
     where
