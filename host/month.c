@@ -77,8 +77,10 @@ static int run(int count, char **words) {
   }
   char *line = NULL;
   size_t room = 0;
-  for (unsigned long number = 1; getline(&line, &room, stdin) != -1; number++) {
+  ssize_t length;
+  for (unsigned long number = 1; (length = getline(&line, &room, stdin)) != -1; number++) {
     char *file[3];
+    if (strlen(line) != (size_t)length) fail("line %lu has a zero byte in it", number);
     uint64_t answer = count_day(take_words(line, number, file), file);
     if (refused(answer)) {
       fprintf(stderr, "gate month: %s\n", file[0]);
