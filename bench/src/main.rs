@@ -114,6 +114,16 @@ fn libcbor(input: &[u8]) -> u64 {
     unsafe { libcbor_load(input.as_ptr(), input.len()) as u64 }
 }
 
+/// Heads alone, no rule of a message checked: the nearest thing to a limit.
+#[cfg(libcbor)]
+fn libcbor_heads(input: &[u8]) -> u64 {
+    extern "C" {
+        fn libcbor_stream(input: *const u8, length: usize) -> usize;
+    }
+    // SAFETY: the pointer and the length are those of a slice.
+    unsafe { libcbor_stream(input.as_ptr(), input.len()) as u64 }
+}
+
 /// Different inputs with that many bytes and items, all accepted.
 fn varied(
     count: usize,
@@ -277,7 +287,7 @@ fn time_check(Check { name, messages, string }: Check) {
     for message in &messages {
         assert!(!linked || archive::check_message(message) == reading(message));
         #[cfg(libcbor)]
-        assert!(libcbor(message) > 0);
+        assert!(libcbor(message) > 0 && libcbor_heads(message) > 0);
     }
     let string = string.map(|string| vec![string]);
     let mut runs = vec![Run::new("reading", &messages, reading)];
@@ -285,22 +295,27 @@ fn time_check(Check { name, messages, string }: Check) {
         runs.push(Run::new("archive", &messages, archive::check_message));
     }
     #[cfg(libcbor)]
-    runs.push(Run::new("libcbor", &messages, libcbor));
+    runs.extend([
+        Run::new("libcbor", &messages, libcbor),
+        Run::new("heads", &messages, libcbor_heads),
+    ]);
     if let Some(string) = &string {
         let from_utf8 = |string: &[u8]| u64::from(std::str::from_utf8(string).is_ok());
         runs.push(Run::new("from_utf8", string, from_utf8));
     }
     let best = Best::of(name, runs);
     println!(
-        "{name:<25}{:>7}{:>7}{:>10}{:>10}{:>10}{:>10}   {:>8}{:>9}{:>10}",
+        "{name:<25}{:>7}{:>7}{:>10}{:>10}{:>10}{:>10}{:>10}   {:>8}{:>9}{:>10}{:>10}",
         mean(&messages, <[u8]>::len),
         mean(&messages, |message| items(check_message(message))),
         best.ns("archive"),
         best.ns("reading"),
         best.ns("libcbor"),
+        best.ns("heads"),
         best.ns("from_utf8"),
         best.ratio("archive", "reading"),
         best.ratio("libcbor", "archive"),
+        best.ratio("archive", "heads"),
         best.ratio("archive", "from_utf8"),
     );
 }
@@ -682,16 +697,18 @@ fn main() {
         generate::full_message(random, settings, 16_384)
     });
     println!(
-        "{:<25}{:>7}{:>7}{:>10}{:>10}{:>10}{:>10}   {:>8}{:>9}{:>10}",
+        "{:<25}{:>7}{:>7}{:>10}{:>10}{:>10}{:>10}{:>10}   {:>8}{:>9}{:>10}{:>10}",
         "message check",
         "bytes",
         "items",
         "archive",
         "reading",
         "libcbor",
+        "its heads",
         "from_utf8",
         "arc/read",
         "cbor/arc",
+        "arc/heads",
         "arc/utf8"
     );
     checks(&large, &largest).into_iter().for_each(time_check);
