@@ -79,6 +79,17 @@ pub fn to_hex(bytes: &[u8]) -> String {
     bytes.iter().map(|b| format!("{b:02x}")).collect()
 }
 
+/// Bytes for the eye: sixteen a line, with the place of the first and what is ASCII.
+pub fn dump(bytes: &[u8]) -> String {
+    let line = |(k, line): (usize, &[u8])| {
+        let hex: String = line.iter().map(|b| format!(" {b:02x}")).collect();
+        let shown = |b: &u8| if (b' '..=b'~').contains(b) { *b as char } else { '.' };
+        let text: String = line.iter().map(shown).collect();
+        format!("\n    {:06}{hex:<48}  {text}", 16 * k)
+    };
+    bytes.chunks(16).enumerate().map(line).collect()
+}
+
 /// Reads hex digits; spaces are for the eye.
 pub fn hex(digits: &str) -> Vec<u8> {
     let digits: Vec<u8> = digits.bytes().filter(|b| *b != b' ').collect();

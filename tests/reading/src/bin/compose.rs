@@ -20,7 +20,7 @@ use reading::archive::{composer, packed_written, unpacked};
 use reading::composer::{compose, composed, sizes, Nonce};
 use reading::generate::orders::{self, Order};
 use reading::generate::Random;
-use reading::vectors::to_hex;
+use reading::vectors::{dump, to_hex};
 use reading::{items_message, text_of, Kind, Limits, Record, LIMITS};
 use tally::Column;
 
@@ -51,16 +51,16 @@ fn compare(order: &Order, room: &[u8], shift: usize) -> Result<u64, String> {
     } else if !lent_nonce.is(nonce) || !lent_texts.is(texts) {
         "wrote to what it was lent to read, or around it".to_string()
     } else if !lent_room.is(&due) {
-        format!("left in the room, or around it, {}", to_hex(lent_room.block()))
+        format!("left in the room, or around it:{}", dump(lent_room.block()))
     } else {
         return Ok(expected);
     };
     Err(format!(
-        "nonce {kind} {number} {}, room {}, texts {} ({})\n  reading: {}\n  archive: {wrong}",
-        to_hex(nonce),
+        "nonce {kind} {number}, room of {} bytes\n  its string:{}\n  texts:{}\n  reading: {}\n  \
+         archive: {wrong}",
         room.len(),
-        to_hex(texts),
-        String::from_utf8_lossy(texts),
+        dump(nonce),
+        dump(texts),
         unpacked(expected)
     ))
 }

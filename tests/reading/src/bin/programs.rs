@@ -17,7 +17,7 @@ use reading::names::{self, check_names, find_line, lines};
 use reading::printed::{entry_line, item_lines, listing_lines, month_lines};
 use reading::printed::{position_lines, why_lines};
 use reading::strike::{strike, Struck};
-use reading::vectors::{self, hex, to_hex, Call, Line};
+use reading::vectors::{self, dump, hex, to_hex, Call, Line};
 use reading::why::why;
 use reading::{
     check_table, closing, is_namespace_name, items_message, items_single, listing, read_table,
@@ -75,8 +75,8 @@ impl Program {
         match got == due {
             true => Ok(()),
             false => Err(format!(
-                "{arguments:?}, input {}\nthe reading: {due}\nthe program: {got}",
-                to_hex(input)
+                "{arguments:?}, input:{}\nthe reading: {due}\nthe program: {got}",
+                dump(input)
             )),
         }
     }

@@ -31,7 +31,7 @@ use reading::day::{form_of, FOUND};
 use reading::generate::{
     self, days, names, nests, pairs, strikes, tables, texts, Random, Settings,
 };
-use reading::vectors::to_hex;
+use reading::vectors::dump;
 use reading::{Entry, Namespace, Record, Written, ENTRY, LIMITS};
 use tally::Column;
 
@@ -506,25 +506,24 @@ fn compare(call: Call, case: &Case, shift: usize) -> Result<u64, String> {
     } else if !lent.iter().zip(contents).all(|(lent, content)| lent.is(content)) {
         "wrote to what it was lent to read, or around it".to_string()
     } else if !lent_room.is(&expected_room) {
-        format!("left in the room, or around it, {}", to_hex(lent_room.block()))
+        format!("left in the room, or around it:{}", dump(lent_room.block()))
     } else {
         return Ok(expected);
     };
-    let mut words = format!("{call:?}");
-    for (name, content) in ["input", "other", "table", "published", "own", "room"]
+    let mut words = match call {
+        Call::Release | Call::Why => format!("{call:?}, subscriber {number}"),
+        Call::DayFind => format!("{call:?}, message {number}"),
+        Call::Strike => format!("{call:?}, target {number}"),
+        Call::DaySearch => format!("{call:?}, namespace {}", *number as i64),
+        _ => format!("{call:?}"),
+    };
+    words += &format!(", room of {} bytes", room.len());
+    for (name, content) in ["input", "other", "table", "published", "own"]
         .into_iter()
-        .zip([input, other, table, published, own, room])
+        .zip(contents)
         .filter(|(_, content)| !content.is_empty())
     {
-        words += &format!(", {name} {}", to_hex(content));
-    }
-    match call {
-        Call::Release | Call::Why => words += &format!(", subscriber {number}"),
-        Call::DayFind => words += &format!(", message {number}"),
-        Call::Strike => words += &format!(", target {number}"),
-        Call::DaySearch => words += &format!(", namespace {}", *number as i64),
-        Call::Read => words += &format!(" ({})", String::from_utf8_lossy(input)),
-        _ => (),
+        words += &format!("\n  {name}, {} bytes:{}", content.len(), dump(content));
     }
     Err(format!("{words}\n  reading: {}\n  archive: {wrong}", unpacked(expected)))
 }
