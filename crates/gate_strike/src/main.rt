@@ -45,10 +45,7 @@ fn main() {
     match number() {
         buffer::Number::Value(n) => strike_input(n as usize),
         buffer::Number::Bad => {
-            io::write_all(
-                2,
-                b"NUMBER is no number from 0 to 18446744073709551615\n",
-            );
+            io::write_all(2, b"NUMBER is no number from 0 to 18446744073709551615\n");
         }
     }
 }
