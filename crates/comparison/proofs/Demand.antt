@@ -77,7 +77,6 @@ alike-swap : (x y : Spot) → alike x y ≡ alike y x
 unfolding alike
 alike-swap x y =
     rw (
-      eqb-swap (slotNumber (x .slot)) (slotNumber (y .slot)),
       eqb-swap (x .lead .kind) (y .lead .kind),
       eqb-swap (x .lead .arg) (y .lead .arg),
       same-swap (foldedAt (x .slot) (x .str)) (foldedAt (y .slot) (y .str)),

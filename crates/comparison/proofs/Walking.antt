@@ -2,50 +2,89 @@
 -- second has an item wherever the first has one, as long as all before are alike.
 use Prim.Native.Nat.{ℕ, _+_, _*_, _≤_, _<_}
 use mathlib.Core.Path.{_≡_, refl, sym, _∙_, ap}
-use mathlib.Core.Bool.{Bool, true, false, not}
-use mathlib.Core.List.{List}
+use mathlib.Core.Bool.{Bool, true, false, not, _&&_, _||_, cond, true≢false}
+use mathlib.Core.List.{List, []}
 use native.Mathlib.Omega.{arith}
 use lib.ListN.{length, getD}
 use lib.Dec.{eqb, ltb}
 use borrow.Author.Tests.{eqb-true, eqb-false, ltb-true, ltb-false, not-true, not-false}
 use mir.Syntax.{w64}
 use mir.Val.{Fits}
-use Rattle.buffer.proofs.ByteLaws.{and-true}
+use Rattle.buffer.specs.Bytes.{within as between, same as sameBytes}
+use Rattle.cbor.specs.Head.{bytes, text}
+use Rattle.ari.specs.Name.{foldedName, sameName}
+use Rattle.ari.specs.Table.{Slot}
+use Rattle.ari.specs.Same.{takesName, foldedAt}
 use Rattle.ari.specs.declared.Input.the-variants.{Message}
 use Rattle.ari.specs.Items.{Spot, spotsOf}
 use Rattle.ari.specs.Decode.{decode}
 use Rattle.grammar.specs.Code.{slotOf, slotNumber}
 use Rattle.item_table.specs.declared.Item.{Item}
 use Rattle.item_table.specs.Entries.{itemOf, noSpot, spotNumber}
-use Rattle.item_table.proofs.Entries.{item-at, fine-at}
-use Rattle.sameness.specs.Code.{alikeBy}
+use Rattle.item_table.proofs.Entries.{item-at}
+use Rattle.listing.specs.Entries.{stringIn}
+use Rattle.sameness.specs.Code.{sameString, alikeBy}
 use Rattle.sameness.proofs.Alike as words
 use Rattle.comparison.specs.declared.Difference.{Difference}
 use Rattle.comparison.specs.Comparison.{alike, itemsOf, entryOf}
 use Rattle.comparison.specs.Code.{Both, partAt, differenceOf, withoutItems}
 use Rattle.comparison.proofs.Runs.{Own, own, fitting}
-use Rattle.comparison.proofs.Pairing.{Paired, paired, AlikeTo, alike-seen, seen-alike, further, to-the-end, up-to}
+use Rattle.comparison.proofs.Pairing.{Comparable, same-due, no-strings, Paired, paired, AlikeTo, further, comparable, to-the-end, up-to}
 use Rattle.comparison.proofs.Words.{Opened, open-table, count-is, few-words}
 
-both-ways : (x y : Bool) → (x ≡ true → y ≡ true) → (y ≡ true → x ≡ true) → x ≡ y
-both-ways true y f g = sym (f refl)
-both-ways false true f g = g refl
-both-ways false false f g = refl
+string-same : (s : Slot) (u v : List ℕ) → slotOf (slotNumber s) ≡ s → sameString (slotNumber s) u v ≡ sameBytes (foldedAt s u) (foldedAt s v)
+unfolding sameString sameName
+string-same s u v e = rw e (go (takesName s))
+  where
+    go : (c : Bool) → cond c (sameBytes (foldedName u) (foldedName v)) (sameBytes u v) ≡ sameBytes (cond c (foldedName u) u) (cond c (foldedName v) v)
+    go true = refl
+    go false = refl
+
+folded-empty : (s : Slot) → foldedAt s [] ≡ []
+folded-empty s = go (takesName s)
+  where
+    go : (c : Bool) → cond c (foldedName []) [] ≡ []
+    go true = refl
+    go false = refl
 
 module _ {a b t u : List ℕ} (c : Opened a t) (d : Opened b u) where
   -- two words
-  words-alike : (k l : ℕ) → k < length t → l < length u → alikeBy a (getD t k 0) b (getD u l 0) ≡ alike (spotNumber Message a k) (spotNumber Message b l)
+  words-alike : (k l : ℕ) → k < length t → l < length u → Comparable (spotNumber Message a k) (spotNumber Message b l)
+      → alikeBy a (getD t k 0) b (getD u l 0) ≡ alike (spotNumber Message a k) (spotNumber Message b l)
   unfolding alike
-  words-alike k l h g =
-      let x : Spot = spotNumber Message a k in
-      let y : Spot = spotNumber Message b l in
-      both-ways (alikeBy a (getD t k 0) b (getD u l 0)) (alike x y)
-      (λ e. seen-alike x y (words.alike-seen (c .tabled) (d .tabled) k l h g e))
-      (λ e.
-      let s : eqb (slotNumber (x .slot)) (slotNumber (y .slot)) ≡ true = and-true (eqb (slotNumber (x .slot)) (slotNumber (y .slot))) _ e .0 in
-      let slots : x .slot ≡ y .slot
-      = sym (words.slot-back (c .tabled) k h) ∙ (ap slotOf (eqb-true (slotNumber (x .slot)) (slotNumber (y .slot)) s) ∙ words.slot-back (d .tabled) l g) in
-      words.seen-alike (c .tabled) (d .tabled) k l h g (alike-seen x y (fine-at (c .tabled) k h .sound) (fine-at (d .tabled) l g .sound) slots e))
+  words-alike k l h g w =
+      words.computed (c .tabled) (d .tabled) k l h g ∙ kinds (eqb (x .lead .kind) (y .lead .kind)) refl
+    where
+      x : Spot
+      x = spotNumber Message a k
+
+      y : Spot
+      y = spotNumber Message b l
+
+      strings : Bool
+      strings = sameBytes (foldedAt (x .slot) (x .str)) (foldedAt (y .slot) (y .str))
+
+      read : Bool
+      read = sameString (slotNumber (x .slot)) (stringIn a (x .first)) (stringIn b (y .first))
+
+      both : (z : Bool) → between bytes text (x .lead .kind) ≡ z → x .lead .kind ≡ y .lead .kind → Comparable x y → (not z || read) ≡ strings
+      both true e q (same-due s) =
+          rw (words.string-back (c .tabled) k h e, words.string-back (d .tabled) l g (rw q at e), ← s)
+          (string-same (x .slot) (x .str) (y .str) (words.slot-back (c .tabled) k h))
+      both true e q (no-strings n) = absurd (true≢false (sym e ∙ n q))
+      both false e q r =
+          let o : x .str ≡ [] = words.empty (x .str) (words.no-string (c .tabled) k h e) in
+          let p : y .str ≡ [] = words.empty (y .str) (words.no-string (d .tabled) l g (rw q at e)) in
+          rw (o, p, folded-empty (x .slot), folded-empty (y .slot))
+
+      args : (z : Bool) → {r s : Bool} → r ≡ s → (z && r) ≡ (z && s)
+      args z e = ap (λ (w : Bool). z && w) e
+
+      kinds : (z : Bool) → eqb (x .lead .kind) (y .lead .kind) ≡ z
+          → ((z && eqb (x .lead .arg) (y .lead .arg)) && (not (between bytes text (x .lead .kind)) || read)) ≡ (z && (eqb (x .lead .arg) (y .lead .arg) && strings))
+      kinds true e =
+          args (eqb (x .lead .arg) (y .lead .arg)) (both (between bytes text (x .lead .kind)) refl (eqb-true (x .lead .kind) (y .lead .kind) e) w)
+      kinds false e = refl
 
 -- The first items of both are alike, up to those at p and q.
 pub record Walk (a t b u : List ℕ) (i j end p q : ℕ) : Type 0 where
@@ -166,7 +205,7 @@ module _ {a t b u : List ℕ} {i j end p q : ℕ} (v : Walked a t b u i j end p 
         these : z ≡ alike (getD (itemsOf x) k noSpot) (getD (itemsOf y) k noSpot)
         these =
             r ∙ ap (λ (n : ℕ). alikeBy a (getD t n 0) b (getD u q 0)) (w .first-at) ∙ ap (λ (n : ℕ). alikeBy a (getD t (i + k) 0) b (getD u n 0)) (w .second-at)
-            ∙ words-alike c d (i + k) (j + k) here there
+            ∙ words-alike c d (i + k) (j + k) here there (rw (own-first .item-is k within-first, own-second .item-is k within-second) (comparable pair (w .pairs) within-first))
             ∙ ap (λ (z : Spot). alike z (spotNumber Message b (j + k))) (own-first .item-is k within-first)
             ∙ ap (alike (getD (itemsOf x) k noSpot)) (own-second .item-is k within-second)
 

@@ -39,12 +39,10 @@ foldedPart x = folded (item (x .lead) (x .str) (x .inside) none) (due (x .slot) 
 unfoldable pub isSamePart : Spot → Spot → Bool
 isSamePart x y = eqb (slotNumber (x .slot)) (slotNumber (y .slot)) && sameBytes (encode (foldedPart x)) (encode (foldedPart y))
 
--- R197: two items are alike: the same is due there, and they have the same kind and argument and the same string, a name in any case
+-- R197: two items are alike: they have the same kind and argument and the same string, a name in any case
 unfoldable pub alike : Spot → Spot → Bool
 alike x y =
-    eqb (slotNumber (x .slot)) (slotNumber (y .slot))
-    && (eqb (x .lead .kind) (y .lead .kind)
-    && (eqb (x .lead .arg) (y .lead .arg) && sameBytes (foldedAt (x .slot) (x .str)) (foldedAt (y .slot) (y .str))))
+    eqb (x .lead .kind) (y .lead .kind) && (eqb (x .lead .arg) (y .lead .arg) && sameBytes (foldedAt (x .slot) (x .str)) (foldedAt (y .slot) (y .str)))
 
 -- its items: itself, its members and theirs
 abbrev pub itemsOf : Spot → List Spot

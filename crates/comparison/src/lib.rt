@@ -130,7 +130,8 @@ fn begins_at(entry: u64) -> usize
     x.first
 }
 
-// Two targets or reports. Items that are alike announce the same members, so the second has an item wherever the first has one.
+// Two targets or reports. Items that are alike announce the same members, and a target and a report differ before either ends: so the second has an item
+// wherever the first has one.
 fn compare_at(a: &[u8], b: &[u8], xs: &[u64], ys: &[u64], i: usize, j: usize) -> Difference
     requires { ⌜ Both (now a) (now xs) i (now b) (now ys) j ⌝ }
     ensures { λ r. ⌜ r ≡ differenceOf (entryOf (partAt (now (a .entry)) i) (partAt (now (b .entry)) j)) ⌝ }

@@ -1,4 +1,4 @@
--- Two words of item tables are alike exactly if what is compared of their items is the same. The idea: a word gives back its item's slot and place, the
+-- Two words of item tables say the same item exactly if what is compared of their items is the same. The idea: a word gives back its item's slot and place, the
 -- head stands there in the bytes, and the string behind it.
 use Prim.Native.Nat.{ℕ, _+_, _<_}
 use mathlib.Core.Path.{_≡_, refl, sym, _∙_, ap}
@@ -25,7 +25,7 @@ use Rattle.grammar.proofs.Right.{number-slot}
 use Rattle.item_table.specs.Entries.{spotNumber, Tabled}
 use Rattle.item_table.proofs.Entries.{fine-at, covers-at, item-at, head-at}
 use Rattle.listing.specs.Entries.{stringIn}
-use Rattle.sameness.specs.Code.{sameString, alikeBy}
+use Rattle.sameness.specs.Code.{sameString, alikeBy, sameItemBy}
 
 -- one item
 module _ {m : Limits} {i : Input} {b : List ℕ} {n : ℕ} {t : List ℕ} (c : Tabled m i b n t) (k : ℕ) (h : k < n) where
@@ -37,7 +37,7 @@ module _ {m : Limits} {i : Input} {b : List ℕ} {n : ℕ} {t : List ℕ} (c : T
       let f = fine-at c k h in
       ap slotOf (ap slotNumber (sym (f .slot-is)) ∙ number-slot (f .number) (f .is-slot)) ∙ f .slot-is
 
-  string-back : within bytes text (x .lead .kind) ≡ true → stringIn b (x .first) ≡ x .str
+  pub string-back : within bytes text (x .lead .kind) ≡ true → stringIn b (x .first) ≡ x .str
   unfolding stringIn stringSize
   string-back e =
       let l = x .lead in
@@ -47,7 +47,7 @@ module _ {m : Limits} {i : Input} {b : List ℕ} {n : ℕ} {t : List ℕ} (c : T
       sym (drop-drop (size l) (x .first) b) ∙ (ap (drop (size l)) (covers-at c k h) ∙ drop-at (leadBytes l) (x .str ++ rest) (size l) (length-lead l)) in
       rw (head-at c k h, a) (take-at (x .str) rest (l .arg) long)
 
-  no-string : within bytes text (x .lead .kind) ≡ false → length (x .str) ≡ 0
+  pub no-string : within bytes text (x .lead .kind) ≡ false → length (x .str) ≡ 0
   unfolding stringSize
   no-string e = fine-at c k h .sized ∙ rw e
 
@@ -68,7 +68,7 @@ folded-same s u v b e = rw b (go (takesName s) e)
     go true f = rw f (same-self (foldedName v))
     go false f = rw f (same-self v)
 
-empty : (u : List ℕ) → length u ≡ 0 → u ≡ []
+pub empty : (u : List ℕ) → length u ≡ 0 → u ≡ []
 empty [] e = refl
 empty (x ∷ u) e = absurd (omega arith)
 
@@ -83,20 +83,20 @@ module _ {m m′ : Limits} {i i′ : Input} {a b : List ℕ} {n n′ : ℕ} {t t
   abbrev isString : Bool
   isString = within bytes text (one .lead .kind)
 
-  abbrev slotsAndHeads : Bool
-  slotsAndHeads = eqb (slotNumber (one .slot)) (slotNumber (other .slot)) && (eqb (one .lead .kind) (other .lead .kind) && eqb (one .lead .arg) (other .lead .arg))
-
-  computed : alikeBy a (getD t k 0) b (getD t′ j 0)
-      ≡ eqb (slotNumber (one .slot)) (slotNumber (other .slot))
-      && ((eqb (one .lead .kind) (other .lead .kind) && eqb (one .lead .arg) (other .lead .arg))
-      && (not isString || sameString (slotNumber (one .slot)) (stringIn a (one .first)) (stringIn b (other .first))))
+  pub computed : alikeBy a (getD t k 0) b (getD t′ j 0)
+      ≡ (eqb (one .lead .kind) (other .lead .kind) && eqb (one .lead .arg) (other .lead .arg))
+      && (not isString || sameString (slotNumber (one .slot)) (stringIn a (one .first)) (stringIn b (other .first)))
   unfolding alikeBy
   computed = rw (item-at c k h, item-at c′ j h′, head-at c k h, head-at c′ j h′)
 
-  pub alike-seen : alikeBy a (getD t k 0) b (getD t′ j 0) ≡ true → seen one ≡ seen other
-  alike-seen e =
-      let (es, r) = and-true (eqb (slotNumber (one .slot)) (slotNumber (other .slot))) _ (sym computed ∙ e) in
-      let (eh, str) = and-true (eqb (one .lead .kind) (other .lead .kind) && eqb (one .lead .arg) (other .lead .arg)) _ r in
+  with-slots : sameItemBy a (getD t k 0) b (getD t′ j 0) ≡ eqb (slotNumber (one .slot)) (slotNumber (other .slot)) && alikeBy a (getD t k 0) b (getD t′ j 0)
+  unfolding sameItemBy
+  with-slots = rw (item-at c k h, item-at c′ j h′)
+
+  pub same-seen : sameItemBy a (getD t k 0) b (getD t′ j 0) ≡ true → seen one ≡ seen other
+  same-seen e =
+      let (es, r) = and-true (eqb (slotNumber (one .slot)) (slotNumber (other .slot))) _ (sym with-slots ∙ e) in
+      let (eh, str) = and-true (eqb (one .lead .kind) (other .lead .kind) && eqb (one .lead .arg) (other .lead .arg)) _ (sym computed ∙ r) in
       let (ek, ea) = and-true (eqb (one .lead .kind) (other .lead .kind)) (eqb (one .lead .arg) (other .lead .arg)) eh in
       let slots : one .slot ≡ other .slot
       = sym (slot-back c k h) ∙ (ap slotOf (eqb-true (slotNumber (one .slot)) (slotNumber (other .slot)) es) ∙ slot-back c′ j h′) in
@@ -110,11 +110,11 @@ module _ {m m′ : Limits} {i i′ : Input} {a b : List ℕ} {n n′ : ℕ} {t t
       go true q kinds f = same-folded (one .slot) (one .str) (other .str) (slot-back c k h) (rw (string-back c k h q, string-back c′ j h′ (rw kinds at q)) at f)
       go false q kinds f = ap (foldedAt (one .slot)) (empty (one .str) (no-string c k h q) ∙ sym (empty (other .str) (no-string c′ j h′ (rw kinds at q))))
 
-  pub seen-alike : seen one ≡ seen other → alikeBy a (getD t k 0) b (getD t′ j 0) ≡ true
-  seen-alike e =
+  pub seen-same : seen one ≡ seen other → sameItemBy a (getD t k 0) b (getD t′ j 0) ≡ true
+  seen-same e =
       let kinds : one .lead .kind ≡ other .lead .kind = seen-kind one other e in
-      computed
-      ∙ rw (
+      with-slots ∙ rw (
+        computed,
         eq-eqb (slotNumber (one .slot)) (slotNumber (other .slot)) (ap slotNumber (seen-slot one other e)),
         eq-eqb (one .lead .kind) (other .lead .kind) kinds,
         eq-eqb (one .lead .arg) (other .lead .arg) (seen-arg one other e),

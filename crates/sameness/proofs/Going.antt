@@ -28,8 +28,8 @@ use Rattle.reader.proofs.Kept.{accepted, refused, tabled}
 use Rattle.sameness.specs.declared.Sameness.{Sameness}
 use Rattle.sameness.specs.declared.Sameness.the-variants as answers
 use Rattle.sameness.specs.Sameness.{samenessBy, sameness}
-use Rattle.sameness.specs.Code.{alikeBy}
-use Rattle.sameness.proofs.Alike.{alike-seen, seen-alike}
+use Rattle.sameness.specs.Code.{sameItemBy}
+use Rattle.sameness.proofs.Alike.{same-seen, seen-same}
 
 -- the first k items are alike
 pub record SameTo (a b : List ℕ) (k : ℕ) : Type 0 where
@@ -60,19 +60,19 @@ module _ {m : Limits} {a b : List ℕ} {n : ℕ} {t t′ : List ℕ} (c : Tabled
       let l : length (spotsOf Single (decode a)) ≡ length (spotsOf Single (decode b)) = spot-count (c .is) ∙ sym (spot-count (c′ .is)) in
       sym (items-same a b (all-seen (spotsOf Single (decode a)) (spotsOf Single (decode b)) l (λ j g. s .items j (omega (arith, spot-count (c .is))))))
 
-  module _ (k : ℕ) (h : k < n) {x : Bool} (e : x ≡ alikeBy a (getD t k 0) b (getD t′ k 0)) where
+  module _ (k : ℕ) (h : k < n) {x : Bool} (e : x ≡ sameItemBy a (getD t k 0) b (getD t′ k 0)) where
     pub one-differs : not x ≡ true → false ≡ isSame a b
     one-differs q =
         false-if (isSame a b)
         (λ i.
         let s = at-item (spotsOf Single (decode a)) (spotsOf Single (decode b)) k (same-items (c .is) (c′ .is) i) in
-        true≢false (sym (seen-alike c c′ k k h h s) ∙ (sym e ∙ not-true x q)))
+        true≢false (sym (seen-same c c′ k k h h s) ∙ (sym e ∙ not-true x q)))
 
     pub one-more : SameTo a b k → not x ≡ false → SameTo a b (k + 1)
     one-more s q = record { items = λ j g. go j g (eqb j k) refl }
       where
         go : (j : ℕ) → j < k + 1 → (z : Bool) → eqb j k ≡ z → seen (spotNumber Single a j) ≡ seen (spotNumber Single b j)
-        go j g true f = rw (eqb-true j k f) (alike-seen c c′ k k h h (sym e ∙ not-false x q))
+        go j g true f = rw (eqb-true j k f) (same-seen c c′ k k h h (sym e ∙ not-false x q))
         go j g false f = let d : j ≡ k → ⊥ = eqb-false j k f in s .items j (omega arith)
 
 pub ruleset goings = (none-yet, all-same, one-differs, one-more)

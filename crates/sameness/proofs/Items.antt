@@ -19,7 +19,7 @@ use Rattle.grammar.specs.Code.{slots}
 use Rattle.item_table.specs.declared.Item.{Item}
 use Rattle.item_table.specs.Entries.{itemOf}
 use Rattle.listing.specs.Entries.{stringIn}
-use Rattle.sameness.specs.Code.{takesNameBy, sameHead, hasString, sameString, alikeBy}
+use Rattle.sameness.specs.Code.{takesNameBy, sameHead, hasString, sameString, alikeBy, sameItemBy}
 
 -- the slots of names have the numbers 9 to 15
 by-number : allFrom 72 0 (λ i. computed.same (within 9 15 i) (takesNameBy i)) ≡ true
@@ -73,23 +73,27 @@ pub ruleset head-ways = (no-string-before, no-string-behind, other-kind, one-kin
 
 -- two items
 module _ (a : List ℕ) (x : ℕ) (b : List ℕ) (y : ℕ) {p q : Item} (ep : p ≡ itemOf x) (eq : q ≡ itemOf y) where
-  pub other-slot : (p .slot ≡ q .slot → ⊥) → false ≡ alikeBy a x b y
-  unfolding alikeBy
-  other-slot n = rw (← ep, ← eq, ne-eqb (p .slot) (q .slot) n)
-
-  module _ (s : p .slot ≡ q .slot) {h h′ : Head} (eh : h ≡ headAt a (p .first)) (eh′ : h′ ≡ headAt b (q .first)) {r : Bool} (er : r ≡ sameHead h h′) where
+  module _ {h h′ : Head} (eh : h ≡ headAt a (p .first)) (eh′ : h′ ≡ headAt b (q .first)) {r : Bool} (er : r ≡ sameHead h h′) where
     pub other-head : not r ≡ true → false ≡ alikeBy a x b y
     unfolding alikeBy
-    other-head n = rw (← ep, ← eq, eq-eqb (p .slot) (q .slot) s, ← eh, ← eh′, ← er, not-true r n)
+    other-head n = rw (← ep, ← eq, ← eh, ← eh′, ← er, not-true r n)
 
     module _ (n : not r ≡ false) {t : Bool} (et : t ≡ hasString h) where
       pub no-strings : not t ≡ true → true ≡ alikeBy a x b y
       unfolding alikeBy
-      no-strings m = rw (← ep, ← eq, eq-eqb (p .slot) (q .slot) s, ← eh, ← eh′, ← er, not-false r n, ← et, not-true t m)
+      no-strings m = rw (← ep, ← eq, ← eh, ← eh′, ← er, not-false r n, ← et, not-true t m)
 
       pub their-strings : not t ≡ false → {u v : List ℕ} → u ≡ stringIn a (p .first) → v ≡ stringIn b (q .first) → {z : Bool} → z ≡ sameString (p .slot) u v
           → z ≡ alikeBy a x b y
       unfolding alikeBy
-      their-strings m eu ev ez = ez ∙ rw (← ep, ← eq, eq-eqb (p .slot) (q .slot) s, ← eh, ← eh′, ← er, not-false r n, ← et, not-false t m, eu, ev)
+      their-strings m eu ev ez = ez ∙ rw (← ep, ← eq, ← eh, ← eh′, ← er, not-false r n, ← et, not-false t m, eu, ev)
 
-pub ruleset item-ways = (other-slot, other-head, no-strings, their-strings)
+  pub other-slot : (p .slot ≡ q .slot → ⊥) → false ≡ sameItemBy a x b y
+  unfolding sameItemBy
+  other-slot n = rw (← ep, ← eq, ne-eqb (p .slot) (q .slot) n)
+
+  pub one-slot : p .slot ≡ q .slot → {z : Bool} → z ≡ alikeBy a x b y → z ≡ sameItemBy a x b y
+  unfolding sameItemBy
+  one-slot s e = e ∙ rw (← ep, ← eq, eq-eqb (p .slot) (q .slot) s)
+
+pub ruleset item-ways = (other-head, no-strings, their-strings, other-slot, one-slot)

@@ -34,5 +34,10 @@ sameString slot u v = cond (takesNameBy slot) (sameName u v) (same u v)
 abbrev pub alikeAt : ℕ → List ℕ → ℕ → List ℕ → ℕ → Bool
 alikeAt slot a p b q = sameHead (headAt a p) (headAt b q) && (not (hasString (headAt a p)) || sameString slot (stringIn a p) (stringIn b q))
 
+-- their heads, and their strings as the first's slot has them
 unfoldable pub alikeBy : List ℕ → ℕ → List ℕ → ℕ → Bool
-alikeBy a x b y = eqb (itemOf x .slot) (itemOf y .slot) && alikeAt (itemOf x .slot) a (itemOf x .first) b (itemOf y .first)
+alikeBy a x b y = alikeAt (itemOf x .slot) a (itemOf x .first) b (itemOf y .first)
+
+-- at the same slot
+unfoldable pub sameItemBy : List ℕ → ℕ → List ℕ → ℕ → Bool
+sameItemBy a x b y = eqb (itemOf x .slot) (itemOf y .slot) && alikeBy a x b y

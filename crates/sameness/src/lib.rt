@@ -9,7 +9,7 @@ ghost use Rattle.ari.specs.Limits.{gateLimits, capped};
 ghost use Rattle.ari.specs.Same.{isSame};
 ghost use Rattle.item_table.specs.Entries.{Tabled};
 ghost use Rattle.sameness.specs.Sameness.{samenessBy, sameness};
-ghost use Rattle.sameness.specs.Code.{takesNameBy, sameHead, hasString, sameString, alikeBy};
+ghost use Rattle.sameness.specs.Code.{takesNameBy, sameHead, hasString, sameString, alikeBy, sameItemBy};
 use ari::Input;
 use ari::Limits;
 use reader::Answer;
@@ -77,15 +77,12 @@ fn same_string(slot: u64, a: &[u8], b: &[u8]) -> bool
     buffer::same(a, b)
 }
 
-// Whether two items are alike, each by its word of an item table.
+// Whether two items are alike, each by its word of an item table: heads of one kind and argument, and the same strings as the first's slot has them.
 pub fn is_alike(a: &[u8], x: u64, b: &[u8], y: u64) -> bool
     ensures { λ r. ⌜ r ≡ alikeBy (now (a .entry)) x (now (b .entry)) y ⌝ }
 {
     let p = item_table::item_of(x);
     let q = item_table::item_of(y);
-    if p.slot != q.slot {
-        return false;
-    }
     let h = cbor::head_again(a, p.first);
     if !same_head(h, cbor::head_again(b, q.first)) {
         return false;
@@ -100,15 +97,26 @@ pub fn is_alike(a: &[u8], x: u64, b: &[u8], y: u64) -> bool
     )
 }
 
-// Whether all items are alike of two ARIs that have as many.
-fn all_alike(a: &[u8], b: &[u8], limits: Limits, count: usize, xs: &[u64], ys: &[u64]) -> bool
+fn is_same_item(a: &[u8], x: u64, b: &[u8], y: u64) -> bool
+    ensures { λ r. ⌜ r ≡ sameItemBy (now (a .entry)) x (now (b .entry)) y ⌝ }
+{
+    let p = item_table::item_of(x);
+    let q = item_table::item_of(y);
+    if p.slot != q.slot {
+        return false;
+    }
+    is_alike(a, x, b, y)
+}
+
+// Whether all items are the same of two ARIs that have as many.
+fn all_same(a: &[u8], b: &[u8], limits: Limits, count: usize, xs: &[u64], ys: &[u64]) -> bool
     requires { ⌜ Tabled limits input.Single (now a) count (now xs) ⌝ }
     requires { ⌜ Tabled limits input.Single (now b) count (now ys) ⌝ }
     ensures { λ r. ⌜ r ≡ isSame (now (a .entry)) (now (b .entry)) ⌝ }
 {
     let mut k = 0;
     while k < count {
-        if !is_alike(a, xs[k], b, ys[k]) {
+        if !is_same_item(a, xs[k], b, ys[k]) {
             return false;
         }
         k += 1;
@@ -134,7 +142,7 @@ fn same_second(
             if count != other {
                 return Sameness::Different;
             }
-            if all_alike(a, b, limits, count, xs, ys) {
+            if all_same(a, b, limits, count, xs, ys) {
                 return Sameness::Same;
             }
             Sameness::Different

@@ -42,7 +42,7 @@ impl Position {
 }
 
 /// What an item is by the place where it stands, as far as sameness asks.
-#[derive(Clone, Copy, PartialEq)]
+#[derive(Clone, Copy)]
 enum Place {
     /// A namespace, an object type or an object id: letters in either case are alike.
     Name,
@@ -160,9 +160,7 @@ pub fn compare(first: &[u8], second: &[u8], limits: &Limits) -> Result<Vec<Posit
     let position = |k: usize| match (ones.get(k), twos.get(k)) {
         (Some((first, one)), Some((second, two))) => {
             let mut alike = 0;
-            // "A target is never the same as a report": the one is a reference, the other an
-            // array that is none, so their own items differ.
-            match one.place != two.place || one.differs(*two, &mut alike) {
+            match one.differs(*two, &mut alike) {
                 true => Position::Changed { first: first + alike, second: second + alike },
                 false => Position::Same,
             }

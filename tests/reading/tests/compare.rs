@@ -157,24 +157,29 @@ fn numbers_on_each_side() {
     );
 }
 
-/// "A target is never the same as a report", whatever they hold: their own items differ, a
-/// reference and an array that is none.
+/// "A target is never the same as a report", whatever they hold: heads and strings alone say
+/// where they differ, at the third items at the latest.
 #[test]
 fn targets_beside_reports() {
     let target = |bytes: &str| format!("01 82 14 82 f6 {bytes}");
     let report = |bytes: &str| format!("01 82 15 83 f6 00 {bytes}");
-    for (one, two) in [
-        // Of different lengths, and of one
-        ("83 00 20 00", "82 00 83 00 20 00"),
-        ("84 00 20 00 81 00", "83 00 83 00 20 00 00"),
-        ("83 00 20 00", "83 01 83 00 20 00 00"),
-        // The namespace like the time
-        ("83 00 20 00", "83 00 83 00 20 00 00"),
-        ("83 00 6161 00", "83 1800 84 00 20 00 81 00 00"),
-        ("84 20 20 00 81 00", "84 20 83 00 20 00 81 00 00"),
+    for (one, two, alike) in [
+        // By the head's length
+        ("83 00 20 00", "82 00 83 00 20 00", 0),
+        ("84 00 20 00 81 00", "83 00 83 00 20 00 00", 0),
+        // By the namespace and the time
+        ("83 00 20 00", "83 01 83 00 20 00 00", 1),
+        ("83 f6 20 00", "83 00 83 00 20 00 00", 1),
+        ("83 6161 20 00", "83 00 83 00 20 00 00", 1),
+        ("83 20 20 00", "83 00 83 00 20 00 00", 1),
+        // By the object type and the source
+        ("83 00 20 00", "83 00 83 00 20 00 00", 2),
+        ("83 00 6161 00", "83 1800 84 00 20 00 81 00 00", 2),
+        ("84 20 20 00 81 00", "84 20 83 00 20 00 81 00 00", 2),
     ] {
-        assert_compared(&target(one), &report(two), "changed 5 6");
-        assert_compared(&report(two), &target(one), "changed 6 5");
+        let (at, beside) = (5 + alike, 6 + alike);
+        assert_compared(&target(one), &report(two), &format!("changed {at} {beside}"));
+        assert_compared(&report(two), &target(one), &format!("changed {beside} {at}"));
     }
 }
 
@@ -466,9 +471,8 @@ fn lines_of_the_program() {
     assert_eq!(position_lines(&[], &records, &list), "0 only second\n1 only second\n");
 }
 
-/// An item as it is compared: its kind, whether it is a reference, and its string in one case if
-/// it is a name.
-type Plain = (Kind, bool, Vec<u8>);
+/// An item as it is compared: its kind, and its string in one case if it is a name.
+type Plain = (Kind, Vec<u8>);
 
 /// The items of each target or report with their numbers, told by byte ranges: a name is one of
 /// the first three of a reference's members.
@@ -489,7 +493,7 @@ fn plain_parts(message: &[u8]) -> Vec<Vec<(usize, Plain)>> {
         };
         let is_name = records[parent].reference && ahead < 3;
         let string = if is_name { string.to_ascii_lowercase() } else { string.to_vec() };
-        parts[target].push((k, (record.kind, record.reference, string)));
+        parts[target].push((k, (record.kind, string)));
     }
     parts
 }

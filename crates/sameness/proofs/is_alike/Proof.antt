@@ -8,7 +8,6 @@ pub is-alike-spec : {M : Type 1} → statement M
 is-alike-spec = tie.close (tie.spec
     (λ c κs. search (item-ways, needs))
     (λ c κs. search (item-ways, needs))
-    (λ c. search (item-ways, needs))
     (λ c κs. search (item-ways, needs))
     (λ c κs. search (item-ways, needs))
     (λ c κs. search (item-ways, needs))

@@ -1,9 +1,9 @@
--- `sameness::all_alike` meets its contract: the items so far are alike, and the first two that are not decide.
+-- `sameness::all_same` meets its contract: the items so far are alike, and the first two that are not decide.
 use Prim.Native.Nat.{_-_, _≤_}
 use Rattle.sameness.proofs.Going.{SameTo, goings}
 use borrow.Author.Needs.{needs}
-use Rattle.sameness.proofs.all_alike.Statement.{statement}
-use Rattle.sameness.proofs.all_alike.Tie as tie
+use Rattle.sameness.proofs.all_same.Statement.{statement}
+use Rattle.sameness.proofs.all_same.Tie as tie
 
 abbrev Inv-loop : tie.InvT-loop
 Inv-loop a b count xs ys k₀ k = (k ≤ count) × SameTo a b k
@@ -11,8 +11,8 @@ Inv-loop a b count xs ys k₀ k = (k ≤ count) × SameTo a b k
 abbrev μ-loop : tie.MeasureT-loop
 μ-loop a b count xs ys k₀ k = count - k
 
-pub all-alike-spec : {M : Type 1} → statement M
-all-alike-spec =
+pub all-same-spec : {M : Type 1} → statement M
+all-same-spec =
     tie.close
     (tie.spec
     Inv-loop
