@@ -82,6 +82,15 @@ simple-unused {m} h k = go (eqb m 6) refl
     go true e = rw e
     go false e = rw (e, lt-leb 8 m k, eq-eqb m 7 (omega (arith, eqb-false m 6 e)))
 
+-- with an argument in bytes of its own
+module _ (m i a n : ℕ) (u : i < 28) where
+  pub counts : m ≤ map → Good m a n ≡ judged m i a n
+  counts h = counts-judged (omega arith) i a n u
+
+  pub one-byte-simple : map < m → m < 8 → i ≡ 24 → Bad 3 ≡ judged m i a n
+  unfolding judged
+  one-byte-simple h k e = rw (e, simple-unused {m = m} (omega arith) k)
+
 -- the answer is that of the tests 3 and 4, once the argument is there
 answer-judged : (at i k a : ℕ) (t u : Bool)
     → answer at (cond t (bad 3) (cond u (bad 4) (got (record { info = i; kind = k; arg = a }))))
@@ -115,6 +124,9 @@ module _ (s : List ℕ) (at m j : ℕ) (b : at < length s) where
 
       pub loaded-counted : {a n : ℕ} → m ≤ map → a ≡ loadAt w s (at + 1) → n ≡ at + suc w → Good m a n ≡ answer at (getFrom m j (drop (at + 1) s))
       loaded-counted {a} c v e = long-judged (loaded v) (rw e (counts-judged (omega arith) i a (at + suc w) (z .used)))
+
+  pub byte-judged : {a : ℕ} {r : Head} → j ≡ 24 → 2 ≤ length s - at → a ≡ getD s (at + 1) 0 → r ≡ judged m 24 a (at + 2) → r ≡ answer at (getFrom m j (drop (at + 1) s))
+  byte-judged e h v q = long-judged e sized-1 h (v ∙ one-byte s (at + 1) (omega arith)) q
 
   pub byte-counted : {a : ℕ} → j ≡ 24 → 2 ≤ length s - at → m ≤ map → a ≡ getD s (at + 1) 0 → Good m a (at + 2) ≡ answer at (getFrom m j (drop (at + 1) s))
   byte-counted {a} e h c v =
@@ -261,4 +273,4 @@ module _ (b : List ℕ) (at : ℕ) {r : Head} {k a n : ℕ} (p : Passed b at r) 
 
 pub ruleset bounds = (advances, reaches, stays-inside, kind-known)
 
-pub ruleset heads = (sized-1, sized-2, sized-4, sized-8, tag, bad-float, good-float, cut, loaded-judged, loaded-counted, byte-counted, one-byte-more, not-in-use, at-end, by-long, by-small, small-count, small-unused, small-simple, passed)
+pub ruleset heads = (sized-1, sized-2, sized-4, sized-8, tag, bad-float, good-float, cut, counts, one-byte-simple, loaded-judged, loaded-counted, byte-judged, byte-counted, one-byte-more, not-in-use, at-end, by-long, by-small, small-count, small-unused, small-simple, passed)

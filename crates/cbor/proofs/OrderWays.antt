@@ -9,19 +9,21 @@ use native.Mathlib.Omega.{arith}
 use native.Mathlib.Nat.{mod-lt, div-add-mod', mul-le-mul-right, suc-mul}
 use native.Mathlib.Numerals.{add-one}
 use lib.ListN.{length, drop, getD, drop-of-length-le, length-drop}
-use lib.Seq.{drop-cons}
-use lib.Dec.{ltb, eqb}
-use borrow.Author.Tests.{lt-ltb, le-ltb, eq-eqb, ne-eqb, ltb-true, ltb-false, eqb-true, le-leb, lt-leb, not-true, not-false}
+use lib.Seq.{drop-cons, drop-at}
+use lib.Dec.{ltb, leb, eqb}
+use borrow.Author.Tests.{lt-ltb, le-ltb, eq-eqb, ne-eqb, ltb-true, ltb-false, eqb-true, le-leb, lt-leb, leb-true, not-true, not-false}
+use mir.Syntax.{w8}
+use mir.Val.{Fits}
 use Rattle.buffer.specs.Bytes.{be, part}
 use Rattle.buffer.proofs.RunLaws.{part-all}
 use Rattle.cbor.specs.Byte.{below}
-use Rattle.cbor.specs.Head.{width, shortest, majorOf, leadBytes, shortBytes, keyOf, size, Lead, Got, bad, got, getHead, counted, itself}
+use Rattle.cbor.specs.Head.{width, shortest, majorOf, leadBytes, shortBytes, keyOf, size, Lead, Got, bad, got, getHead, Sound, counted, itself, after}
 use Rattle.cbor.specs.declared.Key.{Key}
 use Rattle.cbor.specs.Keys.{OwnKey, KeyAt, KeyHead}
 use Rattle.cbor.specs.declared.Head.{Head}
 use Rattle.cbor.specs.declared.Head.the-variants.{Bad, Good}
 use Rattle.cbor.specs.Answer.{headAt}
-use Rattle.cbor.proofs.HeadLaws.{width-small, getHead-back}
+use Rattle.cbor.proofs.HeadLaws.{width-small, length-lead, getHead-back}
 use Rattle.cbor.proofs.HeadWays.{Read, read, refused}
 
 module _ (a b : List ℕ) (i : ℕ) (e : below a b ≡ below (drop i a) (drop i b)) where
@@ -277,30 +279,76 @@ module _ {a b : List ℕ} {x y : Key} (p : KeyHead a x) (q : KeyHead b y) where
     pub second-inside : y .next ≤ length b
     second-inside = second .inside
 
--- A key with a head of one byte.
-own-key : (x : ℕ) (xs : List ℕ) → x < 192 → x % 32 < 24 → keyOf (x ∷ xs) ≡ x ∷ xs
-unfolding shortBytes shortest majorOf leadBytes
-own-key x xs h q =
-    let k : x / 32 ≤ 5 = omega (arith, div-add-mod' x 32) in
-    let l : Lead = record { info = x % 32; kind = x / 32; arg = x % 32 } in
-    let w : width (x % 32) ≡ 0 = width-small (x % 32) q in
-    let f : x / 32 * 32 + x % 32 ≡ x = omega (arith, div-add-mod' x 32) in
-    let b : leadBytes l ++ xs ≡ x ∷ xs = rw (le-leb (x / 32) 5 k, w, f) in
-    let g : getHead (x ∷ xs) ≡ got l = rw (← b) (getHead-back {l = l} xs (counted k (itself q refl))) in
-    key-got (x ∷ xs) l g k ∙ rw (lt-ltb (x % 32) 24 q, le-leb (x / 32) 5 k, w, f)
+-- A key whose head is the shortest is ordered by its own bytes.
+own-lead : (l : Lead) (xs : List ℕ) → Sound l → l .kind ≤ 5 → shortest (l .arg) ≡ l .info → keyOf (leadBytes l ++ xs) ≡ leadBytes l ++ xs
+unfolding shortBytes leadBytes
+own-lead l xs s k e =
+    key-got (leadBytes l ++ xs) l (getHead-back {l = l} xs s) k ∙ rw (e, drop-at (leadBytes l) xs (size l) (length-lead l))
+
+-- of one, two and three bytes
+module _ (x : ℕ) (h : x < 192) where
+  major : x / 32 ≤ 5
+  major = omega (arith, div-add-mod' x 32)
+
+  first-byte : (i : ℕ) → x % 32 ≡ i → majorOf (x / 32) * 32 + i ≡ x
+  unfolding majorOf
+  first-byte i e = rw (le-leb (x / 32) 5 major) (omega (arith, div-add-mod' x 32))
+
+  own-one : (xs : List ℕ) → x % 32 < 24 → keyOf (x ∷ xs) ≡ x ∷ xs
+  unfolding leadBytes shortest
+  own-one xs q =
+      let l : Lead = record { info = x % 32; kind = x / 32; arg = x % 32 } in
+      let b : leadBytes l ++ xs ≡ x ∷ xs = rw (width-small (x % 32) q, first-byte (x % 32) refl) in
+      rw b at (own-lead l xs (counted major (itself q refl)) major (rw (lt-ltb (x % 32) 24 q)))
+
+  own-two : (y : ℕ) (xs : List ℕ) → x % 32 ≡ 24 → 24 ≤ y → y < 256 → keyOf (x ∷ (y ∷ xs)) ≡ x ∷ (y ∷ xs)
+  unfolding leadBytes shortest width
+  own-two y xs e g k =
+      let l : Lead = record { info = 24; kind = x / 32; arg = y } in
+      let z : y / 1 ≡ y = omega arith in
+      let b : leadBytes l ++ xs ≡ x ∷ (y ∷ xs) = rw (first-byte 24 e, z) in
+      rw b at (own-lead l xs (counted major (after (omega arith) (omega arith) k)) major (rw (le-ltb y 24 g, lt-ltb y 256 k)))
+
+  own-three : (y z : ℕ) (xs : List ℕ) → x % 32 ≡ 25 → 0 < y → y < 256 → z < 256 → keyOf (x ∷ (y ∷ (z ∷ xs))) ≡ x ∷ (y ∷ (z ∷ xs))
+  unfolding leadBytes shortest width
+  own-three y z xs e g k m =
+      let a : ℕ = y * 256 + z in
+      let l : Lead = record { info = 25; kind = x / 32; arg = a } in
+      let f : a / 256 ≡ y = omega arith in
+      let r : a % 256 / 1 ≡ z = omega arith in
+      let b : leadBytes l ++ xs ≡ x ∷ (y ∷ (z ∷ xs)) = rw (first-byte 25 e, f, r) in
+      rw b at (own-lead l xs (counted major (after (omega arith) (omega arith) (omega arith))) major (rw (le-ltb a 24 (omega arith), le-ltb a 256 (omega arith), lt-ltb a 65536 (omega arith))))
 
 module _ {s : List ℕ} where
   pub own-none : OwnKey s false
   own-none = record { own = λ e. absurd (true≢false (sym e)) }
 
-  pub own-short : (length s ≡ 0 → ⊥) → getD s 0 0 < 192 → OwnKey s (ltb (getD s 0 0 % 32) 24)
-  own-short n h = record { own = λ t. go s n h (ltb-true (getD s 0 0 % 32) 24 t) }
+  pub own-short : (length s ≡ 0 → ⊥) → getD s 0 0 < 192 → getD s 0 0 % 32 < 24 → OwnKey s true
+  own-short n h q = record { own = λ e. go s n h q }
     where
       go : (u : List ℕ) → (length u ≡ 0 → ⊥) → getD u 0 0 < 192 → getD u 0 0 % 32 < 24 → keyOf u ≡ u
       go [] z h q = absurd (z refl)
-      go (y ∷ ys) z h q = own-key y ys h q
+      go (y ∷ ys) z h q = own-one y h ys q
+
+  module _ (h : getD s 0 0 < 192) (w : (j : ℕ) → Fits w8 (getD s j 0)) where
+    pub own-middle : 2 ≤ length s → getD s 0 0 % 32 ≡ 24 → OwnKey s (leb 24 (getD s 1 0))
+    own-middle n q = record { own = λ t. go s n h q (leb-true 24 (getD s 1 0) t) (w 1 .fits) }
+      where
+        go : (u : List ℕ) → 2 ≤ length u → getD u 0 0 < 192 → getD u 0 0 % 32 ≡ 24 → 24 ≤ getD u 1 0 → getD u 1 0 < 256 → keyOf u ≡ u
+        go [] n h q t f = absurd (omega arith)
+        go (x ∷ []) n h q t f = absurd (omega arith)
+        go (x ∷ (y ∷ ys)) n h q t f = own-two x h y ys q t f
+
+    pub own-wide : 3 ≤ length s → getD s 0 0 % 32 ≡ 25 → OwnKey s (ltb 0 (getD s 1 0))
+    own-wide n q = record { own = λ t. go s n h q (ltb-true 0 (getD s 1 0) t) (w 1 .fits) (w 2 .fits) }
+      where
+        go : (u : List ℕ) → 3 ≤ length u → getD u 0 0 < 192 → getD u 0 0 % 32 ≡ 25 → 0 < getD u 1 0 → getD u 1 0 < 256 → getD u 2 0 < 256 → keyOf u ≡ u
+        go [] n h q t f g = absurd (omega arith)
+        go (x ∷ []) n h q t f g = absurd (omega arith)
+        go (x ∷ (y ∷ [])) n h q t f g = absurd (omega arith)
+        go (x ∷ (y ∷ (z ∷ zs))) n h q t f g = own-three x h y z zs q t f g
 
 pub own-order : {a b : List ℕ} {r t w : Bool} → OwnKey a r → OwnKey b t → r ≡ true → t ≡ true → w ≡ below a b → w ≡ below (keyOf a) (keyOf b)
 own-order p q e f o = rw (p .own e, q .own f) o
 
-pub ruleset keys = (own-none, own-short, own-order, no-head, no-count, key-at, second-none, first-none, kinds-differ, arguments-differ, strings-decide, first-inside, second-inside)
+pub ruleset keys = (own-none, own-short, own-middle, own-wide, own-order, no-head, no-count, key-at, second-none, first-none, kinds-differ, arguments-differ, strings-decide, first-inside, second-inside)

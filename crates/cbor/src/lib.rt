@@ -126,6 +126,24 @@ fn float(major: u8, info: u8, arg: u64, next: usize) -> Head
     Head::Good { kind, arg, next }
 }
 
+// A head whose argument was given bytes of its own: the tests 3 and 4.
+fn judge(major: u8, info: u8, arg: u64, next: usize) -> Head
+    requires { ⌜ (major < 8) × (24 ≤ info) × (info < 28) ⌝ }
+    ensures { λ r. ⌜ r ≡ judged major info arg next ⌝ }
+{
+    if major <= MAP {
+        return Head::Good {
+            kind: major,
+            arg,
+            next,
+        };
+    }
+    if info == 24 {
+        return Head::Bad(3);
+    }
+    float(major, info, arg, next)
+}
+
 // A head with an argument after its first byte, or with an info that is not in use.
 fn long(s: &[u8], at: usize, major: u8, info: u64) -> Head
     requires { ⌜ (at < length (now s)) × (major < 8) × (24 ≤ info) ⌝ }
@@ -234,53 +252,25 @@ fn long_again(s: &[u8], at: usize, major: u8, low: u64) -> Head
         if left < 2 {
             return Head::Bad(2);
         }
-        if major <= MAP {
-            return Head::Good {
-                kind: major,
-                arg: wide(s[at + 1]),
-                next: at + 2,
-            };
-        }
-        return Head::Bad(3);
+        return judge(major, 24, wide(s[at + 1]), at + 2);
     }
     if low == 25 {
         if left < 3 {
             return Head::Bad(2);
         }
-        if major <= MAP {
-            return Head::Good {
-                kind: major,
-                arg: buffer::load2(s, at + 1) as u64,
-                next: at + 3,
-            };
-        }
-        return float(major, 25, buffer::load2(s, at + 1) as u64, at + 3);
+        return judge(major, 25, buffer::load2(s, at + 1) as u64, at + 3);
     }
     if low == 26 {
         if left < 5 {
             return Head::Bad(2);
         }
-        if major <= MAP {
-            return Head::Good {
-                kind: major,
-                arg: buffer::load4(s, at + 1) as u64,
-                next: at + 5,
-            };
-        }
-        return float(major, 26, buffer::load4(s, at + 1) as u64, at + 5);
+        return judge(major, 26, buffer::load4(s, at + 1) as u64, at + 5);
     }
     if low == 27 {
         if left < 9 {
             return Head::Bad(2);
         }
-        if major <= MAP {
-            return Head::Good {
-                kind: major,
-                arg: buffer::load8(s, at + 1),
-                next: at + 9,
-            };
-        }
-        return float(major, 27, buffer::load8(s, at + 1), at + 9);
+        return judge(major, 27, buffer::load8(s, at + 1), at + 9);
     }
     Head::Bad(3)
 }
@@ -527,7 +517,27 @@ fn key_of(s: &[u8]) -> Key
     }
 }
 
-// A key whose head is one byte is ordered by its own bytes. Most are.
+// A key whose head is the shortest is ordered by its own bytes: one with a head of two or three bytes.
+fn is_shortest(s: &[u8]) -> bool
+    requires { ⌜ getD (now s) 0 0 < 192 ⌝ }
+    ensures { λ r. ⌜ OwnKey (now (s .entry)) r ⌝ }
+{
+    if s.len() < 2 {
+        return false;
+    }
+    if s[0] % 32 == 24 {
+        return 24 <= s[1];
+    }
+    if s[0] % 32 == 25 {
+        if s.len() < 3 {
+            return false;
+        }
+        return 0 < s[1];
+    }
+    false
+}
+
+// One with a head of one to three bytes. Most are.
 fn is_own_key(s: &[u8]) -> bool
     ensures { λ r. ⌜ OwnKey (now (s .entry)) r ⌝ }
 {
@@ -538,7 +548,10 @@ fn is_own_key(s: &[u8]) -> bool
     if 192 <= x {
         return false;
     }
-    x % 32 < 24
+    if x % 32 < 24 {
+        return true;
+    }
+    is_shortest(s)
 }
 
 // Whether a map's key comes before another's, each by its head and its string: heads in their shortest form are ordered as their kinds and arguments are.

@@ -7,8 +7,4 @@ use Rattle.cbor.proofs.is_own_key.Tie as tie
 pub is-own-key-spec : {M : Type 1} → statement M
 is-own-key-spec =
     tie.close
-    (tie.spec
-    (λ c. search (keys, needs))
-    (λ c. search needs)
-    (λ c. search (keys, needs))
-    (λ c. search (keys, needs)))
+    (tie.spec (λ c. search (keys, needs)) (λ c. search (keys, needs)) (λ c. search (keys, needs)) (λ c. search (keys, needs)) (λ c κs. search (keys, needs)) (λ c. search (keys, needs)))
