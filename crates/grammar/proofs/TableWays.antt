@@ -11,15 +11,32 @@ use Rattle.ari.specs.Table.{inside, param, value, done, due, many, referenceLev
 use Rattle.grammar.specs.declared.Next.{Next}
 use Rattle.grammar.specs.declared.Next.the-variants.{Done, Due}
 use Rattle.grammar.specs.Code.{IsSlot, slotOf, slotNumber, nextOf, typeNumber, fitsCode, extraOf, spelledAs, takesReferenceOf, nextCode, insideCode}
-use Rattle.grammar.specs.Words.{field, fitsWord, followedCode, nextWord, inSpans, spans, rangeOf, bitsOf, smallOf, topOf, ifSet, followed, follows, Word, wordMeans, wordFor, WordOf, manyOf, inAriOf, inArrayOf, inMapOf, Inner, innerMeans, innerFor}
+use Rattle.grammar.specs.Words.{field, fitsWord, followedCode, nextWord, inSpans, spans, rangeOf, bitsOf, smallOf, topOf, ifSet, followed, follows, Follow, followMeans, followFor, Word, wordMeans, wordFor, WordOf, manyOf, inAriOf, inArrayOf, inMapOf, Inner, innerMeans, innerFor}
 use Rattle.grammar.proofs.Ranges.{each-at, spans-fit, small-looks, top-looks}
 use Rattle.grammar.proofs.Right.{number-slot, no-kind}
 
--- what a slot's word says
-module _ (i w : ℕ) (e : wordMeans w ≡ wordFor (rule (slotOf i))) where
-  pub own-means : field w 60 4 ≡ extraOf i
+-- what a slot's word says of what follows
+module _ (i w : ℕ) (e : followMeans w ≡ followFor (rule (slotOf i))) where
+  pub extra-means : field w 60 4 ≡ extraOf i
+  unfolding followMeans followFor
+  extra-means = ap (λ (x : Follow). x .extra) e
+
+  next-means : (a n : ℕ) → followed (field w 57 2) (field w 58 2) (field w 59 2) (field w 50 128) a n ≡ rule (slotOf i) .next a n
+  unfolding followMeans followFor
+  next-means a n = ap (λ (x : Follow). x .next a n) e
+
+  names-means : follows (field w 57 2) (field w 58 2) (field w 59 2) (field w 50 128) ≡ true
+  unfolding followMeans followFor
+  names-means = ap (λ (x : Follow). x .names) e
+
+-- and in all
+module _ (i w : ℕ) (e : WordOf i w) where
+  follow-means : followMeans w ≡ followFor (rule (slotOf i))
   unfolding wordMeans wordFor
-  own-means = ap (λ (x : Word). x .extra) e
+  follow-means = ap (λ (x : Word). x .follow) e
+
+  pub own-means : field w 60 4 ≡ extraOf i
+  own-means = extra-means i w follow-means
 
   pub spelling-means : spelledAs (w / 2 ^ 62) ≡ rule (slotOf i) .spelling
   unfolding wordMeans wordFor
@@ -28,14 +45,6 @@ module _ (i w : ℕ) (e : wordMeans w ≡ wordFor (rule (slotOf i))) where
   range-means : (k : ℕ) → k ≤ 9 → rangeOf (field w (k * 5) 32) ≡ spans k (rule (slotOf i) .rows)
   unfolding wordMeans wordFor
   range-means k h = each-at 10 (λ j. rangeOf (field w (j * 5) 32)) (λ j. spans j (rule (slotOf i) .rows)) (ap (λ (x : Word). x .ranges) e) k (omega arith)
-
-  next-means : (a n : ℕ) → followed (field w 57 2) (field w 58 2) (field w 59 2) (field w 50 128) a n ≡ rule (slotOf i) .next a n
-  unfolding wordMeans wordFor
-  next-means a n = ap (λ (x : Word). x .next a n) e
-
-  names-means : follows (field w 57 2) (field w 58 2) (field w 59 2) (field w 50 128) ≡ true
-  unfolding wordMeans wordFor
-  names-means = ap (λ (x : Word). x .names) e
 
 -- what its inner word says
 module _ (i w : ℕ) (e : innerMeans w ≡ innerFor (rule (slotOf i))) where
@@ -153,12 +162,15 @@ module _ (a n w : ℕ) {r : ℕ} (q : (r ≡ ifSet (w / 2 ^ 58 % 2) n) × (r ≤
   next-due h t p = rw (← q .0, le-ltb r (w / 2 ^ 57 % 2) h, p .0, t .0)
 
 -- a slot's word says what is due beside a head
-pub follows-means : (i w : ℕ) → WordOf i w → (a n : ℕ) {r : Next} → r ≡ nextWord w a n → r ≡ nextCode i a n
+pub due-beside : (i w : ℕ) → followMeans w ≡ followFor (rule (slotOf i)) → (a n : ℕ) {r : Next} → r ≡ nextWord w a n → r ≡ nextCode i a n
 unfolding nextWord nextCode
-follows-means i w e a n d =
+due-beside i w e a n d =
     d
     ∙ followed-is (field w 57 2) (field w 58 2) (field w 59 2) (field w 50 128) a n (omega arith) (names-means i w e)
     ∙ ap nextOf (next-means i w e a n)
+
+pub follows-means : (i w : ℕ) → WordOf i w → (a n : ℕ) {r : Next} → r ≡ nextWord w a n → r ≡ nextCode i a n
+follows-means i w e a n d = due-beside i w (follow-means i w e) a n d
 
 pub ruleset word-means = (own-means, spelling-means, fits-means, follows-means)
 

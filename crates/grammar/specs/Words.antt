@@ -84,25 +84,33 @@ followed took stay add to a n =
 abbrev pub follows : ℕ → ℕ → ℕ → ℕ → Bool
 follows took stay add to = ltb to 72 && (eqb add 0 || (eqb took 0 && (eqb stay 0 && (eqb to 28 || eqb to 50))))
 
--- A slot's word: for each kind the range of its argument, what follows, the slot's own test, how a text string is spelled.
-pub record Word : Type 0 where
-  pub ranges : List (List Span)
+-- What a slot's word says of what follows, and the slot's own test.
+pub record Follow : Type 0 where
   pub next : ℕ → ℕ → Level
   pub names : Bool
   pub extra : ℕ
-  pub spelling : List ℕ → Bool
 
-unfoldable pub wordMeans : ℕ → Word
-wordMeans w = record {
-  ranges = each 10 (λ k. rangeOf (field w (k * 5) 32));
+unfoldable pub followMeans : ℕ → Follow
+followMeans w = record {
   next = λ a n. followed (field w 57 2) (field w 58 2) (field w 59 2) (field w 50 128) a n;
   names = follows (field w 57 2) (field w 58 2) (field w 59 2) (field w 50 128);
   extra = field w 60 4;
-  spelling = spelledAs (w / 2 ^ 62);
 }
 
+unfoldable pub followFor : Rule → Follow
+followFor r = record { next = r .next; names = true; extra = extraNumber (r .extra) }
+
+-- What it says in all: for each kind the range of its argument, how a text string is spelled.
+pub record Word : Type 0 where
+  pub ranges : List (List Span)
+  pub follow : Follow
+  pub spelling : List ℕ → Bool
+
+unfoldable pub wordMeans : ℕ → Word
+wordMeans w = record { ranges = each 10 (λ k. rangeOf (field w (k * 5) 32)); follow = followMeans w; spelling = spelledAs (w / 2 ^ 62) }
+
 unfoldable pub wordFor : Rule → Word
-wordFor r = record { ranges = each 10 (λ k. spans k (r .rows)); next = r .next; names = true; extra = extraNumber (r .extra); spelling = r .spelling }
+wordFor r = record { ranges = each 10 (λ k. spans k (r .rows)); follow = followFor r; spelling = r .spelling }
 
 -- the word of a slot's number
 abbrev pub WordOf : ℕ → ℕ → Type 0

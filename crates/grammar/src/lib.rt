@@ -3,11 +3,11 @@
 // A slot says what is due at a place. Its word holds, from the lowest bits: for each of the ten kinds of heads five bits, the number of the
 // range that the argument must lie in (test 7); at 50 the slot that may follow, seven bits; at 57, 58 and 59 how it follows: it takes one of
 // those that are left, those that are left stay, the argument is added to it; at 60 the slot's own test (8, 11 or 12); at 62 how a text string
-// is spelled (10). The words stand here alone: that they say what `rule` of the definitions says is the contract of `rule_word` and `walk_word`.
+// is spelled (10). The words stand here alone: that they say what `rule` of the definitions says is the contract of `walk_word` and `follow_word`.
 ghost use mathlib.Core.Path.{_≡_};
 ghost use Rattle.ari.specs.Table.{referenceLevel, rule};
 ghost use Rattle.grammar.specs.Code.{IsSlot, slotOf, nextOf, typeNumber, fitsCode, extraOf, spelledAs, takesReferenceOf, nextCode, insideCode};
-ghost use Rattle.grammar.specs.Words.{field, fitsWord, nextWord, bitsOf, smallOf, topOf, ifSet, manyOf, inAriOf, inArrayOf, inMapOf, wordMeans, wordFor, innerMeans, innerFor};
+ghost use Rattle.grammar.specs.Words.{field, fitsWord, nextWord, bitsOf, smallOf, topOf, ifSet, manyOf, inAriOf, inArrayOf, inMapOf, wordMeans, wordFor, followMeans, followFor, innerMeans, innerFor};
 ghost use Prim.Native.Nat.{_-_, _%_, _≤_, _<_};
 ghost use mathlib.Core.Bool.{cond};
 ghost use lib.Dec.{ltb};
@@ -20,7 +20,7 @@ pub enum Next {
     Due { slot: u64, more: u64 },
 }
 
-// The numbers of the slots that functions name; rule_word has them all.
+// The numbers of the slots that functions name; walk_word has them all.
 pub const VERSION: u64 = 0; // a message's version
 
 pub const ARI_ALONE: u64 = 1; // a single ARI
@@ -74,8 +74,9 @@ const AS_LIST: u64 = 3; // as many of the slot as there are members; n more: the
 // The types are below this number.
 const TYPES: u64 = 22;
 
-// A value's slots, inside and in parameters, have the same word.
-fn rule_word(slot: u64) -> u64
+// A slot's word, for the walk alone: a function that has one caller is put into it, and the look-up stands in the walk's loop. A value's slots, inside and in
+// parameters, have the same word.
+pub fn walk_word(slot: u64) -> u64
     ensures { λ r. ⌜ wordMeans r ≡ wordFor (rule (slotOf slot)) ⌝ }
 {
     match slot {
@@ -133,62 +134,80 @@ fn rule_word(slot: u64) -> u64
     }
 }
 
-// The same words, for the walk alone: a function that has one caller is put into it, and the look-up stands in the walk's loop. All others share `rule_word`.
-pub fn walk_word(slot: u64) -> u64
-    ensures { λ r. ⌜ wordMeans r ≡ wordFor (rule (slotOf slot)) ⌝ }
+// What follows alone, and the slot's own test, for all others.
+fn follow_word(slot: u64) -> u64
+    ensures { λ r. ⌜ followMeans r ≡ followFor (rule (slotOf slot)) ⌝ }
 {
     match slot {
-        0 => 0x1200000000000001,
-        1 => 0x0604210980908441,
-        2 => 0x0608000000a00000,
-        3 => 0x060c210980908441,
-        4 => 0x0610210980908441,
-        5 => 0x087000000000000e,
-        6 => 0x087000000000000f,
-        7 => 0x0870000000000010,
-        8 => 0x08c8000000000011,
-        9 => 0x8200000000008042,
-        10 => 0x8030000200008042,
-        11 => 0x8034000200008042,
-        12 => 0x4038000000008060,
-        13 => 0x403c000000008060,
-        14 => 0x4200000000008002,
-        15 => 0x4040000000008002,
-        16 => 0x3200000002100000,
-        17 => 0x244c000000008041, // a key: test 11
-        18 => 0x2450000000008041,
-        19 => 0x0644210980908441,
-        20 => 0x0648210980908441,
-        21 => 0x0660000200000402,
-        22 => 0x045c000200000402,
-        23 => 0x0664000000000042,
-        24 => 0x0660000000b00000,
-        25 => 0x0664000000d00000,
-        26 => 0x046c000000000042,
-        27 => 0x060c000000b00000,
-        28 | 50 => 0x0200000200000000,
-        29 | 51 => 0x02000001c0000000,
-        30 | 52 => 0x0200000000000003,
-        31 | 53 => 0x0200000000000000,
-        32 | 54 => 0x0200000000000084,
-        33 | 55 => 0x0200000000000005,
-        34 | 56 => 0x0200000000000042,
-        35 | 57 => 0x0200000000000001,
-        36 | 58 => 0x0200010800000000,
-        37 | 59 => 0x0200210800000000,
-        38 | 60 => 0x0200000000008000,
-        39 | 61 => 0x0200000000000400,
-        40 | 62 => 0x0200000000000042,
-        41 | 63 => 0x0200000000000042,
-        42 | 64 => 0x4200000000008000,
-        43 | 65 => 0x0200000000000400, // a byte string
-        44 | 66 => 0x0200000000000000,
-        45 | 67 => 0x0200000000100000,
-        46 | 68 => 0x0200000002000000,
-        47 | 69 => 0x0200000000000000,
-        48 | 70 => 0x0200000000c00000,
-        49 | 71 => 0x0200000000d00000,
-        _ => 0x1204000000000001,
+        0 => 0x1200000000000000, // version
+        1 => 0x0604000000000000, // ari alone
+        2 => 0x0608000000000000, // ari message
+        3 | 27 => 0x060c000000000000, // ari inside, reportSource
+        4 => 0x0610000000000000, // ari param
+        5 | 7 => 0x0870000000000000, // type alone, type inside
+        6 => 0x0870000000000000, // type message
+        8 => 0x08c8000000000000, // type param
+        10 => 0x0030000000000000, // objectNamespace false
+        11 => 0x0034000000000000, // objectNamespace true
+        12 => 0x0038000000000000, // objectType false
+        13 => 0x003c000000000000, // objectType true
+        15 => 0x0040000000000000, // objectId true
+        16 => 0x3200000000000000, // params
+        17 => 0x244c000000000000, // key inside
+        18 => 0x2450000000000000, // key param
+        19 => 0x0644000000000000, // entry inside
+        20 => 0x0648000000000000, // entry param
+        21 | 24 => 0x0660000000000000, // nonce 20, target
+        22 => 0x045c000000000000, // nonce 21
+        23 | 25 => 0x0664000000000000, // setTime, report
+        26 => 0x046c000000000000, // reportTime
+        9
+        | 14
+        | 28
+        | 30
+        | 32
+        | 34
+        | 36
+        | 38
+        | 40
+        | 42
+        | 44
+        | 46
+        | 48
+        | 50
+        | 52
+        | 54
+        | 56
+        | 58
+        | 60
+        | 62
+        | 64
+        | 66
+        | 68
+        | 70 => 0x0200000000000000, // namespace, objectId false, values: nothing
+        29
+        | 31
+        | 33
+        | 35
+        | 37
+        | 39
+        | 41
+        | 43
+        | 45
+        | 47
+        | 49
+        | 51
+        | 53
+        | 55
+        | 57
+        | 59
+        | 61
+        | 63
+        | 65
+        | 67
+        | 69
+        | 71 => 0x0200000000000000,
+        _ => 0x1204000000000000, // no slot: as the version, in other bits
     }
 }
 
@@ -294,25 +313,11 @@ pub fn fits_by(word: u64, kind: u8, arg: u64) -> bool
     arg <= top(range)
 }
 
-// Test 7: a head of this kind with this argument may stand at the slot.
-pub fn fits(slot: u64, kind: u8, arg: u64) -> bool
-    ensures { λ r. ⌜ r ≡ fitsCode slot kind arg ⌝ }
-{
-    fits_by(rule_word(slot), kind, arg)
-}
-
 // The slot's own test, as NO_TEST and the constants behind it.
 pub fn extra_test(slot: u64) -> u64
     ensures { λ r. ⌜ r ≡ extraOf slot ⌝ }
 {
-    (rule_word(slot) >> 60) % 4
-}
-
-// How a text string is spelled, as UTF8 and the constants behind it.
-pub fn spelling(slot: u64) -> u64
-    ensures { λ r. ⌜ spelledAs r ≡ rule (slotOf slot) .spelling ⌝ }
-{
-    rule_word(slot) >> 62
+    (follow_word(slot) >> 60) % 4
 }
 
 // Whether an ARI or an object reference is due.
@@ -375,7 +380,7 @@ pub fn next_by(word: u64, arg: u64, more: u64) -> Next
 pub fn next_slot(slot: u64, arg: u64, more: u64) -> Next
     ensures { λ r. ⌜ r ≡ nextCode slot arg more ⌝ }
 {
-    next_by(rule_word(slot), arg, more)
+    next_by(follow_word(slot), arg, more)
 }
 
 fn minus(a: u64, b: u64) -> u64

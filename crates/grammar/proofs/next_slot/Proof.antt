@@ -1,6 +1,6 @@
 -- `grammar::next_slot` meets its contract: its word answers.
 use borrow.Author.Needs.{needs}
-use Rattle.grammar.proofs.TableWays.{follows-means}
+use Rattle.grammar.proofs.TableWays.{due-beside}
 use Rattle.grammar.proofs.next_slot.Statement.{statement}
 use Rattle.grammar.proofs.next_slot.Tie as tie
 
@@ -10,4 +10,4 @@ next-slot-spec =
     (tie.spec
     (λ c κs. search needs)
     (λ c κs. search needs)
-    (λ c. search (follows-means, needs)))
+    (λ c. search (due-beside, needs)))

@@ -4,7 +4,7 @@ use mathlib.Core.Path.{refl, ap}
 use mathlib.Core.List.{List, [], _∷_, _++_}
 use Rattle.ari.specs.Table.{Slot, types, rule}
 use Rattle.grammar.specs.Code.{slotOf}
-use Rattle.grammar.specs.Words.{Word, ranges, wordMeans, wordFor}
+use Rattle.grammar.specs.Words.{followMeans, followFor, Word, ranges, wordMeans, wordFor}
 use Rattle.grammar.proofs.Hits.{arm, arms, left-over}
 use Rattle.grammar.proofs.Right.{no-slot}
 use Rattle.grammar.proofs.walk_word.Statement.{statement}
@@ -18,7 +18,7 @@ abbrev keys : List (List ℕ)
 keys = arms (λ k. k ∷ []) 0 28 ++ arms (λ k. k ∷ (k + 22) ∷ []) 28 22
 
 pub walk-word-spec : {M : Type 1} → statement M
-unfolding ranges wordMeans wordFor rule types
+unfolding ranges wordMeans wordFor followMeans followFor rule types
 walk-word-spec =
     tie.close
     (tie.spec
