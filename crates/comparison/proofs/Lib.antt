@@ -4,3 +4,4 @@ pub mod Words
 pub mod Walking
 pub mod Going
 pub mod Demand
+pub mod PositionBound

@@ -5,7 +5,7 @@ ghost use Prim.Native.Nat.{_≤_};
 ghost use lib.ListN.{length};
 use ari::Input;
 
-// A target takes four items at least, a report six.
+// A target takes four items at least, a report six (comparison, proofs/PositionBound.antt).
 const POSITIONS: usize = ari::ITEMS / 4;
 
 const ROOM: usize = POSITIONS * comparison::ENTRY;
