@@ -1,7 +1,7 @@
 -- The ways through the functions of single bytes, numbers, escapes and heads; the premises are the facts that the code leaves.
 use Prim.Native.Nat.{ℕ, zero, suc, _+_, _-_, _*_, _^_, _≤_, _<_}
 use mathlib.Core.Path.{_≡_, refl, sym, _∙_, ap}
-use mathlib.Core.Bool.{Bool, true, false, _&&_, _||_, cond}
+use mathlib.Core.Bool.{Bool, true, false, not, _&&_, _||_, cond, true≢false}
 use mathlib.Core.List.{List, [], _∷_, _++_}
 use native.Mathlib.Omega.{arith}
 use native.Mathlib.Nat.{pow-le-pow-right, pow-suc}
@@ -9,13 +9,14 @@ use native.Mathlib.Numerals.{add-one}
 use lib.ListN.{length, take, drop, getD, length-drop}
 use lib.Seq.{drop-drop, drop-length, drop-nil}
 use lib.Dec.{ltb, leb, eqb}
-use borrow.Author.Tests.{lt-ltb, le-ltb, le-leb, lt-leb, eq-eqb, ne-eqb}
+use borrow.Author.Tests.{lt-ltb, le-ltb, le-leb, lt-leb, ltb-true, ltb-false, eq-eqb, ne-eqb}
 use Rattle.buffer.specs.Bytes.{within, part}
 use Rattle.buffer.specs.Put.{Put}
 use Rattle.buffer.specs.Runs.{RunTo}
 use Rattle.buffer.specs.declared.Number.{Number}
 use Rattle.buffer.specs.declared.Number.the-variants.{Value, Bad}
 use Rattle.buffer.specs.Decimal.{unsignedOf}
+use Rattle.buffer.proofs.ByteLaws.{not-true, within-is}
 use Rattle.buffer.proofs.RunLaws.{here, beyond, part-all, Ahead, run-begins, run-ends, run-out, run-on}
 use Rattle.buffer.proofs.Putting.{put-nothing, put-both}
 use Rattle.text.specs.Parse.{ends, inWord, startsBy, starts, number, unhex, any, first, second, unescape, unhexes, startsNumber, opened, commas, count}
@@ -281,6 +282,21 @@ module _ (u : List ℕ) (n i : ℕ) (a : Keyed u n i) where
   unfolding keyOf horner
   key-is h = rw (le-ltb 7 (length u) (a .short)) (ap (λ (x : ℕ). length u * 72057594037927936 + x) (rw (beyond u i h) at (a .is)))
 
+-- the bytes that count or open, with two others
+module _ (x : ℕ) where
+  pub other-below : x < 40 → true ≡ not (within 40 44 x)
+  other-below h = rw (lt-leb 40 x h)
+
+  pub other-from : 40 ≤ x → ltb 44 x ≡ not (within 40 44 x)
+  other-from h = rw (le-leb 40 x h) (go (ltb 44 x) refl)
+    where
+      go : (t : Bool) → ltb 44 x ≡ t → t ≡ not (leb x 44)
+      go true e = rw (lt-leb x 44 (ltb-true 44 x e))
+      go false e = rw (le-leb x 44 (ltb-false 44 x e))
+
+  no-mark : within 40 44 x ≡ false → (c : ℕ) → 40 ≤ c → c ≤ 44 → x ≡ c → ⊥
+  no-mark f c h g e = true≢false (sym (within-is 40 44 x (omega arith) (omega arith)) ∙ f)
+
 -- commas inside the first parenthesis
 module _ (e x : ℕ) where
   pub comma-other : (x ≡ 44 → ⊥) → 0 ≡ commaOf e x
@@ -311,6 +327,10 @@ unfolding opened
 none-opens zero x n h g = absurd (n refl)
 none-opens (suc e) x n h g = rw (ne-eqb x 40 h, ne-eqb x 41 g)
 
+stays : (e x : ℕ) → within 40 44 x ≡ false → e ≡ opened e x
+stays zero x f = closed-stays 0 x refl
+stays (suc e) x f = none-opens (suc e) x (λ q. omega arith) (no-mark x f 40 (omega arith) (omega arith)) (no-mark x f 41 (omega arith) (omega arith))
+
 no-commas : (t : List ℕ) → commas 0 t ≡ 0
 unfolding commas opened
 no-commas [] = refl
@@ -330,12 +350,22 @@ pub count-begins : (t : List ℕ) (at : ℕ) → at ≤ length t → Counted t a
 count-begins t at h = record { is = omega arith; few = omega arith; depth = omega arith; inside = h }
 
 module _ (t : List ℕ) (at e n i : ℕ) (a : Counted t at e n i) where
-  pub count-closed : e ≡ 0 → n ≡ commas 1 (drop at t)
-  count-closed h = let z = rw (h, no-commas (drop i t)) at (a .is) in omega arith
-
   pub count-out : length t ≤ i → n ≡ commas 1 (drop at t)
   unfolding commas
   count-out h = let z = rw (beyond t i h) at (a .is) in omega arith
+
+  -- any other byte changes nothing
+  pub count-past : {r : Bool} → i < length t → r ≡ not (within 40 44 (getD t i 0)) → r ≡ true → Counted t at e n (i + 1)
+  unfolding commas
+  count-past {r} h q f = record {
+    is =
+        let x = getD t i 0 in
+        let m : within 40 44 x ≡ false = not-true (within 40 44 x) (sym q ∙ f) in
+        let z = rw (here t i h, sym (comma-other e x (no-mark x m 44 (omega arith) (omega arith))), ← stays e x m) at (a .is) in omega arith;
+    few = omega (arith, a .few);
+    depth = omega (arith, a .depth);
+    inside = omega arith;
+  }
 
   pub count-on : {c o : ℕ} → i < length t → (c ≡ commaOf e (getD t i 0)) × (c ≤ 1) → (o ≡ opened e (getD t i 0)) × (o ≤ e + 1) → Counted t at o (n + c) (i + 1)
   unfolding commas
@@ -346,10 +376,15 @@ module _ (t : List ℕ) (at e n i : ℕ) (a : Counted t at e n i) where
     inside = omega arith;
   }
 
+  -- the last parenthesis is closed
+  pub count-ends : {c o : ℕ} → i < length t → (c ≡ commaOf e (getD t i 0)) × (c ≤ 1) → (o ≡ opened e (getD t i 0)) × (o ≤ e + 1) → o ≡ 0 → n + c ≡ commas 1 (drop at t)
+  unfolding commas
+  count-ends {c} {o} h (p, p₁) (q, q₁) f = let z = rw (here t i h, ← p, ← q, f, no-commas (drop (i + 1) t)) at (a .is) in omega arith
+
 pub ruleset leaves = (skip-past, skip-end, skip-on, starts-at, starts-none, ends-open, ends-close, ends-comma, ends-slash, ends-equal, run-begins, word-ends, run-out, word-on, first-is, first-none, number-out, number-value, number-bad, unhex-below, unhex-digit, unhex-between, unhex-upper, unhex-gap, unhex-lower, unhex-above, two-digits, escape-bare, escape-cut, escape-whole, escape-in)
 
 pub ruleset strings = (counted-out, counted-cut, counted-on, leads-begin, unescaped-out, unescaped-cut, unescaped-on, unhexed-out, unhexed-on, string-bare, string-escaped, string-hex, escape-in)
 
-pub ruleset leading = (minus-starts, low-starts, digit-starts)
+pub ruleset leading = (minus-starts, low-starts, digit-starts, other-below, other-from)
 
-pub ruleset counting = (key-long, key-begins, key-room-left, key-on, key-sum, key-is, comma-other, comma-first, comma-deeper, closed-stays, one-opens, one-closes, none-opens, count-begins, count-closed, count-out, count-on)
+pub ruleset counting = (key-long, key-begins, key-room-left, key-on, key-sum, key-is, comma-other, comma-first, comma-deeper, closed-stays, one-opens, one-closes, none-opens, count-begins, count-out, count-past, count-on, count-ends)

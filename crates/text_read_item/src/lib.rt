@@ -1,10 +1,11 @@
 // What a word of a text means: the head that is due at a slot, read from a text and put as bytes. Lax: the bytes count only if their own text is the text that was read.
 ghost use mathlib.Core.Path.{_≡_};
+ghost use mathlib.Core.Bool.{not};
 ghost use mathlib.Core.List.{[], _∷_, _++_};
 ghost use Prim.Native.Nat.{_+_, _*_, _<_, _≤_, _^_};
 ghost use lib.ListN.{length, drop, getD};
 ghost use Rattle.buffer.specs.Runs.{past, RunTo};
-ghost use Rattle.buffer.specs.Bytes.{part};
+ghost use Rattle.buffer.specs.Bytes.{part, within};
 ghost use Rattle.cbor.specs.Head.{leadBytes, leadOf};
 ghost use Rattle.grammar.specs.Code.{slotOf};
 ghost use Rattle.buffer.specs.Put.{Put};
@@ -427,6 +428,16 @@ fn comma(e: usize, x: u8) -> u64
     0
 }
 
+// Neither a comma nor a parenthesis, nor one of the two bytes between these: most of a text is passed by with one test a byte.
+fn is_other(x: u8) -> bool
+    ensures { λ r. ⌜ r ≡ not (within 40 44 x) ⌝ }
+{
+    if x < b'(' {
+        return true;
+    }
+    b',' < x
+}
+
 fn commas(t: &[u8], at: usize) -> u64
     requires { ⌜ at ≤ length (now t) ⌝ }
     ensures { λ r. ⌜ (r ≡ commas 1 (drop at (now (t .entry)))) × (r ≤ length (now (t .entry))) ⌝ }
@@ -435,12 +446,16 @@ fn commas(t: &[u8], at: usize) -> u64
     let mut n = 0;
     let mut i = at;
     while i < t.len() {
+        let x = t[i];
+        i += 1;
+        if is_other(x) {
+            continue;
+        }
+        n += comma(e, x);
+        e = opened(e, x);
         if e == 0 {
             return n;
         }
-        n += comma(e, t[i]);
-        e = opened(e, t[i]);
-        i += 1;
     }
     n
 }
