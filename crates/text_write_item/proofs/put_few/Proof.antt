@@ -1,0 +1,16 @@
+use Rattle.text_write_item.proofs.Decimals.{decimals}
+use borrow.Author.Needs.{needs}
+use Rattle.text_write_item.proofs.put_few.Statement.{statement}
+use Rattle.text_write_item.proofs.put_few.Tie as tie
+
+pub put-few-spec : {M : Type 1} → statement M
+put-few-spec =
+    tie.close
+    (tie.spec
+    (λ c κs. search needs)
+    (λ c κs. search needs)
+    (λ c. search needs)
+    (λ c. search (decimals, needs))
+    (λ c κs. search needs)
+    (λ c. search needs)
+    (λ c. search (decimals, needs)))
