@@ -1,18 +1,21 @@
 -- R64 from the heads alone: what the outermost ARI is, and the first float.
-use Prim.Native.Nat.{ℕ, zero, suc, _+_, _-_, _≤_, _<_}
+use Prim.Native.Nat.{ℕ, zero, suc, _+_, _-_, _*_, _/_, _%_, _≤_, _<_}
 use mathlib.Core.Path.{_≡_, refl, sym, _∙_, ap}
-use mathlib.Core.Bool.{Bool, true, false, _&&_, _||_, cond, true≢false}
+use mathlib.Core.Bool.{Bool, true, false, not, _&&_, _||_, cond, true≢false}
 use mathlib.Core.List.{List, [], _∷_, _++_, append-assoc, append-nil}
 use native.Mathlib.Omega.{arith}
-use lib.ListN.{length, drop, length-append, length-drop}
-use lib.Dec.{leb, eqb}
-use borrow.Author.Tests.{le-leb, lt-leb, eq-eqb, ne-eqb, eqb-true}
-use Rattle.buffer.specs.Bytes.{all, isByte}
-use Rattle.cbor.specs.Head.{Lead, Sound, size, leadBytes, stringSize, isContainer}
+use lib.ListN.{length, drop, getD, length-append, length-drop}
+use lib.Dec.{ltb, leb, eqb}
+use borrow.Author.Tests.{lt-ltb, le-ltb, le-leb, lt-leb, eq-eqb, ne-eqb, ltb-true, leb-true, eqb-true}
+use Rattle.buffer.specs.Bytes.{all, isByte, within}
+use Rattle.buffer.proofs.ByteLaws.{and-true, not-true}
+use Rattle.buffer.proofs.RunLaws.{here}
+use Rattle.cbor.specs.Head.{Lead, Carries, itself, after, majorOf, Sound, counted, a-simple, size, leadBytes, stringSize, isContainer}
+use Rattle.cbor.specs.Head.{a-float as float-head}
 use Rattle.cbor.specs.Answer.{headAt, Passed}
 use Rattle.cbor.specs.declared.Head.{Head}
 use Rattle.cbor.specs.declared.Head.the-variants.{Bad, Good}
-use Rattle.cbor.proofs.HeadLaws.{length-lead}
+use Rattle.cbor.proofs.HeadLaws.{width-small, length-lead}
 use Rattle.ari.specs.Table.{alone, ari, Level, done, due, rule, members, ariLevel, referenceLevel}
 use Rattle.ari.specs.declared.Limits.{Limits}
 use Rattle.ari.specs.declared.Input.the-variants.{Single}
@@ -44,7 +47,7 @@ use Rattle.text_write.specs.declared.Spelling.{Spelling}
 use Rattle.text_write.specs.declared.Spelling.the-variants as spellings
 use Rattle.text_write.specs.declared.Pos.{Pos}
 use Rattle.text_write.specs.Walks.{Writes}
-use Rattle.text_write.specs.Forms.{setBy, neither, memberBy, outerBy, outerOf, Laid, floatOf, FloatAt}
+use Rattle.text_write.specs.Forms.{setBy, neither, memberBy, outerBy, outerOf, isWhole, Laid, floatOf, FloatAt}
 use Rattle.text_write.specs.Written.{spellingOf, schemeOf, WritesWhole}
 use Rattle.text_write.proofs.Taking.{found, end-is, end-in}
 use Rattle.text_write.proofs.Writing.{behind}
@@ -209,6 +212,66 @@ module _ (b : List ℕ) (p : ℕ) (o : Onto b p) (i : p < length b) {h : Head} (
         pub string-on : length b - j < length b - p
         string-on = omega (arith, passed .0, end-in b k a n (passed .1) (sym m ∙ s) .0, end-in b k a n (passed .1) (sym m ∙ s) .1)
 
+-- a byte that is a whole item
+module _ (x : ℕ) where
+  pub whole-long : 24 ≤ x % 32 → false ≡ isWhole x
+  unfolding isWhole
+  whole-long h = rw (le-ltb (x % 32) 24 h)
+
+  pub whole-bytes : x % 32 < 24 → x / 32 ≡ 2 → false ≡ isWhole x
+  unfolding isWhole
+  whole-bytes h e = rw (lt-ltb (x % 32) 24 h, e)
+
+  pub whole-text : x % 32 < 24 → x / 32 ≡ 3 → false ≡ isWhole x
+  unfolding isWhole
+  whole-text h e = rw (lt-ltb (x % 32) 24 h, e)
+
+  pub whole-other : x % 32 < 24 → (x / 32 ≡ 2 → ⊥) → (x / 32 ≡ 3 → ⊥) → true ≡ isWhole x
+  unfolding isWhole
+  whole-other h e f = rw (lt-ltb (x % 32) 24 h) (sym (ap not (go (leb 2 (x / 32)) refl (leb (x / 32) 3) refl)))
+    where
+      go : (t : Bool) → leb 2 (x / 32) ≡ t → (u : Bool) → leb (x / 32) 3 ≡ u → within 2 3 (x / 32) ≡ false
+      go true p true q = absurd (omega (arith, e, f, leb-true 2 (x / 32) p, leb-true (x / 32) 3 q))
+      go true p false q = rw (p, q)
+      go false p u q = rw p
+
+-- the first byte of a head
+lead-first : (b : List ℕ) (p : ℕ) (l : Lead) (y : List ℕ) → drop p b ≡ leadBytes l ++ y → getD b p 0 ≡ majorOf (l .kind) * 32 + l .info
+unfolding leadBytes
+lead-first b p l y e = let h = long-enough b p l y e in let z = sym (here b p h) ∙ e in cc
+
+whole-kind : (l : Lead) → Sound l → (x : ℕ) → x ≡ majorOf (l .kind) * 32 + l .info → isWhole x ≡ true → (l .kind < 7) × (size l ≡ 1) × (stringSize l ≡ 0)
+unfolding isWhole majorOf stringSize
+whole-kind l s x e w = let (u, v) = and-true (ltb (x % 32) 24) (not (within 2 3 (x / 32))) w in go s (ltb-true (x % 32) 24 u) (not-true (within 2 3 (x / 32)) v)
+  where
+    go : Sound l → x % 32 < 24 → within 2 3 (x / 32) ≡ false → (l .kind < 7) × (size l ≡ 1) × (stringSize l ≡ 0)
+    go (counted k c) u v =
+        let f : x ≡ l .kind * 32 + l .info = rw (le-leb (l .kind) 5 k) at e in
+        let i : l .info < 32 = info-small c in
+        let m : x % 32 ≡ l .info = omega arith in
+        let d : x / 32 ≡ l .kind = omega arith in
+        (omega arith, ap suc (width-small (l .info) (omega arith)), rw (← d, v))
+      where
+        info-small : Carries (l .info) (l .arg) → l .info < 32
+        info-small (itself h q) = omega arith
+        info-small (after h q r) = omega arith
+    go (a-simple k g h q) u v = (omega arith, ap suc (width-small (l .info) (omega arith)), rw k)
+    go (float-head g h q r t) u v =
+        let f : x ≡ 7 * 32 + l .info = rw (lt-leb (l .kind) 5 (omega arith)) at e in
+        absurd (omega arith)
+
+module _ (b : List ℕ) (p : ℕ) (o : Onto b p) (i : p < length b) {r : Bool} (e : r ≡ isWhole (getD b p 0)) (w : r ≡ true) where
+  pub float-past : Onto b (p + 1)
+  unfolding isFloat
+  float-past = record { then = λ r. o .then (record { first-of = go (r .first-of) }) }
+    where
+      go : {r : Float} → ((ys : List Spot) → Laid b (p + 1) ys → r ≡ floatOf (floatIn ys)) → (xs : List Spot) → Laid b p xs → r ≡ floatOf (floatIn xs)
+      go t [] l = absurd (omega arith)
+      go t (x ∷ xs) l =
+          let (k, z, n) = whole-kind (x .lead) (l .1) (getD b p 0) (lead-first b p (x .lead) _ (l .3)) (sym e ∙ w) in
+          let j : insideAt p (x .lead) (x .str) ≡ p + 1 = omega (arith, z, n, l .2) in
+          rw (lt-leb 7 (x .lead .kind) k) (t xs (rw j at (l .4)))
+
 -- the items of a tree are laid so
 laid : (b : List ℕ) (g : Items) (v : Level) (prev : List ℕ) (p d : ℕ) (ys : List Spot) (z : List ℕ) → Fit g false v prev → drop p b ≡ encode g ++ z
     → Laid b (p + length (encode g)) ys → Laid b p (spots g false v p d ++ ys)
@@ -306,4 +369,4 @@ pub whole : (b : List ℕ) (d : ℕ) (x : Bool) {r : ℕ} {room room₁ room₂ 
     → WritesWhole b d x (w .end) room room₂
 whole b d x p s = record { text-of = λ g f e. put-both p (s .text-of g [] [] f (sym e ∙ sym (append-nil (encode g))) .1) }
 
-pub ruleset forming = (set-20, set-21, no-set, member-good, member-bad, outer-bad, outer-leaf, outer-array, starts, over, float-no-head, a-float, float-short, float-on, next-in, string-in, string-on, a-set, has-float, has-form, is-accepted, is-refused, scheme-none, scheme-put, whole)
+pub ruleset forming = (set-20, set-21, no-set, member-good, member-bad, outer-bad, outer-leaf, outer-array, starts, over, whole-long, whole-bytes, whole-text, whole-other, float-past, float-no-head, a-float, float-short, float-on, next-in, string-in, string-on, a-set, has-float, has-form, is-accepted, is-refused, scheme-none, scheme-put, whole)

@@ -1,11 +1,12 @@
--- Which ARIs have a text form, found out from the heads alone: R64, R98. Private to src/: setBy, neither, memberBy, outerBy, outerOf, Laid, floatOf,
+-- Which ARIs have a text form, found out from the heads alone: R64, R98. Private to src/: setBy, neither, memberBy, outerBy, outerOf, isWhole, Laid, floatOf,
 -- FloatAt.
-use Prim.Native.Nat.{ℕ, _+_, _≤_}
+use Prim.Native.Nat.{ℕ, _+_, _/_, _%_, _≤_}
 use mathlib.Core.Path.{_≡_}
-use mathlib.Core.Bool.{Bool, true, false, _&&_, _||_, cond}
+use mathlib.Core.Bool.{Bool, true, false, not, _&&_, _||_, cond}
 use mathlib.Core.List.{List, [], _∷_, _++_}
 use lib.ListN.{length, drop}
-use lib.Dec.{eqb}
+use lib.Dec.{ltb, eqb}
+use Rattle.buffer.specs.Bytes.{within}
 use Rattle.cbor.specs.Head.{array, simple, Sound, leadBytes, stringSize}
 use Rattle.cbor.specs.Answer.{headAt}
 use Rattle.cbor.specs.declared.Head.{Head}
@@ -34,6 +35,10 @@ outerBy b (Good k a q) = cond (eqb k array) (memberBy a (headAt b q)) neither
 
 unfoldable pub outerOf : List ℕ → Outer
 outerOf b = outerBy b (headAt b 0)
+
+-- a byte that is a whole item, and no float: a head that carries its argument and has no string
+unfoldable pub isWhole : ℕ → Bool
+isWhole x = ltb (x % 32) 24 && not (within 2 3 (x / 32))
 
 -- the items of an input, one head with its string behind the other
 abbrev pub Laid : List ℕ → ℕ → List Spot → Type 0

@@ -19,7 +19,7 @@ ghost use Rattle.ari.specs.declared.Input.the-variants.{Single};
 ghost use Rattle.ari.specs.Rules.{Is};
 ghost use Rattle.ari.specs.Decode.{decode};
 ghost use Rattle.text.specs.Answer.{output, writeText, lent, cut, longest};
-ghost use Rattle.text_write.specs.Forms.{setBy, memberBy, outerOf, FloatAt};
+ghost use Rattle.text_write.specs.Forms.{setBy, memberBy, outerOf, isWhole, FloatAt};
 ghost use Rattle.text_write.specs.Written.{writtenOf, roomAfter, spellingOf, schemeOf, WritesWhole, small};
 use ari::Input;
 use ari::Limits;
@@ -221,11 +221,29 @@ pub enum Float {
     Nowhere,
 }
 
+// A head of one byte without a string, and no float.
+fn is_whole(x: u8) -> bool
+    ensures { λ r. ⌜ r ≡ isWhole x ⌝ }
+{
+    if 24 <= x % 32 {
+        return false;
+    }
+    match x / 32 {
+        2 => false,
+        3 => false,
+        _ => true,
+    }
+}
+
 fn first_float(s: &[u8]) -> Float
     ensures { λ r. ⌜ FloatAt (now (s .entry)) 0 r ⌝ }
 {
     let mut p = 0;
     while p < s.len() {
+        if is_whole(s[p]) {
+            p += 1;
+            continue;
+        }
         let h = cbor::head_again(s, p);
         let cbor::Head::Good { kind, arg, next } = h else {
             return Float::Nowhere;
@@ -331,7 +349,7 @@ pub fn hand_over(b: &[u8], count: usize, out: &mut [u8]) -> Written
             place: b.len(),
         };
     }
-    let end = buffer::put_all(out, 0, b);
+    let end = buffer::put_block(out, 0, b);
     Written::Bytes { length: end, count }
 }
 

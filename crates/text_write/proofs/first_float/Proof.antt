@@ -19,6 +19,11 @@ first-float-spec =
     Inv-loop
     μ-loop
     (λ c. search (forming, needs))
+    (λ c. search (forming, needs))
+    (λ c κs. search (forming, needs))
+    (λ c. search (forming, needs))
+    (λ c. search (forming, needs))
+    (λ c. search (forming, needs))
     (λ c κs. search (forming, needs))
     (λ c. search (forming, needs))
     (λ c. search (forming, needs))
