@@ -1,4 +1,4 @@
--- The walk that reads a text: what it puts, and where it ends. Private to src/: Parsed, Begins, short.
+-- The walk that reads a text: what it puts, and where it ends. Private to src/: Parsed, Begins, short, middle.
 use Prim.Native.Nat.{ℕ, _+_, _≤_}
 use Prim.Native.Char.{code}
 use mathlib.Core.Path.{_≡_}
@@ -24,3 +24,6 @@ pub record Begins (t : List ℕ) (r : ℕ) : Type 0 where
 -- a text of fewer bytes is read in little room
 abbrev pub short : ℕ
 short = 128
+
+abbrev pub middle : ℕ
+middle = 16384

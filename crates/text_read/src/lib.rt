@@ -1,19 +1,20 @@
 // An ARI's text is read: one walk along the slots puts a candidate's bytes, which count only if they are an accepted ARI whose own text is the text that was read.
 ghost use mathlib.Core.Path.{_≡_};
 ghost use mathlib.Core.Bool.{cond};
-ghost use Prim.Native.Nat.{_<_, _≤_};
-ghost use lib.ListN.{length, drop};
+ghost use Prim.Native.Nat.{_+_, _<_, _≤_};
+ghost use lib.ListN.{length, take, drop};
 ghost use Rattle.ari.specs.Table.{due};
 ghost use Rattle.ari.specs.Limits.{gateLimits, capped};
 ghost use Rattle.ari.specs.Items.{encode};
 ghost use Rattle.grammar.specs.Code.{slotOf};
 ghost use Rattle.grammar.specs.Code.{IsSlot};
 ghost use Rattle.reader.specs.Walks.{insideLevel};
+ghost use Rattle.buffer.specs.Bytes.{same};
 ghost use Rattle.buffer.specs.Put.{Put};
 ghost use Rattle.text.specs.Parse.{level, parse, candidate};
 ghost use Rattle.text.specs.Answer.{refused, output, writeText, checked, readText, lent};
 ghost use Rattle.text_write.specs.Written.{writtenOf, roomAfter};
-ghost use Rattle.text_read.specs.Parsed.{Parsed, Begins, short};
+ghost use Rattle.text_read.specs.Parsed.{Parsed, Begins, short, middle};
 use ari::Limits;
 use text_write::Written;
 
@@ -151,6 +152,33 @@ fn hand_over_if(spelled: bool, b: &[u8], count: usize, out: &mut [u8]) -> Writte
     }
 }
 
+// The same eight bytes stand at a place of two runs.
+fn same_eight(a: &[u8], b: &[u8], i: usize) -> bool
+    requires { ⌜ (i + 8 ≤ length (now a)) × (i + 8 ≤ length (now b)) ⌝ }
+    ensures { λ r. ⌜ r ≡ same (take 8 (drop i (now (a .entry)))) (take 8 (drop i (now (b .entry)))) ⌝ }
+{
+    buffer::load8(a, i) == buffer::load8(b, i)
+}
+
+// Two runs of bytes are the same: eight bytes at a time, and then one by one.
+fn same_text(a: &[u8], b: &[u8]) -> bool
+    ensures { λ r. ⌜ r ≡ same (now (a .entry)) (now (b .entry)) ⌝ }
+{
+    if a.len() != b.len() {
+        return false;
+    }
+    let mut i = 0;
+    while 8 <= a.len() - i {
+        if same_eight(a, b, i) {
+            i += 8;
+        } else {
+            return false;
+        }
+    }
+    let end = a.len();
+    buffer::same(&a[i..end], &b[i..end])
+}
+
 // Bytes are handed over, if they are an ARI whose text is t. The scratch has room for more than t: a longer text does not pass for it.
 fn confirm(limits: Limits, t: &[u8], b: &[u8], scratch: &mut [u8], out: &mut [u8]) -> Written
     requires { ⌜ length (now t) < length (now scratch) ⌝ }
@@ -164,7 +192,7 @@ fn confirm(limits: Limits, t: &[u8], b: &[u8], scratch: &mut [u8], out: &mut [u8
             place: 0,
         };
     };
-    let spelled = buffer::same(&scratch[0..length], t);
+    let spelled = same_text(&scratch[0..length], t);
     hand_over_if(spelled, b, count, out)
 }
 
@@ -212,6 +240,24 @@ fn read_short(limits: Limits, t: &[u8], out: &mut [u8]) -> Written
     confirm(limits, t, &bytes[0..size], &mut scratch, out)
 }
 
+// One that is not short, of fewer bytes than this, is of middle length.
+const MIDDLE: usize = 16384;
+
+// So is a text of middle length, with less room to clear than the longest may need.
+fn read_middle(limits: Limits, t: &[u8], out: &mut [u8]) -> Written
+    requires { ⌜ (length (now t) < middle) × (length (now t) ≤ limits .text) × (limits .bytes ≤ gateLimits .bytes) × (limits .text ≤ gateLimits .text) ⌝ }
+    ensures { λ r. ⌜ r ≡ writtenOf (lent (length (now (out .entry))) (readText limits (now (t .entry)))) ⌝ }
+    ensures { λ r. ⌜ now (out .exit) ≡ roomAfter (now (out .entry)) (lent (length (now (out .entry))) (readText limits (now (t .entry)))) ⌝ }
+{
+    let mut bytes = [0u8; MIDDLE];
+    let mut scratch = [0u8; MIDDLE];
+    let size = put_candidate(limits, t, &mut bytes);
+    if bytes.len() <= size {
+        return read_long(limits, t, out);
+    }
+    confirm(limits, t, &bytes[0..size], &mut scratch, out)
+}
+
 // The binary form of the single ARI that a text is, within these limits, none above the gate's own.
 pub fn read_text_within(limits: Limits, t: &[u8], out: &mut [u8]) -> Written
     ensures { λ r. ⌜ r ≡ writtenOf (lent (length (now (out .entry))) (readText (capped limits) (now (t .entry)))) ⌝ }
@@ -226,6 +272,9 @@ pub fn read_text_within(limits: Limits, t: &[u8], out: &mut [u8]) -> Written
     }
     if t.len() < SHORT {
         return read_short(most, t, out);
+    }
+    if t.len() < MIDDLE {
+        return read_middle(most, t, out);
     }
     read_long(most, t, out)
 }

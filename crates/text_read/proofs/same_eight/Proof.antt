@@ -1,0 +1,18 @@
+-- `text_read::same_eight` meets its contract: as numbers of eight bytes.
+use Rattle.buffer.proofs.ByteLaws.{all-bytes}
+use Rattle.text_read.proofs.Comparing.{eight-is}
+use borrow.Author.Needs.{needs}
+use Rattle.text_read.proofs.same_eight.Statement.{statement}
+use Rattle.text_read.proofs.same_eight.Tie as tie
+
+pub same-eight-spec : {M : Type 1} → statement M
+same-eight-spec =
+    tie.close
+    (tie.spec
+    (λ c κs. search needs)
+    (λ c κs. search needs)
+    (λ c.
+    let start = c .before .before .before .before in
+    let f = all-bytes (start .args .a .now) (c .before .before .before .shared-slice-known .given) in
+    let g = all-bytes (start .args .b .now) (c .before .before .shared-slice-known2 .given) in
+    search (eight-is, f, g, needs)))
