@@ -1,10 +1,10 @@
 // Names beside numbers: two lists of lines, each a namespace name, "=" and a number. A name without "!" is looked for in the published list, one with "!" in
 // the subscriber's own.
 ghost use mathlib.Core.Path.{_≡_};
-ghost use Prim.Native.Nat.{_+_, _/_, _≤_, _<_, min};
+ghost use Prim.Native.Nat.{_+_, _/_, _≤_, min};
 ghost use lib.ListN.{length};
 ghost use Rattle.buffer.specs.Runs.{RunTo};
-ghost use Rattle.names.specs.Translated.{standsBy, numberedCode, renumbered, entryTranslated, entriesTranslated};
+ghost use Rattle.names.specs.Translated.{standsBy, renumbered, entryTranslated, entriesTranslated};
 ghost use Rattle.names.specs.Names.{otherThan, lines, isNumber, formed, matches, found, isOwn, findLine, numberOf, numberFor, badFrom, wrongOf, checkNames};
 use listing::Namespace;
 
