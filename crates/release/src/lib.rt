@@ -32,29 +32,19 @@ struct RowSought {
     word: u64,
 }
 
-fn row_for(n: Namespace) -> RowSought
-    ensures { λ r. ⌜ r ≡ soughtBy n ⌝ }
-{
-    match n {
-        Namespace::Number(word) => RowSought { number: true, word },
-        Namespace::Name {
-            place: _,
-            length: _,
-        } => RowSought {
-            number: false,
-            word: 0,
-        },
-        Namespace::Relative => RowSought {
-            number: false,
-            word: 0,
-        },
-    }
-}
+const NO_ROW: RowSought = RowSought {
+    number: false,
+    word: 0,
+};
 
 fn sought<'a>(published: &'a [u8], own: &'a [u8], s: &[u8], n: Namespace) -> RowSought
     ensures { λ r. ⌜ r ≡ soughtBy (standsBy (now (published .entry)) (now (own .entry)) (now (s .entry)) n) ⌝ }
 {
-    row_for(names::stands_for(published, own, s, n))
+    match names::stands_for(published, own, s, n) {
+        Namespace::Number(word) => RowSought { number: true, word },
+        Namespace::Name { .. } => NO_ROW,
+        Namespace::Relative => NO_ROW,
+    }
 }
 
 // Where the search for a number's row starts: no row before the place of the number that was found last grants it, so for that one it is there already.
@@ -100,11 +90,7 @@ fn release_table<'a>(
         let r = listing::reference_at(s, entries[k]);
         match r {
             Reference::Nothing => k += 1,
-            Reference::To {
-                first: _,
-                after: _,
-                namespace,
-            } => {
+            Reference::To { namespace, .. } => {
                 compared = settled(compared, entry, place);
                 let n = sought(published, own, s, namespace);
                 if !n.number {
@@ -178,22 +164,6 @@ fn release_in<'a>(
     }
 }
 
-// A message has no more items than bytes: a table of 128 serves a small one, and is cleared in a fraction of the time.
-fn release_small<'a>(
-    s: &[u8],
-    limits: Limits,
-    grants: &[u8],
-    published: &'a [u8],
-    own: &'a [u8],
-    subscriber: u64,
-) -> Released
-    requires { ⌜ (length (now s) ≤ 128) × (limits .bytes < 65536) × (limits .containers < 256) ⌝ }
-    ensures { λ r. ⌜ r ≡ countedBytes limits (now (s .entry)) (now (grants .entry)) (now (published .entry)) (now (own .entry)) subscriber ⌝ }
-{
-    let mut entries = [0u64; 128];
-    release_in(s, limits, grants, published, own, subscriber, &mut entries)
-}
-
 // Whether a message within these limits, none above the gate's own, is released to a subscriber under a grant table as bytes and two lists of names.
 pub fn release_within<'a>(
     limits: Limits,
@@ -206,8 +176,10 @@ pub fn release_within<'a>(
     ensures { λ r. ⌜ r ≡ countedBytes (capped limits) (now (s .entry)) (now (grants .entry)) (now (published .entry)) (now (own .entry)) subscriber ⌝ }
 {
     let most = ari::cap(limits);
+    // A message has no more items than bytes: a table of 128 serves a small one, and is cleared in a fraction of the time.
     if s.len() <= 128 {
-        return release_small(s, most, grants, published, own, subscriber);
+        let mut entries = [0u64; 128];
+        return release_in(s, most, grants, published, own, subscriber, &mut entries);
     }
     let mut entries = [0u64; ari::ITEMS];
     release_in(s, most, grants, published, own, subscriber, &mut entries)

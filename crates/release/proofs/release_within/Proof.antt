@@ -8,6 +8,7 @@ release-within-spec =
     tie.close
     (tie.spec
     (λ c κs. search needs)
+    (λ c. search needs)
     (λ c κs. search needs)
     (λ c. cc)
     (λ c. search needs)
