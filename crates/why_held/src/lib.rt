@@ -10,7 +10,7 @@ ghost use Rattle.ari.specs.Listing.{listing};
 ghost use Rattle.item_table.specs.Entries.{Tabled};
 ghost use Rattle.names.specs.Translated.{translated};
 ghost use Rattle.release.specs.Release.{no};
-ghost use Rattle.why_held.specs.Chain.{memberOf, linkBy, chain};
+ghost use Rattle.why_held.specs.Chain.{memberOf, linkBy};
 ghost use Rattle.why_held.specs.Why.{noEntry, inRoom, whyBy, why, Few, linkBytes, linksBytes, outcomeIn, whyRoom};
 ghost use Rattle.why_held.specs.Code.{slotMeaningBy, meaningBy, chainBy, reasonBy, placeOf, IsListed, IsHeld, writtenBy};
 use ari::Input;
@@ -252,10 +252,7 @@ fn reason_of(n: Namespace) -> u64
 {
     match n {
         Namespace::Number(_) => NOT_GRANTED,
-        Namespace::Name {
-            place: _,
-            length: _,
-        } => NAME_UNKNOWN,
+        Namespace::Name { .. } => NAME_UNKNOWN,
         Namespace::Relative => RELATIVE,
     }
 }
@@ -362,26 +359,16 @@ fn held_in<'a>(
     }
 }
 
-// A message has no more items than bytes: a table of 128 serves a small one, and is cleared in a fraction of the time.
-fn held_small<'a>(s: &[u8], limits: Limits, published: &'a [u8], own: &'a [u8], entry: usize) -> Why
-    requires { ⌜ (length (now s) ≤ 128) × (limits .bytes < 65536) × (limits .containers < 256) ⌝ }
-    requires { ⌜ limits .containers ≤ gateLimits .containers ⌝ }
-    requires { ⌜ IsHeld limits (now s) entry ⌝ }
-    ensures { λ r. ⌜ r ≡ whyBy (now (s .entry)) (now (published .entry)) (now (own .entry)) (no entry) ⌝ }
-    ensures { λ r. ⌜ Few r ⌝ }
-{
-    let mut entries = [0u64; 128];
-    held_in(s, limits, published, own, entry, &mut entries)
-}
-
 fn held<'a>(s: &[u8], limits: Limits, published: &'a [u8], own: &'a [u8], entry: usize) -> Why
     requires { ⌜ (limits .bytes ≤ gateLimits .bytes) × (limits .items ≤ gateLimits .items) × (limits .containers ≤ gateLimits .containers) ⌝ }
     requires { ⌜ IsHeld limits (now s) entry ⌝ }
     ensures { λ r. ⌜ r ≡ whyBy (now (s .entry)) (now (published .entry)) (now (own .entry)) (no entry) ⌝ }
     ensures { λ r. ⌜ Few r ⌝ }
 {
+    // A message has no more items than bytes: a table of 128 serves a small one, and is cleared in a fraction of the time.
     if s.len() <= 128 {
-        return held_small(s, limits, published, own, entry);
+        let mut entries = [0u64; 128];
+        return held_in(s, limits, published, own, entry, &mut entries);
     }
     let mut entries = [0u64; ari::ITEMS];
     held_in(s, limits, published, own, entry, &mut entries)
@@ -400,9 +387,9 @@ pub fn why_within<'a>(
     ensures { λ r. ⌜ Few r ⌝ }
 {
     match release::release_within(limits, s, grants, published, own, subscriber) {
-        Released::Yes { compared: _ } => without_links(Outcome::Released),
+        Released::Yes { .. } => without_links(Outcome::Released),
         Released::Refused { number, place } => without_links(Outcome::Refused { number, place }),
-        Released::No { entry, compared: _ } => held(s, ari::cap(limits), published, own, entry),
+        Released::No { entry, .. } => held(s, ari::cap(limits), published, own, entry),
     }
 }
 
