@@ -1,21 +1,24 @@
--- The references of one message that match, counted and put. The idea: what is done and what the entries from item k on give is the whole.
-use Prim.Native.Nat.{ℕ, zero, suc, _+_, _-_, _<_, _≤_, min}
+-- The references that match. The idea: what is found and what the entries from item k on give is the whole.
+use Prim.Native.Nat.{ℕ, suc, _+_, _-_, _*_, _<_, _≤_}
 use mathlib.Core.Path.{_≡_, refl, sym, _∙_, ap}
-use mathlib.Core.Bool.{Bool, true, false, cond}
+use mathlib.Core.Bool.{Bool, true, false}
 use mathlib.Core.List.{List, [], _∷_, _++_, append-nil, append-assoc, map}
 use native.Mathlib.Omega.{arith}
-use lib.ListN.{length, getD}
+use lib.ListN.{length, getD, length-append}
+use lib.Seq.{sets}
 use lib.Dec.{eqb}
 use mir.Syntax.{w64}
 use mir.Val.{Fits}
 use Rattle.buffer.specs.Bytes.{be}
 use Rattle.buffer.specs.Put.{Put}
-use Rattle.buffer.proofs.Putting.{put-nothing, put-both}
+use Rattle.buffer.proofs.ByteLaws.{length-be}
+use Rattle.buffer.proofs.Putting.{sets-append, put-both}
 use Rattle.ari.specs.declared.Limits.{Limits}
 use Rattle.ari.specs.declared.Input.the-variants.{Message}
 use Rattle.ari.specs.Listing.{Space, number, name, relative, Entry}
 use Rattle.ari.specs.Reader.{read}
 use Rattle.item_table.specs.Entries.{Tabled}
+use Rattle.item_table.proofs.Entries.{fewer-than-bytes}
 use Rattle.reader.specs.declared.Answer.{Answer}
 use Rattle.reader.specs.declared.Answer.the-variants.{Accepted}
 use Rattle.reader.specs.declared.Answer.the-variants as answers
@@ -30,10 +33,35 @@ use Rattle.listing.proofs.Table.{listingFrom, Here, from-start, from-end, no-re
 use Rattle.names.specs.Translated.{standsFor, translate, translated, standsBy}
 use Rattle.names.proofs.Translation.{stands-code}
 use Rattle.day_search.specs.Search.{Hit, isWord, hitsIn, hitBytes, hitsBytes}
-use Rattle.day_search.specs.Tally.{isSought, matching, matchingIn, matchingFrom, bytesIn, bytesFrom}
+use Rattle.day_search.specs.Tally.{isSought, hitsWithin, hitsOver, Finds}
 use Rattle.day_file.specs.declared.Format.{Format}
 use Rattle.day_file.specs.Day.{firstAt, messageAt}
 use native.Mathlib.Numerals.{add-one}
+
+-- lengths
+length-hit : (h : Hit) → length (hitBytes h) ≡ 24
+length-hit h =
+    omega (arith, length-append (be 8 (h .message)) (be 8 (h .first) ++ be 8 (h .after)), length-append (be 8 (h .first)) (be 8 (h .after)), length-be 8 (h .message), length-be 8 (h .first), length-be 8 (h .after))
+
+pub length-hits : (hs : List Hit) → length (hitsBytes hs) ≡ 24 * length hs
+length-hits [] = refl
+length-hits (h ∷ hs) = omega (arith, length-append (hitBytes h) (hitsBytes hs), length-hit h, length-hits hs)
+
+hits-append : (xs ys : List Hit) → hitsBytes (xs ++ ys) ≡ hitsBytes xs ++ hitsBytes ys
+hits-append [] ys = refl
+hits-append (x ∷ xs) ys = ap (λ (l : List ℕ). hitBytes x ++ l) (hits-append xs ys) ∙ sym (append-assoc (hitBytes x) (hitsBytes xs) (hitsBytes ys))
+
+-- none, and one after the other
+pub finds-none : (o : List ℕ) (c : ℕ) → Finds o o c c []
+finds-none o c = record { bytes = refl; count = omega arith }
+
+finds-both : {o o′ o″ : List ℕ} {c d e : ℕ} {hs gs : List Hit} → Finds o o′ c d hs → Finds o′ o″ d e gs → Finds o o″ c e (hs ++ gs)
+finds-both {o} {o′} {o″} {c} {d} {e} {hs} {gs} p q =
+    let place : 24 * c + length (hitsBytes hs) ≡ 24 * d = omega (arith, length-hits hs, p .count) in
+    record {
+      bytes = q .bytes ∙ sym (rw (hits-append hs gs, sets-append o (24 * c) (hitsBytes hs) (hitsBytes gs), place, ← p .bytes));
+      count = omega (arith, length-append hs gs, p .count, q .count);
+    }
 
 -- the ways of `is_sought`
 module _ (w : ℕ) {n x : Namespace} (e : n ≡ x) where
@@ -58,149 +86,105 @@ sought-is w relative = refl
 abbrev rest : List ℕ → List ℕ → List ℕ → ℕ → List Entry
 rest b published own k = map (translate published own) (listingFrom b k)
 
-pub record Counted (b published own : List ℕ) (w k c : ℕ) : Type 0 where
-  pub so-far : matching w (translated published own b) ≡ c + matching w (rest b published own k)
-
-pub record Putting (b published own : List ℕ) (w message base k : ℕ) (o o′ : List ℕ) (at p : ℕ) : Type 0 where
-  pub done : List ℕ
-  pub put : Put o o′ at p done
-  pub so-far : hitsBytes (hitsIn w message base (translated published own b)) ≡ done ++ hitsBytes (hitsIn w message base (rest b published own k))
+pub record Finding (b published own : List ℕ) (w message base k : ℕ) (o o′ : List ℕ) (c d : ℕ) : Type 0 where
+  pub done : List Hit
+  pub finds : Finds o o′ c d done
+  pub so-far : hitsIn w message base (translated published own b) ≡ done ++ hitsIn w message base (rest b published own k)
 
 module _ {m : Limits} {b ws : List ℕ} {n : ℕ} (c : Tabled m Message b n ws) (published own : List ℕ) (w : ℕ) where
-  pub counted-none : Counted b published own w 0 0
-  counted-none = record { so-far = rw (from-start c) (omega arith) }
+  pub finding-none : (message base : ℕ) (o : List ℕ) (d : ℕ) → Finding b published own w message base 0 o o d d
+  finding-none message base o d = record { done = []; finds = finds-none o d; so-far = rw (from-start c) }
 
-  pub putting-none : (message base : ℕ) (o : List ℕ) (at : ℕ) → Putting b published own w message base 0 o o at at
-  putting-none message base o at = record { done = []; put = put-nothing o at; so-far = rw (from-start c) }
+  pub finding-few : (e : ℕ) {d : ℕ} → d ≤ e + n → d ≤ e + m .items
+  finding-few e h = omega (arith, c .is .few)
 
-  pub counted-few : {d : ℕ} → d ≤ n → d ≤ m .items
-  counted-few h = omega (arith, c .is .few)
+  pub place-fits : {d e k : ℕ} → k < n → d ≤ e + k → e < 4294967296 → Fits w64 (24 * d)
+  place-fits h l s = record { fits = omega (arith, fewer-than-bytes (c .is), c .is .short, c .small) }
 
-  module _ {k d : ℕ} (p : Counted b published own w k d) where
-    pub counted-all : n ≤ k → k ≤ n → d ≡ matching w (translated published own b)
-    counted-all h l = sym (p .so-far ∙ rw (from-end c k h l) (omega arith))
+  module _ {message base k : ℕ} {o o′ : List ℕ} {d e : ℕ} (p : Finding b published own w message base k o o′ d e) where
+    pub finding-all : n ≤ k → k ≤ n → Finds o o′ d e (hitsIn w message base (translated published own b))
+    finding-all h l = rw (p .so-far, from-end c k h l, append-nil) (p .finds)
 
-  module _ {message base k : ℕ} {o o′ : List ℕ} {at q : ℕ} (p : Putting b published own w message base k o o′ at q) where
-    pub putting-all : n ≤ k → k ≤ n → Put o o′ at q (hitsBytes (hitsIn w message base (translated published own b)))
-    putting-all h l = rw (p .so-far, from-end c k h l, append-nil) (p .put)
+    module _ (h : k < n) {r : Reference} (f : r ≡ referenceFrom b (getD ws k 0)) where
+      pub finding-over : r ≡ Nothing → Finding b published own w message base (k + 1) o o′ d e
+      finding-over g = record { done = p .done; finds = p .finds; so-far = p .so-far ∙ rw (no-reference c k h f g) }
 
-  module _ {k : ℕ} (h : k < n) {r : Reference} (f : r ≡ referenceFrom b (getD ws k 0)) where
-    pub counted-over : {d : ℕ} → Counted b published own w k d → r ≡ Nothing → Counted b published own w (k + 1) d
-    counted-over p g = record { so-far = p .so-far ∙ rw (no-reference c k h f g) }
+      module _ {fst aft : ℕ} {v : Namespace} (g : r ≡ To fst aft v) where
+        abbrev x : Here b k fst aft v
+        x = here c k h f g
 
-    pub putting-over : {message base : ℕ} {o o′ : List ℕ} {at q : ℕ} → Putting b published own w message base k o o′ at q → r ≡ Nothing
-        → Putting b published own w message base (k + 1) o o′ at q
-    putting-over p g = record { done = p .done; put = p .put; so-far = p .so-far ∙ rw (no-reference c k h f g) }
+        -- places in the file
+        pub first-fits : base < 4294967296 → Fits w64 (base + fst)
+        first-fits l = record { fits = omega (arith, x .short .0) }
 
-    module _ {fst aft : ℕ} {v : Namespace} (g : r ≡ To fst aft v) where
-      abbrev x : Here b k fst aft v
-      x = here c k h f g
+        pub after-fits : base < 4294967296 → Fits w64 (base + aft)
+        after-fits l = record { fits = omega (arith, x .short .1) }
 
-      -- places in the file
-      module _ {base : ℕ} (l : base < 4294967296) where
-        pub first-fits : Fits w64 (base + fst)
-        first-fits = record { fits = omega (arith, x .short .0) }
+        module _ {y : Bool} (z : y ≡ isSought w (standsBy published own b v)) where
+          is-word : y ≡ isWord w (standsFor published own (x .entry .space))
+          is-word =
+              z ∙ ap (isSought w) (ap (standsBy published own b) (x .space-is) ∙ stands-code published own b (x .entry .space) (x .name-is))
+              ∙ sought-is w (standsFor published own (x .entry .space))
 
-        pub after-fits : Fits w64 (base + aft)
-        after-fits = record { fits = omega (arith, x .short .1) }
+          pub finding-miss : y ≡ false → Finding b published own w message base (k + 1) o o′ d e
+          finding-miss i = record { done = p .done; finds = p .finds; so-far = p .so-far ∙ rw (x .listed, ← is-word, i) }
 
-      module _ {y : Bool} (z : y ≡ isSought w (standsBy published own b v)) where
-        is-word : y ≡ isWord w (standsFor published own (x .entry .space))
-        is-word =
-            z ∙ ap (isSought w) (ap (standsBy published own b) (x .space-is) ∙ stands-code published own b (x .entry .space) (x .name-is))
-            ∙ sought-is w (standsFor published own (x .entry .space))
-
-        pub counted-hit : {d : ℕ} → Counted b published own w k d → y ≡ true → Counted b published own w (k + 1) (d + 1)
-        counted-hit p e = record { so-far = p .so-far ∙ rw (x .listed, ← is-word, e) (omega arith) }
-
-        pub counted-miss : {d : ℕ} → Counted b published own w k d → y ≡ false → Counted b published own w (k + 1) d
-        counted-miss p e = record { so-far = p .so-far ∙ rw (x .listed, ← is-word, e) }
-
-        module _ {message base : ℕ} {o o′ : List ℕ} {at q : ℕ} (p : Putting b published own w message base k o o′ at q) where
-          pub putting-miss : y ≡ false → Putting b published own w message base (k + 1) o o′ at q
-          putting-miss e = record { done = p .done; put = p .put; so-far = p .so-far ∙ rw (x .listed, ← is-word, e) }
-
-          pub putting-hit : y ≡ true → {o″ : List ℕ} {q′ : ℕ} → Put o′ o″ q q′ (be 8 message ++ (be 8 (base + fst) ++ be 8 (base + aft))) → Putting b published own w message base (k + 1) o o″ at q′
-          putting-hit e s =
-              let u : List ℕ = be 8 message ++ (be 8 (base + fst) ++ be 8 (base + aft)) in
-              let this : u ≡ hitBytes (record { message = message; first = base + x .entry .first; after = base + x .entry .after }) =
-              ap (λ (i : ℕ). be 8 message ++ (be 8 (base + i) ++ be 8 (base + aft))) (x .first-is) ∙ ap (λ (i : ℕ). be 8 message ++ (be 8 (base + x .entry .first) ++ be 8 (base + i))) (x .after-is) in
+          pub finding-hit : y ≡ true → {o″ : List ℕ} → o″ ≡ sets o′ (24 * e) (be 8 message ++ (be 8 (base + fst) ++ be 8 (base + aft)))
+              → Finding b published own w message base (k + 1) o o″ d (e + 1)
+          finding-hit i {o″} s =
+              let this : Hit = record { message = message; first = base + x .entry .first; after = base + x .entry .after } in
+              let its : be 8 message ++ (be 8 (base + fst) ++ be 8 (base + aft)) ≡ hitsBytes (this ∷ []) =
+              ap (λ (j : ℕ). be 8 message ++ (be 8 (base + j) ++ be 8 (base + aft))) (x .first-is) ∙ ap (λ (j : ℕ). be 8 message ++ (be 8 (base + x .entry .first) ++ be 8 (base + j))) (x .after-is)
+              ∙ sym (append-nil (hitBytes this)) in
+              let one : Finds o′ o″ e (e + 1) (this ∷ []) = record { bytes = s ∙ ap (sets o′ (24 * e)) its; count = omega arith } in
               record {
-                done = p .done ++ u;
-                put = put-both (p .put) s;
-                so-far =
-                    p .so-far ∙ rw (x .listed, ← is-word, e) (ap (λ (l : List ℕ). p .done ++ (l ++ hitsBytes (hitsIn w message base (rest b published own (k + 1))))) (sym this))
-                    ∙ sym (append-assoc (p .done) u (hitsBytes (hitsIn w message base (rest b published own (k + 1)))));
+                done = p .done ++ (this ∷ []);
+                finds = finds-both (p .finds) one;
+                so-far = p .so-far ∙ rw (x .listed, ← is-word, i) (sym (append-assoc (p .done) (this ∷ []) (hitsIn w message base (rest b published own (k + 1)))));
               }
 
-pub hit-put : {a b c d : List ℕ} {at p q r : ℕ} (x y z : ℕ) → Put a b at p (be 8 x) → Put b c p q (be 8 y) → Put c d q r (be 8 z) → Put a d at r (be 8 x ++ (be 8 y ++ be 8 z))
-hit-put x y z i j k = put-both i (put-both j k)
+pub hit-put : {a b c d : List ℕ} {at p q r : ℕ} (x y z : ℕ) → Put a b at p (be 8 x) → Put b c p q (be 8 y) → Put c d q r (be 8 z) → d ≡ sets a at (be 8 x ++ (be 8 y ++ be 8 z))
+hit-put x y z i j k = put-both i (put-both j k) .bytes
 
-pub ruleset counts = (counted-none, counted-few, counted-all, counted-over, counted-hit, counted-miss)
-
-pub ruleset puts = (putting-none, putting-all, putting-over, first-fits, after-fits, putting-miss, putting-hit, hit-put)
+pub ruleset findings = (finding-none, finding-few, place-fits, finding-all, finding-over, first-fits, after-fits, finding-miss, finding-hit)
 
 -- from the message's answer
-module _ (m : Limits) (b published own : List ℕ) (w : ℕ) {a : Answer} (e : a ≡ answerOf (read m Message b)) where
-  pub none-matching : {r p : ℕ} → a ≡ answers.Refused r p → 0 ≡ matchingIn m published own w b
-  unfolding matchingIn
-  none-matching f = sym (rw (refused m Message b e f))
+module _ (m : Limits) (b published own : List ℕ) (w message base : ℕ) {a : Answer} (e : a ≡ answerOf (read m Message b)) where
+  pub none-found : (o : List ℕ) (c : ℕ) {r p : ℕ} → a ≡ answers.Refused r p → Finds o o c c (hitsWithin m published own w message base b)
+  unfolding hitsWithin
+  none-found o c f = rw (refused m Message b e f) (finds-none o c)
 
-  pub all-matching : {n : ℕ} → a ≡ Accepted n → {c : ℕ} → c ≡ matching w (translated published own b) → c ≡ matchingIn m published own w b
-  unfolding matchingIn
-  all-matching f g = g ∙ sym (rw (accepted m Message b e f))
+  pub all-found : {o o′ : List ℕ} {c d n : ℕ} → a ≡ Accepted n → Finds o o′ c d (hitsIn w message base (translated published own b)) → Finds o o′ c d (hitsWithin m published own w message base b)
+  unfolding hitsWithin
+  all-found f p = rw (accepted m Message b e f) p
 
-  module _ (message base : ℕ) where
-    pub none-put : (o : List ℕ) (at : ℕ) {r p : ℕ} → a ≡ answers.Refused r p → Put o o at at (bytesIn m published own w message base b)
-    unfolding bytesIn
-    none-put o at f = rw (refused m Message b e f) (put-nothing o at)
-
-    pub all-put : {o o′ : List ℕ} {at q n : ℕ} → a ≡ Accepted n → Put o o′ at q (hitsBytes (hitsIn w message base (translated published own b))) → Put o o′ at q (bytesIn m published own w message base b)
-    unfolding bytesIn
-    all-put f p = rw (accepted m Message b e f) p
-
-pub ruleset messages = (none-matching, all-matching, none-put, all-put)
+pub ruleset messages = (none-found, all-found)
 
 -- message by message
-pub record Tallied (f : Format) (m : Limits) (b published own : List ℕ) (w n k c : ℕ) : Type 0 where
-  pub on : matchingFrom f m b published own w 0 n ≡ c + matchingFrom f m b published own w k (n - k)
-
-pub record Written (f : Format) (m : Limits) (b published own : List ℕ) (w n k : ℕ) (o o′ : List ℕ) (p : ℕ) : Type 0 where
-  pub done : List ℕ
-  pub put : Put o o′ 0 p done
-  pub on : bytesFrom f m b published own w 0 n ≡ done ++ bytesFrom f m b published own w k (n - k)
+pub record Passing (f : Format) (m : Limits) (b published own : List ℕ) (w n k : ℕ) (o o′ : List ℕ) (d : ℕ) : Type 0 where
+  pub done : List Hit
+  pub finds : Finds o o′ 0 d done
+  pub on : hitsOver f m b published own w 0 n ≡ done ++ hitsOver f m b published own w k (n - k)
 
 module _ (f : Format) (m : Limits) (b published own : List ℕ) (w n : ℕ) where
-  pub tallied-none : Tallied f m b published own w n 0 0
-  tallied-none = let e : n - 0 ≡ n = omega arith in record { on = rw e (omega arith) }
+  pub passing-none : (o : List ℕ) → Passing f m b published own w n 0 o o 0
+  passing-none o = let e : n - 0 ≡ n = omega arith in record { done = []; finds = finds-none o 0; on = rw e }
 
-  pub written-none : (o : List ℕ) → Written f m b published own w n 0 o o 0
-  written-none o = let e : n - 0 ≡ n = omega arith in record { done = []; put = put-nothing o 0; on = rw e }
-
-  module _ {k c : ℕ} (t : Tallied f m b published own w n k c) where
-    pub tallied-next : k < n → {x : List ℕ} → x ≡ messageAt f b k → {d : ℕ} → d ≡ matchingIn m published own w x → Tallied f m b published own w n (k + 1) (c + d)
-    tallied-next h e g =
-        let q : n - k ≡ suc (n - (k + 1)) = omega arith in
-        record { on = t .on ∙ rw (q, add-one k, g, e) (omega arith) }
-
-    pub tallied-all : n ≤ k → k ≤ n → c ≡ matchingFrom f m b published own w 0 n
-    tallied-all h l = let q : n - k ≡ 0 = omega arith in sym (t .on ∙ rw q (omega arith))
-
-  module _ {k p : ℕ} {o o′ : List ℕ} (t : Written f m b published own w n k o o′ p) where
-    pub written-next : k < n → {x : List ℕ} → x ≡ messageAt f b k → {base : ℕ} → base ≡ firstAt f b k → {o″ : List ℕ} {q : ℕ} → Put o′ o″ p q (bytesIn m published own w k base x)
-        → Written f m b published own w n (k + 1) o o″ q
-    written-next h {x} e {base} g {o″} {q} u =
+  module _ {k d : ℕ} {o o′ : List ℕ} (t : Passing f m b published own w n k o o′ d) where
+    pub passing-next : k < n → {x : List ℕ} → x ≡ messageAt f b k → {base : ℕ} → base ≡ firstAt f b k → {o″ : List ℕ} {e : ℕ} → Finds o′ o″ d e (hitsWithin m published own w k base x)
+        → Passing f m b published own w n (k + 1) o o″ e
+    passing-next h {x} e {base} g u =
         let r : n - k ≡ suc (n - (k + 1)) = omega arith in
-        let this : bytesIn m published own w k (firstAt f b k) (messageAt f b k) ≡ bytesIn m published own w k base x = rw (e, g) in
+        let this : hitsWithin m published own w k (firstAt f b k) (messageAt f b k) ≡ hitsWithin m published own w k base x = rw (e, g) in
         record {
-          done = t .done ++ bytesIn m published own w k base x;
-          put = put-both (t .put) u;
+          done = t .done ++ hitsWithin m published own w k base x;
+          finds = finds-both (t .finds) u;
           on =
-              t .on ∙ rw (r, add-one k) (ap (λ (l : List ℕ). t .done ++ (l ++ bytesFrom f m b published own w (suc k) (n - suc k))) this)
-              ∙ sym (append-assoc (t .done) (bytesIn m published own w k base x) (bytesFrom f m b published own w (suc k) (n - suc k))) ∙ (let z : suc k ≡ k + 1 = omega arith in rw z);
+              t .on ∙ rw (r, add-one k) (ap (λ (l : List Hit). t .done ++ (l ++ hitsOver f m b published own w (suc k) (n - suc k))) this)
+              ∙ sym (append-assoc (t .done) (hitsWithin m published own w k base x) (hitsOver f m b published own w (suc k) (n - suc k))) ∙ (let z : suc k ≡ k + 1 = omega arith in rw z);
         }
 
-    pub written-all : n ≤ k → k ≤ n → Put o o′ 0 p (bytesFrom f m b published own w 0 n)
-    written-all h l = let q : n - k ≡ 0 = omega arith in rw (t .on, q, append-nil) (t .put)
+    pub passing-all : n ≤ k → k ≤ n → Finds o o′ 0 d (hitsOver f m b published own w 0 n)
+    passing-all h l = let q : n - k ≡ 0 = omega arith in rw (t .on, q, append-nil) (t .finds)
 
-pub ruleset days = (tallied-none, tallied-next, tallied-all, written-none, written-next, written-all)
+pub ruleset days = (passing-none, passing-next, passing-all)

@@ -1,8 +1,10 @@
--- Private to src/: what is counted and put, message by message.
+-- Private to src/: what is found, message by message.
 use Prim.Native.Nat.{ℕ, zero, suc, _+_, _*_}
-use mathlib.Core.Bool.{Bool, true, false, cond}
-use mathlib.Core.List.{List, [], _∷_, _++_}
-use lib.ListN.{drop}
+use mathlib.Core.Path.{_≡_}
+use mathlib.Core.Bool.{Bool, false, cond}
+use mathlib.Core.List.{List, [], _++_}
+use lib.ListN.{length}
+use lib.Seq.{sets}
 use lib.Dec.{eqb, ltb}
 use Rattle.ari.specs.declared.Limits.{Limits}
 use Rattle.ari.specs.declared.Input.the-variants.{Message}
@@ -15,7 +17,7 @@ use Rattle.day_file.specs.declared.Format.{Format}
 use Rattle.day_file.specs.Day.{firstAt, messageAt}
 use Rattle.day_search.specs.declared.Searched.{Searched}
 use Rattle.day_search.specs.declared.Searched.the-variants.{Entries, Refused}
-use Rattle.day_search.specs.Search.{Hit, isWord, hitsIn, hitsBytes}
+use Rattle.day_search.specs.Search.{Hit, hitsIn, hitsBytes}
 
 -- a namespace as the code has it
 abbrev pub isSought : ℕ → Namespace → Bool
@@ -23,39 +25,24 @@ isSought w (code.Number v) = eqb v w
 isSought w (code.Name p n) = false
 isSought w code.Relative = false
 
--- how many entries match
-abbrev pub matching : ℕ → List Entry → ℕ
-matching w [] = 0
-matching w (e ∷ es) = let r = matching w es in cond (isWord w (e .space)) (suc r) r
+-- those of a message that is accepted, and none of another
+abbrev pub hitsBy : Answer → ℕ → ℕ → ℕ → List Entry → List Hit
+hitsBy (accept n) w k at es = hitsIn w k at es
+hitsBy (refuse r p) w k at es = []
 
--- of a message that is accepted, and none of another
-abbrev pub matchingBy : Answer → ℕ → List Entry → ℕ
-matchingBy (accept n) w es = matching w es
-matchingBy (refuse r p) w es = 0
+unfoldable pub hitsWithin : Limits → List ℕ → List ℕ → ℕ → ℕ → ℕ → List ℕ → List Hit
+hitsWithin m published own w k at x = hitsBy (read m Message x) w k at (translated published own x)
 
-unfoldable pub matchingIn : Limits → List ℕ → List ℕ → ℕ → List ℕ → ℕ
-matchingIn m published own w x = matchingBy (read m Message x) w (translated published own x)
+-- of n messages from k on
+abbrev pub hitsOver : Format → Limits → List ℕ → List ℕ → List ℕ → ℕ → ℕ → ℕ → List Hit
+hitsOver f m b published own w k zero = []
+hitsOver f m b published own w k (suc n) = hitsWithin m published own w k (firstAt f b k) (messageAt f b k) ++ hitsOver f m b published own w (suc k) n
 
-abbrev pub matchingFrom : Format → Limits → List ℕ → List ℕ → List ℕ → ℕ → ℕ → ℕ → ℕ
-matchingFrom f m b published own w k zero = 0
-matchingFrom f m b published own w k (suc n) = matchingIn m published own w (messageAt f b k) + matchingFrom f m b published own w (suc k) n
+-- in lent room, from entry c on, as far as there is room; r is the number behind them
+pub record Finds (room room′ : List ℕ) (c r : ℕ) (hs : List Hit) : Type 0 where
+  pub bytes : room′ ≡ sets room (24 * c) (hitsBytes hs)
+  pub count : r ≡ c + length hs
 
--- the same as bytes
-abbrev pub bytesBy : Answer → ℕ → ℕ → ℕ → List Entry → List ℕ
-bytesBy (accept n) w k at es = hitsBytes (hitsIn w k at es)
-bytesBy (refuse r p) w k at es = []
-
-unfoldable pub bytesIn : Limits → List ℕ → List ℕ → ℕ → ℕ → ℕ → List ℕ → List ℕ
-bytesIn m published own w k at x = bytesBy (read m Message x) w k at (translated published own x)
-
-abbrev pub bytesFrom : Format → Limits → List ℕ → List ℕ → List ℕ → ℕ → ℕ → ℕ → List ℕ
-bytesFrom f m b published own w k zero = []
-bytesFrom f m b published own w k (suc n) = bytesIn m published own w k (firstAt f b k) (messageAt f b k) ++ bytesFrom f m b published own w (suc k) n
-
--- what the count answers, and what the room holds
+-- what so many answer
 abbrev pub foundOr : ℕ → ℕ → Searched
 foundOr c room = cond (ltb room c) (Refused 16 c) (Entries c)
-
-abbrev pub filled : Searched → List ℕ → List ℕ → List ℕ
-filled (Refused r p) u out = out
-filled (Entries k) u out = u ++ drop (24 * k) out

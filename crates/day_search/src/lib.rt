@@ -1,18 +1,18 @@
 // Search of a day file: the references whose namespace is a number, or a name that stands for it, in all messages.
 ghost use mathlib.Core.Path.{_≡_};
 ghost use mathlib.Core.List.{_++_};
-ghost use Prim.Native.Nat.{_/_, _<_, _≤_, min};
+ghost use Prim.Native.Nat.{_+_, _/_, _<_, _≤_, min};
 ghost use lib.ListN.{length};
+ghost use lib.Seq.{sets};
 ghost use Rattle.buffer.specs.Bytes.{be};
-ghost use Rattle.buffer.specs.Put.{Put};
 ghost use Rattle.ari.specs.declared.Input.the-variants as input;
 ghost use Rattle.ari.specs.Limits.{gateLimits, capped};
 ghost use Rattle.item_table.specs.Entries.{Tabled};
 ghost use Rattle.names.specs.Translated.{standsBy, translated};
 ghost use Rattle.day_file.specs.declared.Day.the-variants.{Messages};
 ghost use Rattle.day_file.specs.Day.{checkDay};
-ghost use Rattle.day_search.specs.Search.{hitsIn, hitsBytes, hits, searchDay, roomAfter};
-ghost use Rattle.day_search.specs.Tally.{isSought, matching, matchingIn, matchingFrom, bytesIn, bytesFrom, foundOr, filled};
+ghost use Rattle.day_search.specs.Search.{hitsIn, hits, searchDay, roomAfter};
+ghost use Rattle.day_search.specs.Tally.{isSought, hitsWithin, hitsOver, Finds, foundOr};
 use ari::Input;
 use ari::Limits;
 use day_file::Day;
@@ -39,60 +39,22 @@ fn is_sought<'a>(
 {
     match names::stands_for(published, own, s, namespace) {
         Namespace::Number(number) => number == word,
-        Namespace::Name {
-            place: _,
-            length: _,
-        } => false,
+        Namespace::Name { .. } => false,
         Namespace::Relative => false,
     }
 }
 
-// How many references of a table match.
-fn count_table<'a>(
-    s: &[u8],
-    limits: Limits,
-    count: usize,
-    entries: &[u64],
-    published: &'a [u8],
-    own: &'a [u8],
-    word: u64,
-) -> usize
-    requires { ⌜ Tabled limits input.Message (now s) count (now entries) ⌝ }
-    ensures { λ r. ⌜ r ≡ matching word (translated (now (published .entry)) (now (own .entry)) (now (s .entry))) ⌝ }
-    ensures { λ r. ⌜ r ≤ limits .items ⌝ }
-{
-    let mut found = 0;
-    let mut k = 0;
-    while k < count {
-        let r = listing::reference_at(s, entries[k]);
-        k += 1;
-        match r {
-            Reference::Nothing => {}
-            Reference::To {
-                first: _,
-                after: _,
-                namespace,
-            } => {
-                if is_sought(published, own, s, namespace, word) {
-                    found += 1;
-                }
-            }
-        }
-    }
-    found
-}
-
 // The 24 bytes of an entry.
-fn put_hit(out: &mut [u8], at: usize, message: u64, first: u64, after: u64) -> usize
-    ensures { λ r. ⌜ Put (now (out .entry)) (now (out .exit)) at r (be 8 message ++ (be 8 first ++ be 8 after)) ⌝ }
+fn put_hit(out: &mut [u8], at: usize, message: u64, first: u64, after: u64)
+    ensures { λ _. ⌜ now (out .exit) ≡ sets (now (out .entry)) at (be 8 message ++ (be 8 first ++ be 8 after)) ⌝ }
 {
     let a = buffer::put8(out, at, message);
     let b = buffer::put8(out, a, first);
-    buffer::put8(out, b, after)
+    buffer::put8(out, b, after);
 }
 
-// The matching references of a table, by their places in the file.
-fn put_table<'a>(
+// The matching references of a table, by their places in the file: entries from number `before` on, as far as there is room; the number behind them.
+fn find_table<'a>(
     s: &[u8],
     limits: Limits,
     count: usize,
@@ -103,13 +65,14 @@ fn put_table<'a>(
     message: usize,
     base: usize,
     out: &mut [u8],
-    at: usize,
+    before: usize,
 ) -> usize
     requires { ⌜ Tabled limits input.Message (now s) count (now entries) ⌝ }
-    requires { ⌜ base < 4294967296 ⌝ }
-    ensures { λ r. ⌜ Put (now (out .entry)) (now (out .exit)) at r (hitsBytes (hitsIn word message base (translated (now (published .entry)) (now (own .entry)) (now (s .entry))))) ⌝ }
+    requires { ⌜ (base < 4294967296) × (before < 4294967296) ⌝ }
+    ensures { λ r. ⌜ Finds (now (out .entry)) (now (out .exit)) before r (hitsIn word message base (translated (now (published .entry)) (now (own .entry)) (now (s .entry)))) ⌝ }
+    ensures { λ r. ⌜ r ≤ before + limits .items ⌝ }
 {
-    let mut p = at;
+    let mut found = before;
     let mut k = 0;
     while k < count {
         let r = listing::reference_at(s, entries[k]);
@@ -122,43 +85,23 @@ fn put_table<'a>(
                 namespace,
             } => {
                 if is_sought(published, own, s, namespace, word) {
-                    p = put_hit(
+                    put_hit(
                         out,
-                        p,
+                        24 * found,
                         message as u64,
                         (base + first) as u64,
                         (base + after) as u64,
                     );
+                    found += 1;
                 }
             }
         }
     }
-    p
+    found
 }
 
-// How many references of a message match; of one that is refused none.
-fn count_message<'a>(
-    limits: Limits,
-    s: &[u8],
-    published: &'a [u8],
-    own: &'a [u8],
-    word: u64,
-    table: &mut [u64],
-) -> usize
-    requires { ⌜ (min (limits .items) (length (now s)) ≤ length (now table)) × (limits .bytes < 65536) × (limits .containers < 256) ⌝ }
-    ensures { λ r. ⌜ r ≡ matchingIn limits (now (published .entry)) (now (own .entry)) word (now (s .entry)) ⌝ }
-    ensures { λ r. ⌜ r ≤ limits .items ⌝ }
-{
-    match reader::keep(Input::Message, limits, s, table) {
-        Answer::Refused {
-            number: _,
-            place: _,
-        } => 0,
-        Answer::Accepted(count) => count_table(s, limits, count, table, published, own, word),
-    }
-}
-
-fn put_message<'a>(
+// Those of a message; of one that is refused none.
+fn find_message<'a>(
     limits: Limits,
     s: &[u8],
     published: &'a [u8],
@@ -167,20 +110,18 @@ fn put_message<'a>(
     message: usize,
     base: usize,
     out: &mut [u8],
-    at: usize,
+    before: usize,
     table: &mut [u64],
 ) -> usize
     requires { ⌜ (min (limits .items) (length (now s)) ≤ length (now table)) × (limits .bytes < 65536) × (limits .containers < 256) ⌝ }
-    requires { ⌜ base < 4294967296 ⌝ }
-    ensures { λ r. ⌜ Put (now (out .entry)) (now (out .exit)) at r (bytesIn limits (now (published .entry)) (now (own .entry)) word message base (now (s .entry))) ⌝ }
+    requires { ⌜ (base < 4294967296) × (before < 4294967296) ⌝ }
+    ensures { λ r. ⌜ Finds (now (out .entry)) (now (out .exit)) before r (hitsWithin limits (now (published .entry)) (now (own .entry)) word message base (now (s .entry))) ⌝ }
+    ensures { λ r. ⌜ r ≤ before + limits .items ⌝ }
 {
     match reader::keep(Input::Message, limits, s, table) {
-        Answer::Refused {
-            number: _,
-            place: _,
-        } => at,
+        Answer::Refused { .. } => before,
         Answer::Accepted(count) => {
-            put_table(
+            find_table(
                 s,
                 limits,
                 count,
@@ -191,14 +132,14 @@ fn put_message<'a>(
                 message,
                 base,
                 out,
-                at,
+                before,
             )
         }
     }
 }
 
-// How many references match in so many messages. The table serves one after the other.
-fn count_day<'a>(
+// Those of so many messages, and how many they are. The table serves one message after the other.
+fn find_day<'a>(
     format: Format,
     limits: Limits,
     file: &[u8],
@@ -206,78 +147,24 @@ fn count_day<'a>(
     published: &'a [u8],
     own: &'a [u8],
     word: u64,
+    out: &mut [u8],
     table: &mut [u64],
 ) -> usize
     requires { ⌜ (limits .items ≤ gateLimits .items) × (gateLimits .items ≤ length (now table)) × (limits .bytes < 65536) × (limits .containers < 256) × (count < 65536) ⌝ }
-    ensures { λ r. ⌜ r ≡ matchingFrom format limits (now (file .entry)) (now (published .entry)) (now (own .entry)) word 0 count ⌝ }
+    ensures { λ r. ⌜ Finds (now (out .entry)) (now (out .exit)) 0 r (hitsOver format limits (now (file .entry)) (now (published .entry)) (now (own .entry)) word 0 count) ⌝ }
 {
     let mut found = 0;
     let mut k = 0;
     while k < count {
         let s = day_file::message_at(format, file, k);
-        found += count_message(limits, s, published, own, word, table);
+        let base = day_file::first_at(format, file, k);
+        found = find_message(limits, s, published, own, word, k, base, out, found, table);
         k += 1;
     }
     found
 }
 
-fn put_day<'a>(
-    format: Format,
-    limits: Limits,
-    file: &[u8],
-    count: usize,
-    published: &'a [u8],
-    own: &'a [u8],
-    word: u64,
-    out: &mut [u8],
-    table: &mut [u64],
-) -> usize
-    requires { ⌜ (limits .items ≤ gateLimits .items) × (gateLimits .items ≤ length (now table)) × (limits .bytes < 65536) × (limits .containers < 256) × (count < 65536) ⌝ }
-    ensures { λ r. ⌜ Put (now (out .entry)) (now (out .exit)) 0 r (bytesFrom format limits (now (file .entry)) (now (published .entry)) (now (own .entry)) word 0 count) ⌝ }
-{
-    let mut p = 0;
-    let mut k = 0;
-    while k < count {
-        let s = day_file::message_at(format, file, k);
-        let base = day_file::first_at(format, file, k);
-        p = put_message(limits, s, published, own, word, k, base, out, p, table);
-        k += 1;
-    }
-    p
-}
-
-// The matching references, where there is room for them.
-fn put_found<'a>(
-    format: Format,
-    limits: Limits,
-    file: &[u8],
-    count: usize,
-    published: &'a [u8],
-    own: &'a [u8],
-    word: u64,
-    out: &mut [u8],
-    table: &mut [u64],
-) -> Searched
-    requires { ⌜ (limits .items ≤ gateLimits .items) × (gateLimits .items ≤ length (now table)) × (limits .bytes < 65536) × (limits .containers < 256) × (count < 65536) ⌝ }
-    requires { ⌜ matchingFrom format limits (now file) (now published) (now own) word 0 count ≤ length (now out) / 24 ⌝ }
-    ensures { λ r. ⌜ r ≡ foundOr (matchingFrom format limits (now (file .entry)) (now (published .entry)) (now (own .entry)) word 0 count) (length (now (out .entry)) / 24) ⌝ }
-    ensures { λ r. ⌜ now (out .exit) ≡ filled r (bytesFrom format limits (now (file .entry)) (now (published .entry)) (now (own .entry)) word 0 count) (now (out .entry)) ⌝ }
-{
-    let end = put_day(
-        format,
-        limits,
-        file,
-        count,
-        published,
-        own,
-        word,
-        out,
-        table,
-    );
-    Searched::Entries(end / 24)
-}
-
-// Those of a file that passes. It has no more than half as many references as bytes: only for less room are they counted before any is put.
+// Those of a file that passes. It has no more than half as many references as bytes: only for less room are they counted, with no room at all, before any is put.
 fn search_messages<'a>(
     format: Format,
     limits: Limits,
@@ -291,11 +178,11 @@ fn search_messages<'a>(
 ) -> Searched
     requires { ⌜ (limits .items ≤ gateLimits .items) × (gateLimits .items ≤ length (now table)) × (limits .bytes < 65536) × (limits .containers < 256) × (count < 65536) ⌝ }
     requires { ⌜ Messages count ≡ checkDay format limits (now file) ⌝ }
-    ensures { λ r. ⌜ r ≡ foundOr (matchingFrom format limits (now (file .entry)) (now (published .entry)) (now (own .entry)) word 0 count) (length (now (out .entry)) / 24) ⌝ }
-    ensures { λ r. ⌜ now (out .exit) ≡ filled r (bytesFrom format limits (now (file .entry)) (now (published .entry)) (now (own .entry)) word 0 count) (now (out .entry)) ⌝ }
+    ensures { λ r. ⌜ r ≡ foundOr (length (hitsOver format limits (now (file .entry)) (now (published .entry)) (now (own .entry)) word 0 count)) (length (now (out .entry)) / 24) ⌝ }
+    ensures { λ r. ⌜ now (out .exit) ≡ roomAfter r (hitsOver format limits (now (file .entry)) (now (published .entry)) (now (own .entry)) word 0 count) (now (out .entry)) ⌝ }
 {
     if file.len() / 2 <= out.len() / 24 {
-        return put_found(
+        let found = find_day(
             format,
             limits,
             file,
@@ -306,15 +193,26 @@ fn search_messages<'a>(
             out,
             table,
         );
+        return Searched::Entries(found);
     }
-    let found = count_day(format, limits, file, count, published, own, word, table);
+    let found = find_day(
+        format,
+        limits,
+        file,
+        count,
+        published,
+        own,
+        word,
+        &mut [],
+        table,
+    );
     if out.len() / 24 < found {
         return Searched::Refused {
             number: 16,
             place: found,
         };
     }
-    put_found(
+    let put = find_day(
         format,
         limits,
         file,
@@ -324,7 +222,8 @@ fn search_messages<'a>(
         word,
         out,
         table,
-    )
+    );
+    Searched::Entries(put)
 }
 
 fn search_within<'a>(

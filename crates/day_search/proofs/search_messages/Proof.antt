@@ -12,6 +12,7 @@ search-messages-spec =
     (λ c. search (rooms, needs))
     (λ c. search (rooms, needs))
     (λ c. search (rooms, needs))
+    (λ c. search (rooms, needs))
     (λ c κs. search (rooms, needs))
     (λ c. search (rooms, needs))
     (λ c. search (rooms, needs))

@@ -1,12 +1,12 @@
--- `day_search::put_message` meets its contract: by the reader's answer.
+-- `day_search::find_message` meets its contract: by the reader's answer.
 use Rattle.day_search.proofs.Finding.{messages}
 use Rattle.reader.proofs.Kept.{tabled}
 use borrow.Author.Needs.{needs}
-use Rattle.day_search.proofs.put_message.Statement.{statement}
-use Rattle.day_search.proofs.put_message.Tie as tie
+use Rattle.day_search.proofs.find_message.Statement.{statement}
+use Rattle.day_search.proofs.find_message.Tie as tie
 
-pub put-message-spec : {M : Type 1} → statement M
-put-message-spec =
+pub find-message-spec : {M : Type 1} → statement M
+find-message-spec =
     tie.close
     (tie.spec
     (λ c κs. search (messages, tabled, needs))
