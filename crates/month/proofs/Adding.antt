@@ -22,12 +22,13 @@ use Rattle.day_file.proofs.Ways.{outline-refused, bad-message, day-passes, size
 use Rattle.month_figures.specs.declared.Month.{Month}
 use Rattle.month_figures.specs.declared.Month.the-variants.{Done, Refused}
 use Rattle.month_figures.specs.Figures.{Message, Source, messageWith, messagesOf, Figures, figures}
-use Rattle.month_figures.specs.State.{words, Holds}
+use Rattle.month_figures.specs.State.{words}
 use Rattle.month.specs.declared.Tally.{Tally}
 use Rattle.month.specs.declared.Walked.{Walked}
 use Rattle.month.specs.declared.Walked.the-variants as walked
 use Rattle.month.specs.Adding.{sourceOf, judged, addedBy, addOf, Adds}
-use Rattle.month.specs.Code.{withMessages, Held, Fetches, FileBy, FileWalked, Settles, CountedBy, CountedOn, unlessRefused, MessagesAdded, filedBy, Files}
+use Rattle.month.specs.Code.{withMessages, Fetches, Settles, CountedBy, CountedOn, MessagesAdded, filedBy, Files}
+use Rattle.month.proofs.Walking.{FileBy, FileWalked}
 use Rattle.month.proofs.Sums.{figures-plus}
 
 refused-not-done : (r p : ℕ) → Refused r p ≡ Done → ⊥

@@ -1,12 +1,11 @@
 -- A message and a file, counted. The idea: what is held now, with what is still to be counted, gives what was held with all of it.
-use Prim.Native.Nat.{ℕ, zero, suc, _+_, _-_, _<_, _≤_, min}
+use Prim.Native.Nat.{ℕ, suc, _+_, _-_, _<_, _≤_}
 use mathlib.Core.Path.{_≡_, refl, sym, _∙_, ap}
-use mathlib.Core.Bool.{Bool, true, false}
-use mathlib.Core.List.{List, [], _∷_, map}
+use mathlib.Core.Bool.{true, false}
+use mathlib.Core.List.{List, _∷_, map}
 use native.Mathlib.Omega.{arith}
 use native.Mathlib.Numerals.{add-one}
 use lib.ListN.{length, getD}
-use lib.Dec.{leb}
 use borrow.Author.Tests.{le-leb}
 use Rattle.ari.specs.declared.Limits.{Limits}
 use Rattle.ari.specs.declared.Input.the-variants as input
@@ -32,7 +31,7 @@ use Rattle.month_figures.specs.Figures.{Message, spaceOf, messageWith, Figures}
 use Rattle.month.specs.declared.Tally.{Tally}
 use Rattle.month.specs.declared.Walked.{Walked}
 use Rattle.month.specs.declared.Walked.the-variants as walked
-use Rattle.month.specs.Code.{withSpace, withSpaces, withCode, withSize, withMessage, withMessages, Held, Goes, sized, MessageWalked, FileWalked}
+use Rattle.month.specs.Code.{withSpace, withSpaces, withCode, withSize, withMessage, withMessages, Held, Goes, sized, MessageWalked}
 use Rattle.month.proofs.Counting.{size-counted}
 
 -- as the code has it
@@ -93,7 +92,7 @@ module _ (m : Limits) (b published own : List ℕ) (t : Tally) (ps cs : List ℕ
 
 pub ruleset messages = (message-refused, message-counted)
 
-pub message-there : (f : Format) (m : Limits) (b : List ℕ) (k : ℕ) (published own : List ℕ) (t : Tally) (ps cs : List ℕ) → k < 65536 → 8 ≤ length b → {x : List ℕ} → x ≡ messageAt f b k
+message-there : (f : Format) (m : Limits) (b : List ℕ) (k : ℕ) (published own : List ℕ) (t : Tally) (ps cs : List ℕ) → k < 65536 → 8 ≤ length b → {x : List ℕ} → x ≡ messageAt f b k
     → {w : Walked} {ps′ cs′ : List ℕ} → MessageWalked m x published own t ps cs w ps′ cs′ → MessageWalked m (messageIn f b k) published own t ps cs w ps′ cs′
 unfolding messageAt
 message-there f m b k published own t ps cs h long e r =
@@ -103,6 +102,15 @@ message-there f m b k published own t ps cs h long e r =
 -- message by message
 abbrev left : Format → List ℕ → List ℕ → List ℕ → ℕ → ℕ → List Message
 left f b published own k n = map (messageWith published own) (messagesFrom f b k n)
+
+-- all messages of a file are counted, or the first that is refused is known
+abbrev pub FileBy : Format → Limits → List ℕ → ℕ → List ℕ → List ℕ → Tally → List ℕ → List ℕ → Walked → List ℕ → List ℕ → Type 0
+FileBy f m b n published own t ps cs (walked.Counted t′) ps′ cs′ =
+    (n ≡ firstNot (messageStands f m b) 0 n) × Goes t ps cs (withMessages (left f b published own 0 n)) t′ ps′ cs′
+FileBy f m b n published own t ps cs (walked.Refused k) ps′ cs′ = (k ≡ firstNot (messageStands f m b) 0 n) × (k < n)
+
+pub record FileWalked (f : Format) (m : Limits) (b : List ℕ) (n : ℕ) (published own : List ℕ) (t : Tally) (ps cs : List ℕ) (r : Walked) (ps′ cs′ : List ℕ) : Type 0 where
+  pub by : FileBy f m b n published own t ps cs r ps′ cs′
 
 pub record Filing (f : Format) (m : Limits) (b published own : List ℕ) (n : ℕ) (t₀ : Tally) (ps₀ cs₀ : List ℕ) (k : ℕ) (t : Tally) (ps cs : List ℕ) : Type 0 where
   pub passing : Passing (messageStands f m b) n k
@@ -124,7 +132,10 @@ module _ (f : Format) (m : Limits) (b published own : List ℕ) (n : ℕ) (t₀ 
           );
         }
 
-    module _ (h : k < n) {w : Walked} {ps′ cs′ : List ℕ} (r : MessageWalked m (messageIn f b k) published own t ps cs w ps′ cs′) where
+    module _ (h : k < n) (few : n < 65536) (long : 8 ≤ length b) {y : List ℕ} (i : y ≡ messageAt f b k) {w : Walked} {ps′ cs′ : List ℕ} (v : MessageWalked m y published own t ps cs w ps′ cs′) where
+      r : MessageWalked m (messageIn f b k) published own t ps cs w ps′ cs′
+      r = message-there f m b k published own t ps cs (omega arith) long i v
+
       stands-as : messageStands f m b k ≡ isAccepted (read m input.Message (messageIn f b k))
       unfolding messageStands
       stands-as = refl

@@ -1,9 +1,9 @@
 -- Private to src/: figures that are counted on, reference by reference, and the words that stand for them meanwhile.
-use Prim.Native.Nat.{ℕ, zero, suc, _+_, _<_, _≤_, min}
+use Prim.Native.Nat.{ℕ, _+_, _<_, _≤_, min}
 use mathlib.Core.Path.{_≡_}
 use mathlib.Core.Bool.{Bool, true, false, _&&_, cond}
 use mathlib.Core.List.{List, [], _∷_, map}
-use lib.ListN.{length, drop, take}
+use lib.ListN.{take}
 use lib.Seq.{sets, paste}
 use lib.Dec.{ltb}
 use Rattle.buffer.specs.Bytes.{all}
@@ -22,7 +22,7 @@ use Rattle.month_lines.specs.Code.{beyond, capped, Lined}
 use Rattle.month_figures.specs.declared.Month.{Month}
 use Rattle.month_figures.specs.declared.Month.the-variants.{Done, Refused}
 use Rattle.month_figures.specs.Figures.{Message, messageWith, turned, placeOf, bytesIn, itemsIn, Figures}
-use Rattle.month_figures.specs.State.{words, firstPlace, firstAmount, word, Holds}
+use Rattle.month_figures.specs.State.{firstPlace, firstAmount, word, Holds}
 use Rattle.month.specs.declared.Tally.{Tally}
 use Rattle.month.specs.declared.Walked.{Walked}
 use Rattle.month.specs.declared.Walked.the-variants as walked
@@ -77,12 +77,6 @@ pub record Held (t : Tally) (ps cs : List ℕ) (f : Figures) : Type 0 where
 pub record Goes (t : Tally) (ps cs : List ℕ) (g : Figures → Figures) (t′ : Tally) (ps′ cs′ : List ℕ) : Type 0 where
   pub on : (f : Figures) → Held t ps cs f → Held t′ ps′ cs′ (g f)
 
-abbrev pub oneUnknown : Tally → Tally
-oneUnknown t = record { messages = t .messages; bytes = t .bytes; items = t .items; unknown = min (t .unknown + 1) beyond; relative = t .relative; lines = t .lines }
-
-abbrev pub oneRelative : Tally → Tally
-oneRelative t = record { messages = t .messages; bytes = t .bytes; items = t .items; unknown = t .unknown; relative = min (t .relative + 1) beyond; lines = t .lines }
-
 abbrev pub sized : Tally → ℕ → ℕ → Tally
 sized t b i = record { messages = min (t .messages + 1) beyond; bytes = min (t .bytes + b) beyond; items = min (t .items + i) beyond; unknown = t .unknown; relative = t .relative; lines = t .lines }
 
@@ -93,15 +87,6 @@ MessageBy m b published own t ps cs (walked.Refused k) ps′ cs′ = isAccepted 
 
 pub record MessageWalked (m : Limits) (b published own : List ℕ) (t : Tally) (ps cs : List ℕ) (r : Walked) (ps′ cs′ : List ℕ) : Type 0 where
   pub by : MessageBy m b published own t ps cs r ps′ cs′
-
--- all messages of a file are counted, or the first that is refused is known
-abbrev pub FileBy : Format → Limits → List ℕ → ℕ → List ℕ → List ℕ → Tally → List ℕ → List ℕ → Walked → List ℕ → List ℕ → Type 0
-FileBy f m b n published own t ps cs (walked.Counted t′) ps′ cs′ =
-    (n ≡ firstNot (messageStands f m b) 0 n) × Goes t ps cs (withMessages (map (messageWith published own) (messagesFrom f b 0 n))) t′ ps′ cs′
-FileBy f m b n published own t ps cs (walked.Refused k) ps′ cs′ = (k ≡ firstNot (messageStands f m b) 0 n) × (k < n)
-
-pub record FileWalked (f : Format) (m : Limits) (b : List ℕ) (n : ℕ) (published own : List ℕ) (t : Tally) (ps cs : List ℕ) (r : Walked) (ps′ cs′ : List ℕ) : Type 0 where
-  pub by : FileBy f m b n published own t ps cs r ps′ cs′
 
 -- a state's words, taken out
 abbrev pub tallyIn : List ℕ → Tally

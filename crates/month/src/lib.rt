@@ -8,13 +8,12 @@ ghost use Rattle.ari.specs.declared.Input.the-variants as input;
 ghost use Rattle.ari.specs.Limits.{gateLimits, capped};
 ghost use Rattle.item_table.specs.Entries.{Tabled};
 ghost use Rattle.names.specs.Translated.{translated};
-ghost use Rattle.month_figures.specs.Figures.{turned, spaceOf, messageWith};
+ghost use Rattle.month_figures.specs.Figures.{spaceOf, messageWith};
 ghost use Rattle.month_figures.specs.State.{words};
 ghost use mathlib.Core.List.{map};
-ghost use Rattle.day_file.specs.Day.{messageIn};
 ghost use Rattle.day_file.specs.Versions.{formatOf, limitsOf};
 ghost use Rattle.month.specs.Adding.{sourceOf, Adds};
-ghost use Rattle.month.specs.Code.{withLine, withCode, withSpaces, withMessage, Goes, oneUnknown, oneRelative, sized, MessageWalked, FileWalked, tallyIn, tallyWords, Fetches, putBack, totalsSmall, linesSmall, Judges, Settles, CountedOn, MessagesAdded, Files};
+ghost use Rattle.month.specs.Code.{withCode, withSpaces, withMessage, Goes, sized, MessageWalked, tallyIn, tallyWords, Fetches, putBack, totalsSmall, linesSmall, Judges, Settles, CountedOn, MessagesAdded, Files};
 use ari::Input;
 use ari::Limits;
 use day_file::Day;
@@ -41,60 +40,35 @@ pub enum Walked {
     Refused(usize),
 }
 
-fn count_number(places: &mut [u64], amounts: &mut [u64], t: Tally, word: u64) -> Tally
-    requires { ⌜ (256 ≤ length (now places)) × (256 ≤ length (now amounts)) ⌝ }
-    ensures { λ r. ⌜ Goes t (now (places .entry)) (now (amounts .entry)) (withLine (turned word)) r (now (places .exit)) (now (amounts .exit)) ⌝ }
-{
-    let lines = month_lines::count(places, amounts, t.lines, month_figures::turned(word));
-    Tally {
-        messages: t.messages,
-        bytes: t.bytes,
-        items: t.items,
-        unknown: t.unknown,
-        relative: t.relative,
-        lines,
-    }
-}
-
-fn one_unknown(t: Tally) -> Tally
-    ensures { λ r. ⌜ r ≡ oneUnknown t ⌝ }
-{
-    Tally {
-        messages: t.messages,
-        bytes: t.bytes,
-        items: t.items,
-        unknown: month_lines::more(t.unknown, 1),
-        relative: t.relative,
-        lines: t.lines,
-    }
-}
-
-fn one_relative(t: Tally) -> Tally
-    ensures { λ r. ⌜ r ≡ oneRelative t ⌝ }
-{
-    Tally {
-        messages: t.messages,
-        bytes: t.bytes,
-        items: t.items,
-        unknown: t.unknown,
-        relative: month_lines::more(t.relative, 1),
-        lines: t.lines,
-    }
-}
-
 // One reference more: to a number, by a name that stands for none, or with no namespace.
-fn count_space(places: &mut [u64], amounts: &mut [u64], t: Tally, namespace: Namespace) -> Tally
+fn count_space(places: &mut [u64], amounts: &mut [u64], mut t: Tally, namespace: Namespace) -> Tally
     requires { ⌜ (256 ≤ length (now places)) × (256 ≤ length (now amounts)) ⌝ }
     ensures { λ r. ⌜ Goes t (now (places .entry)) (now (amounts .entry)) (withCode namespace) r (now (places .exit)) (now (amounts .exit)) ⌝ }
 {
     match namespace {
-        Namespace::Number(word) => count_number(places, amounts, t, word),
-        Namespace::Name {
-            place: _,
-            length: _,
-        } => one_unknown(t),
-        Namespace::Relative => one_relative(t),
+        Namespace::Number(word) => {
+            t.lines = month_lines::count(places, amounts, t.lines, month_figures::turned(word));
+            t
+        }
+        Namespace::Name { .. } => {
+            t.unknown = month_lines::more(t.unknown, 1);
+            t
+        }
+        Namespace::Relative => {
+            t.relative = month_lines::more(t.relative, 1);
+            t
+        }
     }
+}
+
+// A message more, with so many bytes and items.
+fn with_size(mut t: Tally, bytes: usize, items: usize) -> Tally
+    ensures { λ r. ⌜ r ≡ sized t bytes items ⌝ }
+{
+    t.messages = month_lines::more(t.messages, 1);
+    t.bytes = month_lines::more(t.bytes, bytes as u64);
+    t.items = month_lines::more(t.items, items as u64);
+    t
 }
 
 // The references of a table.
@@ -120,31 +94,13 @@ fn count_table<'a>(
         k += 1;
         match r {
             Reference::Nothing => {}
-            Reference::To {
-                first: _,
-                after: _,
-                namespace,
-            } => {
+            Reference::To { namespace, .. } => {
                 let n = names::stands_for(published, own, s, namespace);
                 tally = count_space(places, amounts, tally, n);
             }
         }
     }
     tally
-}
-
-// A message more, with so many bytes and items.
-fn with_size(t: Tally, bytes: usize, items: usize) -> Tally
-    ensures { λ r. ⌜ r ≡ sized t bytes items ⌝ }
-{
-    Tally {
-        messages: month_lines::more(t.messages, 1),
-        bytes: month_lines::more(t.bytes, bytes as u64),
-        items: month_lines::more(t.items, items as u64),
-        unknown: t.unknown,
-        relative: t.relative,
-        lines: t.lines,
-    }
 }
 
 // A message that is accepted.
@@ -192,10 +148,7 @@ fn count_message<'a>(
     ensures { λ r. ⌜ MessageWalked limits (now (s .entry)) (now (published .entry)) (now (own .entry)) t (now (places .entry)) (now (amounts .entry)) r (now (places .exit)) (now (amounts .exit)) ⌝ }
 {
     match reader::keep(Input::Message, limits, s, table) {
-        Answer::Refused {
-            number: _,
-            place: _,
-        } => Walked::Refused(0),
+        Answer::Refused { .. } => Walked::Refused(0),
         Answer::Accepted(count) => {
             Walked::Counted(count_accepted(
                 s,
@@ -210,68 +163,6 @@ fn count_message<'a>(
             ))
         }
     }
-}
-
-// Message k of a file.
-fn count_at<'a>(
-    format: Format,
-    limits: Limits,
-    file: &[u8],
-    k: usize,
-    published: &'a [u8],
-    own: &'a [u8],
-    places: &mut [u64],
-    amounts: &mut [u64],
-    t: Tally,
-    table: &mut [u64],
-) -> Walked
-    requires { ⌜ (limits .items ≤ gateLimits .items) × (gateLimits .items ≤ length (now table)) × (limits .bytes < 65536) × (limits .containers < 256) × (k < 65536) × (8 ≤ length (now file)) ⌝ }
-    requires { ⌜ (256 ≤ length (now places)) × (256 ≤ length (now amounts)) ⌝ }
-    ensures { λ r. ⌜ MessageWalked limits (messageIn format (now (file .entry)) k) (now (published .entry)) (now (own .entry)) t (now (places .entry)) (now (amounts .entry)) r (now (places .exit)) (now (amounts .exit)) ⌝ }
-{
-    let s = day_file::message_at(format, file, k);
-    count_message(limits, s, published, own, places, amounts, t, table)
-}
-
-// The messages of a file whose trailer and table stand, each read once. The table serves one after the other.
-fn count_file<'a>(
-    format: Format,
-    limits: Limits,
-    file: &[u8],
-    count: usize,
-    published: &'a [u8],
-    own: &'a [u8],
-    places: &mut [u64],
-    amounts: &mut [u64],
-    t: Tally,
-    table: &mut [u64],
-) -> Walked
-    requires { ⌜ (limits .items ≤ gateLimits .items) × (gateLimits .items ≤ length (now table)) × (limits .bytes < 65536) × (limits .containers < 256) × (count < 65536) × (8 ≤ length (now file)) ⌝ }
-    requires { ⌜ (256 ≤ length (now places)) × (256 ≤ length (now amounts)) ⌝ }
-    ensures { λ r. ⌜ FileWalked format limits (now (file .entry)) count (now (published .entry)) (now (own .entry)) t (now (places .entry)) (now (amounts .entry)) r (now (places .exit)) (now (amounts .exit)) ⌝ }
-{
-    let mut tally = t;
-    let mut k = 0;
-    while k < count {
-        let w = count_at(
-            format,
-            limits,
-            file,
-            k,
-            published,
-            own,
-            places,
-            amounts,
-            tally,
-            table,
-        );
-        let Walked::Counted(u) = w else {
-            return Walked::Refused(k);
-        };
-        tally = u;
-        k += 1;
-    }
-    Walked::Counted(tally)
 }
 
 fn copy(from: &[u64], at: usize, into: &mut [u64], to: usize, many: usize)
@@ -407,8 +298,8 @@ fn settle(state: &mut [u64], t: Tally, places: &[u64], amounts: &[u64]) -> Month
     }
 }
 
-// A state's figures, with the messages of a file whose trailer and table stand.
-fn count_on<'a>(
+// A state's figures, with the messages of a file whose trailer and table stand, each read once. The table serves one after the other.
+fn count_file<'a>(
     format: Format,
     limits: Limits,
     state: &[u64],
@@ -424,19 +315,18 @@ fn count_on<'a>(
     requires { ⌜ (words ≤ length (now state)) × (256 ≤ length (now places)) × (256 ≤ length (now amounts)) ⌝ }
     ensures { λ r. ⌜ CountedOn format limits (now (file .entry)) count (now (published .entry)) (now (own .entry)) (now (state .entry)) r (now (places .exit)) (now (amounts .exit)) ⌝ }
 {
-    let t = fetch(state, places, amounts);
-    count_file(
-        format,
-        limits,
-        file,
-        count,
-        published,
-        own,
-        places,
-        amounts,
-        t,
-        table,
-    )
+    let mut tally = fetch(state, places, amounts);
+    let mut k = 0;
+    while k < count {
+        let s = day_file::message_at(format, file, k);
+        let w = count_message(limits, s, published, own, places, amounts, tally, table);
+        let Walked::Counted(u) = w else {
+            return Walked::Refused(k);
+        };
+        tally = u;
+        k += 1;
+    }
+    Walked::Counted(tally)
 }
 
 // The messages of a file whose trailer and table stand. A refusal leaves the state as it is.
@@ -456,7 +346,7 @@ fn add_messages<'a>(
     requires { ⌜ (words ≤ length (now state)) × (256 ≤ length (now places)) × (256 ≤ length (now amounts)) ⌝ }
     ensures { λ r. ⌜ MessagesAdded format limits (now (file .entry)) count (now (published .entry)) (now (own .entry)) (now (state .entry)) r (now (state .exit)) ⌝ }
 {
-    match count_on(
+    match count_file(
         format,
         limits,
         state,
@@ -511,35 +401,7 @@ fn add_file<'a>(
     }
 }
 
-// The working memory: a copy of the lines, and the items of one message.
-fn add_counted<'a>(
-    format: Format,
-    limits: Limits,
-    state: &mut [u64],
-    file: &[u8],
-    published: &'a [u8],
-    own: &'a [u8],
-) -> Month
-    requires { ⌜ (limits .items ≤ gateLimits .items) × (limits .bytes < 65536) × (limits .containers < 256) × (words ≤ length (now state)) ⌝ }
-    ensures { λ r. ⌜ Files format limits (now (file .entry)) (now (published .entry)) (now (own .entry)) (now (state .entry)) r (now (state .exit)) ⌝ }
-{
-    let mut places = [0u64; month_lines::LINES];
-    let mut amounts = [0u64; month_lines::LINES];
-    let mut table = [0u64; ari::ITEMS];
-    add_file(
-        format,
-        limits,
-        state,
-        file,
-        published,
-        own,
-        &mut places,
-        &mut amounts,
-        &mut table,
-    )
-}
-
-// Where the lists are wrong the file is only checked.
+// Where the lists are wrong the file is only checked. The working memory is a copy of the lines, and the items of one message.
 fn add_listed<'a>(
     format: Format,
     limits: Limits,
@@ -552,7 +414,22 @@ fn add_listed<'a>(
     ensures { λ r. ⌜ Adds limits (now (state .entry)) (sourceOf format (now (file .entry)) (now (published .entry)) (now (own .entry))) r (now (state .exit)) ⌝ }
 {
     match names::check_names(published, own) {
-        Names::Passes => add_counted(format, limits, state, file, published, own),
+        Names::Passes => {
+            let mut places = [0u64; month_lines::LINES];
+            let mut amounts = [0u64; month_lines::LINES];
+            let mut table = [0u64; ari::ITEMS];
+            add_file(
+                format,
+                limits,
+                state,
+                file,
+                published,
+                own,
+                &mut places,
+                &mut amounts,
+                &mut table,
+            )
+        }
         Names::Refused { place } => match day_file::check(format, limits, file) {
             Day::Refused { number, place } => Month::Refused { number, place },
             Day::Messages(_) => Month::Refused {

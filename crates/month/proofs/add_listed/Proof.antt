@@ -10,6 +10,9 @@ add-listed-spec =
     (tie.spec
     (λ c κs. search (adds, needs))
     (λ c. search (adds, needs))
+    (λ c. search (adds, needs))
+    (λ c. search (adds, needs))
+    (λ c. search (adds, needs))
     (λ c κs. search (adds, needs))
     (λ c. search (adds, needs))
     (λ c κs. search (adds, needs))

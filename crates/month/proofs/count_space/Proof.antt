@@ -1,4 +1,4 @@
--- `month::count_space` meets its contract: by what it stands for.
+-- `month::count_space` meets its contract: by the namespace.
 use Rattle.month.proofs.Counting.{counts}
 use borrow.Author.Needs.{needs}
 use Rattle.month.proofs.count_space.Statement.{statement}
@@ -9,6 +9,7 @@ count-space-spec =
     tie.close
     (tie.spec
     (λ c. search (counts, needs))
+    (λ c κs. search (counts, needs))
     (λ c κs. search (counts, needs))
     (λ c. search (counts, needs))
     (λ c κs. search (counts, needs))
