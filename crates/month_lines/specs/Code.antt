@@ -5,7 +5,7 @@ use mathlib.Core.List.{List, [], _∷_, _++_, map}
 use mathlib.Core.Bool.{Bool, _&&_}
 use lib.Dec.{eqb, ltb}
 use lib.ListN.{length, take, drop, getD}
-use Rattle.month_lines.specs.Lines.{Line, counted, Rising, mostLines, mostTotal}
+use Rattle.month_lines.specs.Lines.{Line, counted, Rising, mostLines}
 
 -- a total as a word: one past the most stands for all that are beyond it
 abbrev pub beyond : ℕ
