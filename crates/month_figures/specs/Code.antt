@@ -1,5 +1,5 @@
 -- Private to src/: the bytes of a state's words, whatever they are.
-use Prim.Native.Nat.{ℕ, zero, suc, _+_, min}
+use Prim.Native.Nat.{ℕ, zero, suc, _+_}
 use mathlib.Core.List.{List, [], _∷_, _++_}
 use Rattle.buffer.specs.Bytes.{be}
 use Rattle.month_figures.specs.Figures.{turned}

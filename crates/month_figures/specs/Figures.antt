@@ -1,5 +1,5 @@
 -- Month figures: R209 to R213. Interface: all of it. There is no state in it: each figure is a sum over the messages of the month.
-use Prim.Native.Nat.{ℕ, suc, _+_, _-_}
+use Prim.Native.Nat.{ℕ, _+_, _-_}
 use mathlib.Core.Bool.{Bool, true, false, _&&_, cond}
 use mathlib.Core.List.{List, [], _∷_, _++_, map}
 use lib.ListN.{length}
