@@ -11,7 +11,6 @@ use Rattle.buffer.specs.declared.Number.the-variants.{Value, Bad}
 use Rattle.buffer.specs.Put.{Put}
 use Rattle.buffer.specs.Bytes.{part}
 use Rattle.buffer.specs.Decimal.{digits, decimal, pushOf, onward, digitsOf, unsignedOf, positiveOf, negativeOf, signedOf}
-use Rattle.buffer.proofs.Putting.{put-size, put-both}
 use Rattle.buffer.proofs.RunLaws.{here, beyond, part-all}
 use Rattle.buffer.proofs.DecimalLaws.{tenth-lt}
 
@@ -29,22 +28,9 @@ pub tenth-fits : (f n : ℕ) → n < 10 ^ (f + 1) → 10 ≤ n → n / 10 < 10 ^
 tenth-fits zero n h l = absurd (omega arith)
 tenth-fits (suc f) n h l = let z : suc f - 1 + 1 ≡ suc f = omega arith in rw z (tenth-lt (suc f) n (rw add-one at h))
 
-pub more-digits : {a b c : List ℕ} {at q r x : ℕ} (f n : ℕ) → 1 ≤ f → 10 ≤ n → Put a b at q (digits (f - 1) (n / 10)) → x ≡ 48 + n % 10 → Put b c q r (x ∷ [])
-    → Put a c at r (digits f n)
-unfolding digits
-more-digits zero n g h p e w = absurd (omega arith)
-more-digits (suc f) n g h p e w =
-    let z : suc f - 1 ≡ f = omega arith in
-    rw (le-ltb n 10 h) (put-both (rw z at p) (rw e at w))
-
 pub as-decimal : {a b : List ℕ} {at r : ℕ} (n : ℕ) → Put a b at r (digits 19 n) → Put a b at r (decimal n)
 unfolding decimal
 as-decimal n p = p
-
-pub down : (f t : ℕ) → 1 ≤ f → f ≡ t → f - 1 < t
-down f t h e = omega arith
-
-pub ruleset writing = (put-size, few-digits, fewer, tenth-fits, more-digits, as-decimal)
 
 -- a digit is read
 module _ (n x : ℕ) where

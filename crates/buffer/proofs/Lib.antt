@@ -5,3 +5,5 @@ pub mod RunLaws
 pub mod SameWays
 pub mod DecimalLaws
 pub mod DecimalWays
+pub mod Decimals
+pub mod Eights

@@ -1,7 +1,7 @@
 // Plain bytes in lent memory: bytes and numbers are put, stored, loaded, written and read in decimal, and compared.
 ghost use mathlib.Core.Path.{_≡_};
 ghost use mathlib.Core.List.{[], _∷_};
-ghost use Prim.Native.Nat.{_+_, _*_, _^_, _<_, _≤_, min};
+ghost use Prim.Native.Nat.{_+_, _*_, _/_, _%_, _^_, _<_, _≤_, min};
 ghost use lib.ListN.{length, take, drop};
 ghost use lib.Seq.{sets};
 ghost use Rattle.buffer.specs.Put.{Put};
@@ -100,22 +100,44 @@ fn digit(n: u64) -> u8
     b'0' + n as u8
 }
 
-// The digits of a number, at most f and one.
-fn put_digits(out: &mut [u8], at: usize, f: usize, n: u64) -> usize
-    requires { ⌜ n < 10 ^ (f + 1) ⌝ }
+fn put_two(out: &mut [u8], at: usize, n: u64) -> usize
+    requires { ⌜ n < 100 ⌝ }
+    ensures { λ r. ⌜ Put (now (out .entry)) (now (out .exit)) at r (digitOf (n / 10) ∷ digitOf (n % 10) ∷ []) ⌝ }
+{
+    let q = put(out, at, digit(n / 10));
+    put(out, q, digit(n % 10))
+}
+
+// One digit or two, where at most f and one may stand.
+fn put_few(out: &mut [u8], at: usize, f: usize, n: u64) -> usize
+    requires { ⌜ (n < 100) × (n < 10 ^ (f + 1)) ⌝ }
     ensures { λ r. ⌜ Put (now (out .entry)) (now (out .exit)) at r (digits f n) ⌝ }
 {
     if n < 10 {
         return put(out, at, digit(n));
     }
-    let q = put_digits(out, at, f - 1, n / 10);
-    put(out, q, digit(n % 10))
+    put_two(out, at, n)
+}
+
+// The digits of a number, at most f and one: two at a time, which halves the steps.
+fn put_digits(out: &mut [u8], at: usize, f: usize, n: u64) -> usize
+    requires { ⌜ n < 10 ^ (f + 1) ⌝ }
+    ensures { λ r. ⌜ Put (now (out .entry)) (now (out .exit)) at r (digits f n) ⌝ }
+{
+    if n < 100 {
+        return put_few(out, at, f, n);
+    }
+    let q = put_digits(out, at, f - 2, n / 100);
+    put_two(out, q, n % 100)
 }
 
 // A number in plain decimal.
 pub fn put_decimal(out: &mut [u8], at: usize, n: u64) -> usize
     ensures { λ r. ⌜ Put (now (out .entry)) (now (out .exit)) at r (decimal n) ⌝ }
 {
+    if n < 100 {
+        return put_few(out, at, 19, n);
+    }
     put_digits(out, at, 19, n)
 }
 
@@ -337,8 +359,8 @@ pub fn signed(t: &[u8]) -> Number
     positive(n)
 }
 
-// Two runs of bytes are the same.
-pub fn same(a: &[u8], b: &[u8]) -> bool
+// Two runs of bytes are the same, byte by byte.
+fn same_bytes(a: &[u8], b: &[u8]) -> bool
     ensures { λ r. ⌜ r ≡ same (now (a .entry)) (now (b .entry)) ⌝ }
 {
     if a.len() != b.len() {
@@ -352,4 +374,31 @@ pub fn same(a: &[u8], b: &[u8]) -> bool
         i += 1;
     }
     true
+}
+
+// The same eight bytes stand at a place of two runs.
+fn same_eight(a: &[u8], b: &[u8], i: usize) -> bool
+    requires { ⌜ (i + 8 ≤ length (now a)) × (i + 8 ≤ length (now b)) ⌝ }
+    ensures { λ r. ⌜ r ≡ same (take 8 (drop i (now (a .entry)))) (take 8 (drop i (now (b .entry)))) ⌝ }
+{
+    load8(a, i) == load8(b, i)
+}
+
+// Two runs of bytes are the same: eight bytes at a time, and then one by one.
+pub fn same(a: &[u8], b: &[u8]) -> bool
+    ensures { λ r. ⌜ r ≡ same (now (a .entry)) (now (b .entry)) ⌝ }
+{
+    if a.len() != b.len() {
+        return false;
+    }
+    let mut i = 0;
+    while 8 <= a.len() - i {
+        if same_eight(a, b, i) {
+            i += 8;
+        } else {
+            return false;
+        }
+    }
+    let end = a.len();
+    same_bytes(&a[i..end], &b[i..end])
 }

@@ -1,15 +1,14 @@
 // An ARI's text is read: one walk along the slots puts a candidate's bytes, which count only if they are an accepted ARI whose own text is the text that was read.
 ghost use mathlib.Core.Path.{_≡_};
 ghost use mathlib.Core.Bool.{cond};
-ghost use Prim.Native.Nat.{_+_, _<_, _≤_};
-ghost use lib.ListN.{length, take, drop};
+ghost use Prim.Native.Nat.{_<_, _≤_};
+ghost use lib.ListN.{length, drop};
 ghost use Rattle.ari.specs.Table.{due};
 ghost use Rattle.ari.specs.Limits.{gateLimits, capped};
 ghost use Rattle.ari.specs.Items.{encode};
 ghost use Rattle.grammar.specs.Code.{slotOf};
 ghost use Rattle.grammar.specs.Code.{IsSlot};
 ghost use Rattle.reader.specs.Walks.{insideLevel};
-ghost use Rattle.buffer.specs.Bytes.{same};
 ghost use Rattle.buffer.specs.Put.{Put};
 ghost use Rattle.text.specs.Parse.{level, parse, candidate};
 ghost use Rattle.text.specs.Answer.{refused, output, writeText, checked, readText, lent};
@@ -152,33 +151,6 @@ fn hand_over_if(spelled: bool, b: &[u8], count: usize, out: &mut [u8]) -> Writte
     }
 }
 
-// The same eight bytes stand at a place of two runs.
-fn same_eight(a: &[u8], b: &[u8], i: usize) -> bool
-    requires { ⌜ (i + 8 ≤ length (now a)) × (i + 8 ≤ length (now b)) ⌝ }
-    ensures { λ r. ⌜ r ≡ same (take 8 (drop i (now (a .entry)))) (take 8 (drop i (now (b .entry)))) ⌝ }
-{
-    buffer::load8(a, i) == buffer::load8(b, i)
-}
-
-// Two runs of bytes are the same: eight bytes at a time, and then one by one.
-fn same_text(a: &[u8], b: &[u8]) -> bool
-    ensures { λ r. ⌜ r ≡ same (now (a .entry)) (now (b .entry)) ⌝ }
-{
-    if a.len() != b.len() {
-        return false;
-    }
-    let mut i = 0;
-    while 8 <= a.len() - i {
-        if same_eight(a, b, i) {
-            i += 8;
-        } else {
-            return false;
-        }
-    }
-    let end = a.len();
-    buffer::same(&a[i..end], &b[i..end])
-}
-
 // Bytes are handed over, if they are an ARI whose text is t. The scratch has room for more than t: a longer text does not pass for it.
 fn confirm(limits: Limits, t: &[u8], b: &[u8], scratch: &mut [u8], out: &mut [u8]) -> Written
     requires { ⌜ length (now t) < length (now scratch) ⌝ }
@@ -192,7 +164,7 @@ fn confirm(limits: Limits, t: &[u8], b: &[u8], scratch: &mut [u8], out: &mut [u8
             place: 0,
         };
     };
-    let spelled = same_text(&scratch[0..length], t);
+    let spelled = buffer::same(&scratch[0..length], t);
     hand_over_if(spelled, b, count, out)
 }
 

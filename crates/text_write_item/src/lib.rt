@@ -2,10 +2,9 @@
 ghost use mathlib.Core.Path.{_≡_};
 ghost use mathlib.Core.Bool.{cond};
 ghost use mathlib.Core.List.{[], _∷_};
-ghost use Prim.Native.Nat.{_+_, _/_, _%_, _^_, _<_, _≤_};
+ghost use Prim.Native.Nat.{_+_, _<_, _≤_};
 ghost use lib.ListN.{length};
 ghost use Rattle.buffer.specs.Put.{Put};
-ghost use Rattle.buffer.specs.Decimal.{digitOf, digits, decimal};
 ghost use Rattle.text_write_item.specs.Head.{headOf};
 ghost use Rattle.text.specs.Chars.{integer, hex, hexes, bare, escape, each, textString, byteString, simpleText, literalText, nameText};
 ghost use Rattle.text.specs.Text.{typeName};
@@ -93,54 +92,6 @@ fn put_bytes(out: &mut [u8], at: usize, s: &[u8]) -> usize
     buffer::put_all(out, r, b"%27")
 }
 
-// A decimal digit.
-fn digit(n: u64) -> u8
-    requires { ⌜ n < 10 ⌝ }
-    ensures { λ r. ⌜ r ≡ digitOf n ⌝ }
-{
-    b'0' + n as u8
-}
-
-// Numbers in decimal, two digits at a time: half the steps of `buffer::put_decimal`, and most numbers of an ARI need none.
-fn put_two(out: &mut [u8], at: usize, n: u64) -> usize
-    requires { ⌜ n < 100 ⌝ }
-    ensures { λ r. ⌜ Put (now (out .entry)) (now (out .exit)) at r (digitOf (n / 10) ∷ digitOf (n % 10) ∷ []) ⌝ }
-{
-    let q = buffer::put(out, at, digit(n / 10));
-    buffer::put(out, q, digit(n % 10))
-}
-
-// One digit or two, where at most f and one may stand.
-fn put_few(out: &mut [u8], at: usize, f: usize, n: u64) -> usize
-    requires { ⌜ (n < 100) × (n < 10 ^ (f + 1)) ⌝ }
-    ensures { λ r. ⌜ Put (now (out .entry)) (now (out .exit)) at r (digits f n) ⌝ }
-{
-    if n < 10 {
-        return buffer::put(out, at, digit(n));
-    }
-    put_two(out, at, n)
-}
-
-fn put_digits(out: &mut [u8], at: usize, f: usize, n: u64) -> usize
-    requires { ⌜ n < 10 ^ (f + 1) ⌝ }
-    ensures { λ r. ⌜ Put (now (out .entry)) (now (out .exit)) at r (digits f n) ⌝ }
-{
-    if n < 100 {
-        return put_few(out, at, f, n);
-    }
-    let q = put_digits(out, at, f - 2, n / 100);
-    put_two(out, q, n % 100)
-}
-
-fn put_decimal(out: &mut [u8], at: usize, n: u64) -> usize
-    ensures { λ r. ⌜ Put (now (out .entry)) (now (out .exit)) at r (decimal n) ⌝ }
-{
-    if n < 100 {
-        return put_few(out, at, 19, n);
-    }
-    put_digits(out, at, 19, n)
-}
-
 // An integer below 0: the argument n means -1 - n.
 fn put_negative(out: &mut [u8], at: usize, arg: u64) -> usize
     ensures { λ r. ⌜ Put (now (out .entry)) (now (out .exit)) at r (integer 1 arg) ⌝ }
@@ -149,7 +100,7 @@ fn put_negative(out: &mut [u8], at: usize, arg: u64) -> usize
     if arg == 18446744073709551615 {
         return buffer::put_all(out, q, b"18446744073709551616");
     }
-    put_decimal(out, q, arg + 1)
+    buffer::put_decimal(out, q, arg + 1)
 }
 
 fn put_integer(out: &mut [u8], at: usize, kind: u8, arg: u64) -> usize
@@ -158,7 +109,7 @@ fn put_integer(out: &mut [u8], at: usize, kind: u8, arg: u64) -> usize
     if kind == 1 {
         return put_negative(out, at, arg);
     }
-    put_decimal(out, at, arg)
+    buffer::put_decimal(out, at, arg)
 }
 
 fn put_simple(out: &mut [u8], at: usize, arg: u64) -> usize

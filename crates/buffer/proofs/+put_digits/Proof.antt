@@ -1,5 +1,5 @@
--- `buffer::put_digits` meets its contract: a tenth's digits, then one more. The measure is how many digits may stand before the last.
-use Rattle.buffer.proofs.DecimalWays.{writing, down}
+-- `buffer::put_digits` meets its contract: a hundredth's digits, then two more. The measure is how many digits may stand before the last.
+use Rattle.buffer.proofs.Decimals.{decimals, two-down}
 use borrow.Author.Needs.{needs}
 use Prim.Native.Nat.{ℕ, _<_}
 use borrow.Fn.Kinds.{In}
@@ -7,8 +7,8 @@ use borrow.Fn.PlainCycle.{Measures, is, falls, and}
 use Rattle.buffer.proofs.put_digits.Reads as put-digits
 use Rattle.buffer.proofs.put_digits.Kinds as put-digits-kinds
 use Rattle.buffer.proofs.+put_digits.Lts-put_digits as put-digits-lts
-use Rattle.buffer.proofs.digit.Reads as digit-reads
-use Rattle.buffer.proofs.put.Reads as put-reads
+use Rattle.buffer.proofs.put_few.Reads as put-few-reads
+use Rattle.buffer.proofs.put_two.Reads as put-two-reads
 use Rattle.buffer.proofs.+put_digits.{statement}
 use Rattle.buffer.proofs.+put_digits.Tie.{close}
 
@@ -25,22 +25,20 @@ put-digits-below t =
 
 pub +put-digits-spec : {M : Type 1} → statement M
 +put-digits-spec = close μ-put-digits λ t. put-digits-lts.spec (
-  digit-reads.Asked,
-  digit-reads.Learnt,
-  put-reads.Asked,
-  put-reads.Learnt,
+  put-few-reads.Asked,
+  put-few-reads.Learnt,
   put-digits-below t,
   put-digits.Post,
+  put-two-reads.Asked,
+  put-two-reads.Learnt,
 )
     (put-digits-at t)
     put-digits.Post
-    (λ c κs. search (writing, needs))
-    (λ c κs. search (writing, needs))
-    (λ c. search (writing, needs))
-    (λ c. search (writing, needs))
-    (λ c. search (writing, needs))
-    (λ c κs. (search (down, writing, needs), search (writing, needs)))
-    (λ c κs. search (writing, needs))
-    (λ c κs. search (writing, needs))
-    (λ c. search (writing, needs))
-    (λ c. search (writing, needs))
+    (λ c κs. search (decimals, needs))
+    (λ c. search (decimals, needs))
+    (λ c. search (decimals, needs))
+    (λ c. search (decimals, needs))
+    (λ c κs. (search (two-down, decimals, needs), search (decimals, needs)))
+    (λ c κs. search (decimals, needs))
+    (λ c. search (decimals, needs))
+    (λ c. search (decimals, needs))

@@ -3,7 +3,7 @@ use Prim.Native.Nat.{_-_, _≤_}
 use mathlib.Core.Path.{_≡_}
 use lib.ListN.{length, drop}
 use Rattle.buffer.specs.Bytes.{same}
-use Rattle.buffer.proofs.SameWays.{comparing}
+use Rattle.buffer.proofs.Eights.{comparing}
 use borrow.Author.Needs.{needs}
 use Rattle.buffer.proofs.same.Statement.{statement}
 use Rattle.buffer.proofs.same.Tie as tie
@@ -23,9 +23,16 @@ same-spec =
     (λ c. search (comparing, needs))
     (λ c. search (comparing, needs))
     (λ c. search (comparing, needs))
+    (λ c κs. search (comparing, needs))
     (λ c. search (comparing, needs))
     (λ c. search (comparing, needs))
     (λ c. search (comparing, needs))
     (λ c. search (comparing, needs))
     (λ c. search (comparing, needs))
+    (λ c. search (comparing, needs))
+    (λ c. search (comparing, needs))
+    (λ c. search (comparing, needs))
+    (λ c. search (comparing, needs))
+    (λ c. search (comparing, needs))
+    (λ c κs. search (comparing, needs))
     (λ c. search (comparing, needs)))

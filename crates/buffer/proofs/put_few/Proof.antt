@@ -1,7 +1,7 @@
-use Rattle.text_write_item.proofs.Decimals.{decimals}
+use Rattle.buffer.proofs.Decimals.{decimals}
 use borrow.Author.Needs.{needs}
-use Rattle.text_write_item.proofs.put_few.Statement.{statement}
-use Rattle.text_write_item.proofs.put_few.Tie as tie
+use Rattle.buffer.proofs.put_few.Statement.{statement}
+use Rattle.buffer.proofs.put_few.Tie as tie
 
 pub put-few-spec : {M : Type 1} → statement M
 put-few-spec =

@@ -7,10 +7,11 @@ use native.Mathlib.Omega.{arith}
 use lib.ListN.{length, take, drop, length-drop}
 use lib.Seq.{drop-drop}
 use borrow.Author.Tests.{le-leb, eq-eqb, eqb-true, eqb-false}
 use Rattle.buffer.specs.Bytes.{all, isByte, be, value, loadAt, same, part}
 use lib.Dec.{eqb}
-use Rattle.buffer.proofs.ByteLaws.{all-drop, value-part-be, same-is, same-self, same-length}
+use Rattle.buffer.proofs.ByteLaws.{all-drop, value-part-be, same-is, same-self}
+use Rattle.buffer.proofs.SameWays.{lengths-differ}
 use Rattle.buffer.proofs.RunLaws.{part-all}
 
 -- what is alike in front does not matter
 same-behind : (n : ℕ) (u v : List ℕ) → take n u ≡ take n v → length u ≡ length v → same u v ≡ same (drop n u) (drop n v)
@@ -24,9 +25,6 @@ same-behind (suc n) (x ∷ u) (y ∷ v) e l =
     rw (eq-eqb x y q) (same-behind n u v r (omega arith))
 
 module _ (a b : List ℕ) where
-  pub lengths-differ : (length a ≡ length b → ⊥) → false ≡ same a b
-  lengths-differ n = sym (same-length a b n)
-
   module _ (i : ℕ) (l : length a ≡ length b) (e : same (drop i a) (drop i b) ≡ same a b) where
     pub rest-decides : {r : Bool} → r ≡ same (part a i (length a)) (part b i (length a)) → r ≡ same a b
     rest-decides q = q ∙ rw (part-all a i, l, part-all b i) e

@@ -1,7 +1,7 @@
-use Rattle.text_write_item.proofs.Decimals.{decimals}
+use Rattle.buffer.proofs.Decimals.{decimals}
 use borrow.Author.Needs.{needs}
-use Rattle.text_write_item.proofs.put_two.Statement.{statement}
-use Rattle.text_write_item.proofs.put_two.Tie as tie
+use Rattle.buffer.proofs.put_two.Statement.{statement}
+use Rattle.buffer.proofs.put_two.Tie as tie
 
 pub put-two-spec : {M : Type 1} → statement M
 put-two-spec =

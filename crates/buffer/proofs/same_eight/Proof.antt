@@ -1,9 +1,9 @@
--- `text_read::same_eight` meets its contract: as numbers of eight bytes.
+-- `buffer::same_eight` meets its contract: as numbers of eight bytes.
 use Rattle.buffer.proofs.ByteLaws.{all-bytes}
-use Rattle.text_read.proofs.Comparing.{eight-is}
+use Rattle.buffer.proofs.Eights.{eight-is}
 use borrow.Author.Needs.{needs}
-use Rattle.text_read.proofs.same_eight.Statement.{statement}
-use Rattle.text_read.proofs.same_eight.Tie as tie
+use Rattle.buffer.proofs.same_eight.Statement.{statement}
+use Rattle.buffer.proofs.same_eight.Tie as tie
 
 pub same-eight-spec : {M : Type 1} → statement M
 same-eight-spec =
