@@ -2,18 +2,19 @@
 -- containers below theirs, and every slot that is due has a number.
 use Prim.Native.Nat.{ℕ, zero, suc, pred, _+_, _-_, _*_, _/_, _%_, _≤_, _<_, min}
 use mathlib.Core.Path.{_≡_, refl, sym, _∙_, ap}
-use mathlib.Core.Bool.{Bool, true, false, not, _&&_, cond}
+use mathlib.Core.Bool.{Bool, true, false, not, _&&_, cond, and-false}
+use mathlib.Core.Bool as bool
 use mathlib.Core.List.{List, [], _∷_, _++_, map}
 use native.Mathlib.Omega.{arith}
 use lib.ListN.{length, getD, drop, length-map, List·getD-append}
 use lib.Seq.{sets as stored, sets-eq}
 use lib.Dec.{eqb}
 use borrow.Author.Tests.{eqb-true, not-true, not-false, ne-eqb, eq-eqb}
-use Rattle.cbor.specs.Head.{Lead, Sound, counted, a-simple, a-float, size, stringSize, leadBytes, isContainer}
+use Rattle.cbor.specs.Head.{array, Lead, Sound, counted, a-simple, a-float, size, stringSize, leadBytes, isContainer}
 use Rattle.cbor.specs.declared.Head.the-variants.{Good}
 use Rattle.cbor.specs.Answer.{headAt}
 use Rattle.buffer.proofs.ByteLaws.{and-true}
-use Rattle.cbor.proofs.HeadLaws.{getHead-back}
+use Rattle.cbor.proofs.HeadLaws.{width-le, getHead-back}
 use Rattle.ari.specs.Table.{message, Slot, ari, Level, done, due, rule, members, isReference}
 use Rattle.ari.specs.declared.Limits.{Limits}
 use Rattle.ari.specs.declared.Input.{Input}
@@ -33,7 +34,7 @@ use Rattle.grammar.specs.Code.{IsSlot}
 use Rattle.grammar.proofs.Right.{number-slot, Slotted, Stands, fits-right, next-right, inside-right, takes-reference-right}
 use Rattle.item_table.specs.declared.Item.{Item}
 use Rattle.grammar.specs.Code.{slotNumber}
-use Rattle.item_table.specs.Entries.{packed, itemOf, entryOf, referenceBy, noSpot, spotNumber, Tabled}
+use Rattle.item_table.specs.Entries.{packed, itemOf, headOf, referenceHead, entryOf, referenceBy, headBy, noSpot, spotNumber, Tabled}
 
 sound-kind : {l : Lead} → Sound l → l .kind ≤ 9
 sound-kind (counted k c) = omega arith
@@ -129,31 +130,64 @@ getD-entries (x ∷ xs) zero d h = refl
 getD-entries (x ∷ xs) (suc k) d h = getD-entries xs k d (omega arith)
 
 -- the fields of an entry
-module _ (f a r s : ℕ) (hf : f < 65536) (ha : a < 65536) (hr : r < 256) (hs : s < 256) where
-  pub first-field : packed f a r s % 65536 ≡ f
+module _ (f a r s z : ℕ) (hf : f < 65536) (ha : a < 65536) (hr : r < 256) (hs : s < 256) (hz : z < 65536) where
+  pub first-field : packed f a r s z % 65536 ≡ f
   first-field = omega arith
 
-  pub after-field : packed f a r s / 65536 % 65536 ≡ a
+  pub after-field : packed f a r s z / 65536 % 65536 ≡ a
   after-field = omega arith
 
-  pub around-field : packed f a r s / 4294967296 % 256 ≡ r
+  pub around-field : packed f a r s z / 4294967296 % 256 ≡ r
   around-field = omega arith
 
-  pub slot-field : packed f a r s / 1099511627776 % 256 ≡ s
+  pub slot-field : packed f a r s z / 1099511627776 % 256 ≡ s
   slot-field = omega arith
 
+  pub head-field : packed f a r s z / 281474976710656 ≡ z
+  head-field = omega arith
+
 -- whether an item is a reference, way by way
-module _ (i k a : ℕ) {x : Bool} (e : x ≡ takesReferenceOf i) where
-  pub unasked : not x ≡ true → false ≡ referenceBy i k a
-  unasked q = rw (← e, not-true x q)
+module _ (i k a : ℕ) where
+  pub not-array : (k ≡ 4 → ⊥) → false ≡ referenceBy i k a
+  not-array n = rw (ne-eqb k 4 n) (sym (and-false (takesReferenceOf i)))
 
-  pub not-array : not x ≡ false → (k ≡ 4 → ⊥) → false ≡ referenceBy i k a
-  not-array q n = rw (← e, not-false x q, ne-eqb k 4 n)
+  pub a-literal : a ≡ 2 → false ≡ referenceBy i k a
+  a-literal n = rw (eq-eqb a 2 n, and-false (eqb k 4)) (sym (and-false (takesReferenceOf i)))
 
-  pub an-array : not x ≡ false → k ≡ 4 → not (eqb a 2) ≡ referenceBy i k a
-  an-array q n = rw (← e, not-false x q, eq-eqb k 4 n)
+  pub an-array : k ≡ 4 → (a ≡ 2 → ⊥) → {x : Bool} → x ≡ takesReferenceOf i → x ≡ referenceBy i k a
+  an-array n m e = rw (eq-eqb k 4 n, ne-eqb a 2 m) (e ∙ sym (bool.and-true (takesReferenceOf i)))
 
-pub ruleset reference-ways = (unasked, not-array, an-array)
+pub ruleset reference-ways = (not-array, a-literal, an-array)
+
+-- the bytes of its head, if it is one
+module _ (i k a n : ℕ) {x : Bool} (e : x ≡ referenceBy i k a) where
+  pub a-reference : x ≡ true → n ≡ headBy i k a n
+  a-reference q = rw (← e, q)
+
+  pub no-reference : x ≡ false → 0 ≡ headBy i k a n
+  no-reference q = rw (← e, q)
+
+pub ruleset head-ways = (a-reference, no-reference)
+
+-- a number or a string is none
+pub leaf-head : (i k a n : ℕ) → k < 4 → headBy i k a n ≡ 0
+leaf-head i k a n h = rw (← not-array i k a (λ e. omega arith))
+
+-- a reference has no string
+pub no-string : (s : Slot) (l : Lead) → isReference s l ≡ true → stringSize l ≡ 0
+unfolding isReference stringSize
+no-string s l e =
+    let q = and-true (eqb (l .kind) array) (not (eqb (l .arg) 2)) (and-true (rule s .takesReference) (eqb (l .kind) array && not (eqb (l .arg) 2)) e .1) .0 in
+    rw (eqb-true (l .kind) array q)
+
+-- the bytes up to where its members begin are its head's
+pub reference-head : (i k a n : ℕ) (l : Lead) → l .kind ≡ k → l .arg ≡ a → (stringSize l ≡ 0 → n ≡ size l) → headBy i k a n ≡ referenceHead (slotOf i) l
+unfolding isReference
+reference-head i k a n l ek ea f = rw (← ek, ← ea) (go (isReference (slotOf i) l) refl)
+  where
+    go : (t : Bool) → isReference (slotOf i) l ≡ t → cond t n 0 ≡ cond t (size l) 0
+    go true e = f (no-string (slotOf i) l e)
+    go false e = refl
 
 pub head-is : (b : List ℕ) (p : ℕ) (l : Lead) (r : List ℕ) → drop p b ≡ leadBytes l ++ r → Sound l → headAt b p ≡ Good (l .kind) (l .arg) (p + size l)
 unfolding headAt
@@ -162,6 +196,14 @@ head-is b p l r e h = rw (e, getHead-back r h)
 reference-is : (s : Slot) (l : Lead) (j : ℕ) → IsSlot j → slotOf j ≡ s → slotNumber s ≡ j → isReference s l ≡ referenceBy (slotNumber s) (l .kind) (l .arg)
 unfolding isReference
 reference-is s l j v e q = rw (q, ← e, takes-reference-right j)
+
+-- a head has few bytes
+small-head : (s : Slot) (l : Lead) → referenceHead s l < 65536
+small-head s l = go (isReference s l)
+  where
+    go : (t : Bool) → cond t (size l) 0 < 65536
+    go true = omega (arith, width-le (l .info))
+    go false = omega arith
 
 -- What the table says of item k, with the head that the bytes have there.
 module _ {m : Limits} {i : Input} {b : List ℕ} {n : ℕ} {t : List ℕ} (c : Tabled m i b n t) (k : ℕ) (h : k < n) where
@@ -199,7 +241,18 @@ module _ {m : Limits} {i : Input} {b : List ℕ} {n : ℕ} {t : List ℕ} (c : T
       let ha : x .after < 65536 = short-at .1 in
       let hr : x .around < 256 = omega (arith, fine-at .shallow, c .shallow) in
       let hs : number < 256 = omega (arith, fine-at .is-slot, number-is) in
-      rw (c .kept k h, first-field (x .first) (x .after) (x .around) number hf ha hr hs, after-field (x .first) (x .after) (x .around) number hf ha hr hs, around-field (x .first) (x .after) (x .around) number hf ha hr hs, slot-field (x .first) (x .after) (x .around) number hf ha hr hs)
+      let z : ℕ = referenceHead (x .slot) l in
+      let hz : z < 65536 = small-head (x .slot) l in
+      rw (c .kept k h, first-field (x .first) (x .after) (x .around) number z hf ha hr hs hz, after-field (x .first) (x .after) (x .around) number z hf ha hr hs hz, around-field (x .first) (x .after) (x .around) number z hf ha hr hs hz, slot-field (x .first) (x .after) (x .around) number z hf ha hr hs hz)
+
+  pub head-of-at : headOf (getD t k 0) ≡ referenceHead (x .slot) l
+  unfolding headOf entryOf
+  head-of-at =
+      let hf : x .first < 65536 = short-at .0 in
+      let ha : x .after < 65536 = short-at .1 in
+      let hr : x .around < 256 = omega (arith, fine-at .shallow, c .shallow) in
+      let hs : number < 256 = omega (arith, fine-at .is-slot, number-is) in
+      rw (c .kept k h) (head-field (x .first) (x .after) (x .around) number (referenceHead (x .slot) l) hf ha hr hs (small-head (x .slot) l))
 
   pub head-at : headAt b (x .first) ≡ Good (l .kind) (l .arg) (x .first + size l)
   head-at = head-is b (x .first) l _ covers-at (fine-at .sound)

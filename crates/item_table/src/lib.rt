@@ -2,7 +2,7 @@
 // asks about items reads it, with the heads that still stand in the input's bytes.
 ghost use mathlib.Core.Path.{_≡_};
 ghost use lib.ListN.{set};
-ghost use Rattle.item_table.specs.Entries.{packed, itemOf, referenceBy};
+ghost use Rattle.item_table.specs.Entries.{packed, itemOf, headOf, headBy, referenceBy};
 
 // An item: its first byte, the byte after its last, the open containers around it, and the number of its slot.
 pub struct Item {
@@ -24,34 +24,80 @@ pub fn item_of(entry: u64) -> Item
     }
 }
 
+// The bytes of a reference's head; 0 where the item is no reference.
+pub fn head_of(entry: u64) -> usize
+    ensures { λ r. ⌜ r ≡ headOf entry ⌝ }
+{
+    (entry / 281474976710656) as usize
+}
+
 // A word of the table; each field keeps its lowest bits.
-fn pack(first: usize, after: usize, around: usize, slot: u64) -> u64
-    ensures { λ r. ⌜ r ≡ packed first after around slot ⌝ }
+fn pack(first: usize, after: usize, around: usize, slot: u64, head: usize) -> u64
+    ensures { λ r. ⌜ r ≡ packed first after around slot head ⌝ }
 {
     (first % 65536) as u64
         + (after % 65536) as u64 * 65536
         + (around % 256) as u64 * 4294967296
         + slot % 256 * 1099511627776
+        + (head % 65536) as u64 * 281474976710656
 }
 
-// Item k goes into the table. One that is too short, or empty, keeps what it has room for.
-pub fn put(entries: &mut [u64], k: usize, first: usize, after: usize, around: usize, slot: u64)
-    ensures { λ _. ⌜ now (entries .exit) ≡ set (now (entries .entry)) k (packed first after around slot) ⌝ }
-{
-    if k < entries.len() {
-        entries[k] = pack(first, after, around, slot);
-    }
-}
-
-// Whether a head of this kind and argument, at a slot, is a reference: an array of length 1, 3 or 4 where an ARI or an object reference is due.
+// Whether a head of this kind and argument, at a slot, is a reference: an array of length 1, 3 or 4 where an ARI or an object reference is due. The
+// slot is looked up last: few heads come to that.
 pub fn is_reference(slot: u64, kind: u8, arg: u64) -> bool
     ensures { λ r. ⌜ r ≡ referenceBy slot kind arg ⌝ }
 {
-    if !grammar::takes_reference(slot) {
+    if kind != cbor::ARRAY {
         return false;
     }
-    if kind == cbor::ARRAY {
-        return arg != 2;
+    if arg == 2 {
+        return false;
     }
-    false
+    grammar::takes_reference(slot)
+}
+
+// The bytes of a head, if it is a reference's.
+fn head_by(slot: u64, kind: u8, arg: u64, head: usize) -> usize
+    ensures { λ r. ⌜ r ≡ headBy slot kind arg head ⌝ }
+{
+    if is_reference(slot, kind, arg) {
+        return head;
+    }
+    0
+}
+
+// Item k goes into the table, by its head and how many bytes that has. A table that is too short, or empty, keeps what it has room for, and nothing
+// is looked up for the rest.
+pub fn put(
+    entries: &mut [u64],
+    k: usize,
+    first: usize,
+    after: usize,
+    around: usize,
+    slot: u64,
+    kind: u8,
+    arg: u64,
+    head: usize,
+)
+    ensures { λ _. ⌜ now (entries .exit) ≡ set (now (entries .entry)) k (packed first after around slot (headBy slot kind arg head)) ⌝ }
+{
+    if k < entries.len() {
+        entries[k] = pack(first, after, around, slot, head_by(slot, kind, arg, head));
+    }
+}
+
+// The same of an item that is no reference.
+pub fn put_plain(
+    entries: &mut [u64],
+    k: usize,
+    first: usize,
+    after: usize,
+    around: usize,
+    slot: u64,
+)
+    ensures { λ _. ⌜ now (entries .exit) ≡ set (now (entries .entry)) k (packed first after around slot 0) ⌝ }
+{
+    if k < entries.len() {
+        entries[k] = pack(first, after, around, slot, 0);
+    }
 }

@@ -1,56 +1,37 @@
 -- What is read off a word of the item table and the bytes, way by way.
-use Prim.Native.Nat.{ℕ, _+_, _-_, _<_, _≤_}
+use Prim.Native.Nat.{ℕ, _+_, _-_, _^_, _<_, _≤_}
 use mathlib.Core.Path.{_≡_, refl, sym, _∙_}
-use mathlib.Core.Bool.{Bool, true, false, not}
 use mathlib.Core.List.{List, []}
 use native.Mathlib.Omega.{arith}
 use lib.ListN.{length, take, drop, length-drop}
 use lib.Seq.{take-all}
-use borrow.Author.Tests.{eq-eqb, ne-eqb, not-true, not-false}
+use borrow.Author.Tests.{ne-eqb}
 use Rattle.cbor.specs.declared.Head.{Head}
 use Rattle.cbor.specs.declared.Head.the-variants.{Bad, Good}
 use Rattle.cbor.specs.Answer.{headAt, Passed}
 use Rattle.cbor.proofs.HeadWays.{stays-inside, bounds}
 use Rattle.ari.specs.Table.{max64}
 use Rattle.item_table.specs.declared.Item.{Item}
-use Rattle.grammar.specs.Code.{takesReferenceOf}
-use Rattle.item_table.specs.Entries.{itemOf}
+use Rattle.item_table.specs.Entries.{itemOf, headOf}
 use Rattle.listing.specs.declared.Namespace.{Namespace}
 use Rattle.listing.specs.declared.Namespace.the-variants.{Number, Name, Relative}
 use Rattle.listing.specs.declared.Reference.the-variants.{Nothing, To}
-use Rattle.listing.specs.declared.Reference.{Reference}
-use Rattle.listing.specs.Entries.{namespaceOf, arrayReference, referenceOf, referenceFrom, stringIn}
+use Rattle.listing.specs.Entries.{namespaceOf, referenceFrom, stringIn}
 
-module _ (b : List ℕ) (e : ℕ) {x : Item} (i : x ≡ itemOf e) {y : Bool} (c : y ≡ takesReferenceOf (x .slot)) where
-  pub unasked : not y ≡ true → Nothing ≡ referenceFrom b e
+module _ (b : List ℕ) (e : ℕ) {n : ℕ} (c : n ≡ headOf e) where
+  pub no-reference : n ≡ 0 → Nothing ≡ referenceFrom b e
   unfolding referenceFrom
-  unasked n = rw (← i) (go (headAt b (x .first)))
-    where
-      go : (h : Head) → Nothing ≡ referenceOf b x h
-      go (Bad r) = refl
-      go (Good k a q) = rw (← c, not-true y n)
+  no-reference m = rw (← c, m)
 
-  pub asked : not y ≡ false → {r : Reference} → r ≡ arrayReference b (x .first) (x .after) (headAt b (x .first)) → r ≡ referenceFrom b e
-  unfolding referenceFrom
-  asked n {r} q = q ∙ rw (← i) (go (headAt b (x .first)))
-    where
-      go : (h : Head) → arrayReference b (x .first) (x .after) h ≡ referenceOf b x h
-      go (Bad r) = refl
-      go (Good k a q) = rw (← c, not-false y n)
+  module _ {x : Item} (i : x ≡ itemOf e) where
+    pub a-reference : (n ≡ 0 → ⊥) → {z : Namespace} → z ≡ namespaceOf (x .first + n) (headAt b (x .first + n)) → To (x .first) (x .after) z ≡ referenceFrom b e
+    unfolding referenceFrom
+    a-reference m u = rw (u, ← c, ← i, ne-eqb n 0 m)
 
-module _ (b : List ℕ) (p t : ℕ) {h : Head} (g : h ≡ headAt b p) where
-  pub no-head : {r : ℕ} → h ≡ Bad r → Nothing ≡ arrayReference b p t (headAt b p)
-  no-head f = rw (← g, f)
-
-  module _ {k a q : ℕ} (f : h ≡ Good k a q) where
-    pub no-array : (k ≡ 4 → ⊥) → Nothing ≡ arrayReference b p t (headAt b p)
-    no-array m = rw (← g, f, ne-eqb k 4 m)
-
-    pub a-literal : k ≡ 4 → a ≡ 2 → Nothing ≡ arrayReference b p t (headAt b p)
-    a-literal m w = rw (← g, f, eq-eqb k 4 m, eq-eqb a 2 w)
-
-    pub a-reference : k ≡ 4 → (a ≡ 2 → ⊥) → {z : Namespace} → z ≡ namespaceOf q (headAt b q) → To p t z ≡ arrayReference b p t (headAt b p)
-    a-reference m w u = rw (u, ← g, f, eq-eqb k 4 m, ne-eqb a 2 w)
+    -- its two fields of 16 bits
+    pub namespace-place : e < 2 ^ 64 → x .first + n < 2 ^ 64
+    unfolding itemOf headOf
+    namespace-place h = rw (i, c) (omega arith)
 
 module _ (b : List ℕ) (p : ℕ) {h : Head} (g : h ≡ headAt b p) where
   pub no-namespace : {r : ℕ} → h ≡ Bad r → Relative ≡ namespaceOf p (headAt b p)
@@ -91,4 +72,4 @@ string-ends b p c f m = let h = stays-inside b p c f in omega arith
 
 pub ruleset string-ways = (no-string, string-cut, string-here, string-ends, bounds)
 
-pub ruleset ways = (unasked, asked, no-head, no-array, a-literal, a-reference, no-namespace, not-negative, a-negative, a-name, not-named)
+pub ruleset ways = (no-reference, a-reference, namespace-place, no-namespace, not-negative, a-negative, a-name, not-named)

@@ -2,7 +2,7 @@
 -- is a reference; so a loop over the words goes through the entries in their order.
 use Prim.Native.Nat.{ℕ, zero, suc, _+_, _-_, _*_, _<_, _≤_}
 use mathlib.Core.Path.{_≡_, refl, sym, _∙_, ap}
-use mathlib.Core.Bool.{Bool, true, false, not, _&&_, cond}
+use mathlib.Core.Bool.{Bool, true, false, cond}
 use mathlib.Core.List.{List, [], _∷_, _++_, append-assoc, append-nil, map, List·Memᴰ, List·Memᴰ·head, List·Memᴰ·tail, Memᴰ·map}
 use native.Mathlib.Omega.{arith}
 use native.Mathlib.Numerals.{add-one}
@@ -10,12 +10,11 @@ use lib.ListN.{length, getD, take, drop, length-append, length-drop, length-map,
 use lib.Seq.{drop-cons, drop-drop, drop-at, take-at, drop-length}
 use lib.IntN.{pos, negsuc}
 use lib.Dec.{eqb}
-use borrow.Author.Tests.{eqb-true}
-use Rattle.cbor.specs.Head.{unsigned, negative, text, array, Lead, size, stringSize, leadBytes}
+use borrow.Author.Tests.{eqb-true, ne-eqb}
+use Rattle.cbor.specs.Head.{unsigned, negative, text, Lead, size, stringSize, leadBytes}
 use Rattle.cbor.specs.Answer.{headAt}
-use Rattle.buffer.proofs.ByteLaws.{and-true}
 use Rattle.cbor.proofs.HeadLaws.{length-lead}
-use Rattle.ari.specs.Table.{Slot, max64, rule, isReference}
+use Rattle.ari.specs.Table.{max64, isReference}
 use Rattle.ari.specs.declared.Limits.{Limits}
 use Rattle.ari.specs.declared.Input.the-variants.{Message}
 use Rattle.ari.specs.Items.{Items, none, item, encode, Spot, insideAt, spotsOf}
@@ -29,16 +28,14 @@ use Rattle.ari.proofs.Listed.{nothing-else-is-listed, own-bytes}
 use Rattle.ari.proofs.Referring.{placeOf, found-references}
 use Rattle.ari.proofs.Named.{Named, InRange, own-namespace, numbers-in-range}
 use Rattle.ari.proofs.ListingBound.{at-most-half}
-use Rattle.grammar.specs.Code.{takesReferenceOf}
-use Rattle.item_table.specs.declared.Item.{Item}
-use Rattle.item_table.specs.Entries.{noSpot, itemOf, spotNumber, Tabled}
-use Rattle.item_table.proofs.Entries.{head-is, there, fine-at, covers-at, item-at, head-at, reference-at, short-at}
+use Rattle.item_table.specs.Entries.{noSpot, headOf, spotNumber, Tabled}
+use Rattle.item_table.proofs.Entries.{no-string, head-is, there, fine-at, covers-at, item-at, head-of-at, short-at}
 use Rattle.listing.specs.declared.Namespace.{Namespace}
 use Rattle.listing.specs.declared.Namespace.the-variants.{Number, Name, Relative}
 use Rattle.listing.specs.declared.Reference.{Reference}
 use Rattle.listing.specs.declared.Reference.the-variants.{Nothing, To}
-use Rattle.listing.specs.Entries.{namespaceOf, arrayReference, referenceFrom, spaceCode, stringIn, NameStands}
-use Rattle.listing.proofs.ReferenceWays.{unasked, asked}
+use Rattle.listing.specs.Entries.{namespaceOf, referenceFrom, spaceCode, stringIn, NameStands}
+use Rattle.listing.proofs.ReferenceWays.{no-reference as no-word, a-reference as a-word}
 
 -- the listing from item k on
 unfoldable pub listingFrom : List ℕ → ℕ → List Entry
@@ -113,13 +110,6 @@ found-at (x ∷ xs) (suc k) d h e = go (isReference (x .slot) (x .lead)) (found-
     go true m = List·Memᴰ·tail m
     go false m = m
 
--- a reference has no string
-no-string : (s : Slot) (l : Lead) → isReference s l ≡ true → stringSize l ≡ 0
-unfolding isReference stringSize
-no-string s l e =
-    let q = and-true (eqb (l .kind) array) (not (eqb (l .arg) 2)) (and-true (rule s .takesReference) (eqb (l .kind) array && not (eqb (l .arg) 2)) e .1) .0 in
-    rw (eqb-true (l .kind) array q)
-
 -- A reference that the word of item k stands for.
 pub record Here (b : List ℕ) (k first after : ℕ) (n : Namespace) : Type 0 where
   pub entry : Entry
@@ -170,11 +160,12 @@ module _ {m : Limits} {b t : List ℕ} {n : ℕ} (c : Tabled m Message b n t) wh
 
     reference-is : referenceFrom b w ≡ cond isOne (To (x .first) (x .after) (namespaceOf inner (headAt b inner))) Nothing
     unfolding referenceFrom
-    reference-is = rw (item-at c k h, head-at c k h, ← reference-at c k h) (go isOne begins)
+    reference-is = rw (item-at c k h, head-of-at c k h) (go isOne begins)
       where
-        go : (z : Bool) {p q : ℕ} → (z ≡ true → p ≡ q)
-            → cond z (To (x .first) (x .after) (namespaceOf p (headAt b p))) Nothing ≡ cond z (To (x .first) (x .after) (namespaceOf q (headAt b q))) Nothing
-        go true f = rw (f refl)
+        go : (z : Bool) {q : ℕ} → (z ≡ true → x .first + size (x .lead) ≡ q)
+            → cond (eqb (cond z (size (x .lead)) 0) 0) Nothing (To (x .first) (x .after) (namespaceOf (x .first + cond z (size (x .lead)) 0) (headAt b (x .first + cond z (size (x .lead)) 0))))
+            ≡ cond z (To (x .first) (x .after) (namespaceOf q (headAt b q))) Nothing
+        go true f = rw (ne-eqb (size (x .lead)) 0 (λ e. omega arith), f refl)
         go false f = refl
 
     module _ {r : Reference} (f : r ≡ referenceFrom b w) where
@@ -231,15 +222,11 @@ module _ {m : Limits} {b t : List ℕ} {n : ℕ} (c : Tabled m Message b n t) wh
       pub count-one : {fst aft : ℕ} {s : Namespace} → r ≡ To fst aft s → length (listingFrom b (k + 1)) + (i + 1) ≡ length (listing b)
       count-one g = omega (arith, ap length (here c k h f g .listed))
 
-    module _ (h : k < n) {x : Item} (j : x ≡ itemOf (getD t k 0)) {y : Bool} (q : y ≡ takesReferenceOf (x .slot)) where
-      pub count-passed : y ≡ false → length (listingFrom b (k + 1)) + i ≡ length (listing b)
-      count-passed g = count-none h (unasked b (getD t k 0) j q (rw g)) refl
+    module _ (h : k < n) {y : ℕ} (q : y ≡ headOf (getD t k 0)) where
+      pub count-passed : y ≡ 0 → length (listingFrom b (k + 1)) + i ≡ length (listing b)
+      count-passed g = count-none h (no-word b (getD t k 0) q g) refl
 
-      module _ (g : y ≡ true) {r : Reference} (f : r ≡ arrayReference b (x .first) (x .after) (headAt b (x .first))) where
-        pub taken-none : r ≡ Nothing → length (listingFrom b (k + 1)) + i ≡ length (listing b)
-        taken-none z = count-none h (asked b (getD t k 0) j q (rw g) f) z
+      pub count-found : (y ≡ 0 → ⊥) → length (listingFrom b (k + 1)) + (i + 1) ≡ length (listing b)
+      count-found g = count-one h (a-word b (getD t k 0) q refl g refl) refl
 
-        pub taken-one : {fst aft : ℕ} {s : Namespace} → r ≡ To fst aft s → length (listingFrom b (k + 1)) + (i + 1) ≡ length (listing b)
-        taken-one z = count-one h (asked b (getD t k 0) j q (rw g) f) z
-
-pub ruleset counts = (count-start, count-end, count-passed, taken-none, taken-one)
+pub ruleset counts = (count-start, count-end, count-passed, count-found)

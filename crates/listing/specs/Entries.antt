@@ -1,11 +1,11 @@
--- What is read off a word of the item table and the bytes. Interface: namespaceOf, referenceFrom, spaceCode, stringIn, NameStands. Private to src/: arrayReference, referenceOf.
-use Prim.Native.Nat.{ℕ, _-_, _<_}
+-- What is read off a word of the item table and the bytes. Interface: namespaceOf, referenceFrom, spaceCode, stringIn, NameStands.
+use Prim.Native.Nat.{ℕ, _+_, _-_, _<_}
 use mathlib.Core.Path.{_≡_}
-use mathlib.Core.Bool.{cond, not, _&&_}
+use mathlib.Core.Bool.{cond}
 use mathlib.Core.List.{List, []}
 use lib.ListN.{length, take, drop}
 use lib.Dec.{eqb}
-use Rattle.cbor.specs.Head.{unsigned, negative, text, array}
+use Rattle.cbor.specs.Head.{unsigned, negative, text}
 use Rattle.cbor.specs.declared.Head.{Head}
 use Rattle.cbor.specs.declared.Head.the-variants.{Bad, Good}
 use Rattle.cbor.specs.Answer.{headAt}
@@ -13,7 +13,7 @@ use Rattle.ari.specs.Signed.{word}
 use Rattle.ari.specs.Table.{max64}
 use Rattle.ari.specs.Listing.{Space, number, name, relative}
 use Rattle.item_table.specs.declared.Item.{Item}
-use Rattle.item_table.specs.Entries.{itemOf, referenceBy}
+use Rattle.item_table.specs.Entries.{itemOf, headOf}
 use Rattle.listing.specs.declared.Reference.{Reference}
 use Rattle.listing.specs.declared.Reference.the-variants.{Nothing, To}
 use Rattle.listing.specs.declared.Namespace.{Namespace}
@@ -24,18 +24,12 @@ abbrev pub namespaceOf : ℕ → Head → Namespace
 namespaceOf p (Good k a q) = cond (eqb k unsigned) (Number a) (cond (eqb k negative) (Number (max64 - a)) (cond (eqb k text) (Name p a) Relative))
 namespaceOf p (Bad r) = Relative
 
--- what a head is where a reference may stand: an array that is no typed literal is one
-abbrev pub arrayReference : List ℕ → ℕ → ℕ → Head → Reference
-arrayReference b f t (Good k a q) = cond (eqb k array && not (eqb a 2)) (To f t (namespaceOf q (headAt b q))) Nothing
-arrayReference b f t (Bad r) = Nothing
-
--- a reference, whose first member's head is its namespace
-abbrev pub referenceOf : List ℕ → Item → Head → Reference
-referenceOf b x (Good k a q) = cond (referenceBy (x .slot) k a) (To (x .first) (x .after) (namespaceOf q (headAt b q))) Nothing
-referenceOf b x (Bad r) = Nothing
+-- a reference, with the namespace whose head stands behind its own
+abbrev pub referenceTo : List ℕ → Item → ℕ → Reference
+referenceTo b x n = To (x .first) (x .after) (namespaceOf (x .first + n) (headAt b (x .first + n)))
 
 unfoldable pub referenceFrom : List ℕ → ℕ → Reference
-referenceFrom b e = referenceOf b (itemOf e) (headAt b (itemOf e .first))
+referenceFrom b e = cond (eqb (headOf e) 0) Nothing (referenceTo b (itemOf e) (headOf e))
 
 -- a listed namespace as the code has it
 abbrev pub spaceCode : Space → Namespace

@@ -13,7 +13,7 @@ ghost use Rattle.ari.specs.Listing.{listing};
 ghost use Rattle.item_table.specs.Entries.{Tabled};
 ghost use Rattle.listing.specs.Bytes.{listingBytes};
 ghost use Rattle.listing.specs.Answers.{listedOf, listOf, writtenBy, writtenOf};
-ghost use Rattle.listing.specs.Entries.{namespaceOf, arrayReference, referenceFrom, stringIn};
+ghost use Rattle.listing.specs.Entries.{namespaceOf, referenceFrom, stringIn};
 ghost use Rattle.listing.specs.Codes.{kindCode, wordCode, entryCode};
 use ari::Input;
 use ari::Limits;
@@ -82,40 +82,24 @@ pub fn string_at<'a>(s: &'a [u8], at: usize) -> &'a [u8]
     &s[next..next + size]
 }
 
-// The reference of an item whose slot takes one, by its head.
-fn reference_of(s: &[u8], first: usize, after: usize) -> Reference
-    ensures { λ r. ⌜ r ≡ arrayReference (now (s .entry)) first after (headAt (now (s .entry)) first) ⌝ }
+// The reference that a word of the item table stands for. Its namespace's head stands behind its own.
+pub fn reference_at(s: &[u8], entry: u64) -> Reference
+    ensures { λ r. ⌜ r ≡ referenceFrom (now (s .entry)) entry ⌝ }
 {
-    let h = cbor::head_again(s, first);
-    let cbor::Head::Good { kind, arg, next } = h else {
-        return Reference::Nothing;
-    };
-    if kind != cbor::ARRAY {
+    let head = item_table::head_of(entry);
+    if head == 0 {
         return Reference::Nothing;
     }
-    if arg == 2 {
-        return Reference::Nothing;
-    }
-    let namespace = namespace_at(s, next);
+    let x = item_table::item_of(entry);
+    let namespace = namespace_at(s, x.first + head);
     Reference::To {
-        first,
-        after,
+        first: x.first,
+        after: x.after,
         namespace,
     }
 }
 
-// The reference that a word of the item table stands for. Few slots take one: the others' heads need not be read again.
-pub fn reference_at(s: &[u8], entry: u64) -> Reference
-    ensures { λ r. ⌜ r ≡ referenceFrom (now (s .entry)) entry ⌝ }
-{
-    let x = item_table::item_of(entry);
-    if !grammar::takes_reference(x.slot) {
-        return Reference::Nothing;
-    }
-    reference_of(s, x.first, x.after)
-}
-
-// How many references the items of a table are.
+// How many references the items of a table are, by its words alone.
 fn count_references(s: &[u8], limits: Limits, count: usize, entries: &[u64]) -> usize
     requires { ⌜ Tabled limits input.Message (now s) count (now entries) ⌝ }
     ensures { λ r. ⌜ r ≡ length (listing (now (s .entry))) ⌝ }
@@ -123,17 +107,10 @@ fn count_references(s: &[u8], limits: Limits, count: usize, entries: &[u64]) -> 
     let mut listed = 0;
     let mut k = 0;
     while k < count {
-        let x = item_table::item_of(entries[k]);
+        let head = item_table::head_of(entries[k]);
         k += 1;
-        if grammar::takes_reference(x.slot) {
-            match reference_of(s, x.first, x.after) {
-                Reference::Nothing => {}
-                Reference::To {
-                    first: _,
-                    after: _,
-                    namespace: _,
-                } => listed += 1,
-            }
+        if head != 0 {
+            listed += 1;
         }
     }
     listed

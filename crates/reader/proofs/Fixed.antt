@@ -103,7 +103,7 @@ set-step b p c items d h g =
     rw (h .bytes) (ap (stepAnswer p) (sym (set-judged (items - c) d (drop (suc p) b) (h .more) (ne-eqb d 0 g))))
 
 pub version-read : (b : List ℕ) → all isByte b ≡ true → (items d : ℕ) {r : Bool} → r ≡ standsAt b 0 1 (items - 0) → not r ≡ false
-    → (t : List ℕ) {z : List ℕ} → z ≡ set t 0 (packed 0 1 0 0) → Walked b items (due (slotOf 0) 0) [] d 0 0 0 (Read 1 1) t z
+    → (t : List ℕ) {z : List ℕ} → z ≡ set t 0 (packed 0 1 0 0 0) → Walked b items (due (slotOf 0) 0) [] d 0 0 0 (Read 1 1) t z
 unfolding members rule fitsCode nextCode keyOf getHead
 version-read b bs items d e u t put =
     let h = stood b 0 1 0 items e u in
@@ -123,7 +123,7 @@ module _ (b : List ℕ) (bs : all isByte b ≡ true) (items d p c : ℕ) {r : Bo
   set-stopped v =
       breaks b bs items (ari message) 0 [] d 0 p c t 2 0 0 0 p c t (omega arith) (begins b items (ari message) 0 d 0 p c t) (set-step b p c items d there g) refl inside v
 
-  pub set-read : {q f : ℕ} → w ≡ Read q f → {z : List ℕ} → z ≡ set t₁ c (packed p q 0 2) → Walked b items (due (slotOf 2) 0) [] d 0 p c (Read q f) t z
+  pub set-read : {q f : ℕ} → w ≡ Read q f → {z : List ℕ} → z ≡ set t₁ c (packed p q 0 2 0) → Walked b items (due (slotOf 2) 0) [] d 0 p c (Read q f) t z
   unfolding members rule fitsCode nextCode keyOf getHead
   set-read v put =
       let within = (rw v at inside) .held in

@@ -21,7 +21,8 @@ use Rattle.grammar.specs.declared.Next.the-variants.{Done, Due}
 use Rattle.grammar.specs.Code.{slots, slotOf, levelOf, fitsCode, nextCode, insideCode}
 use Rattle.grammar.specs.Code.{IsSlot}
 use Rattle.grammar.proofs.Right.{number-slot, Slotted, Stands, next-right, inside-right}
-use Rattle.item_table.specs.Entries.{packed}
+use Rattle.item_table.specs.Entries.{packed, headBy, referenceHead}
+use Rattle.item_table.proofs.Entries.{reference-head}
 use Rattle.reader.specs.declared.Step.{Step}
 use Rattle.reader.specs.declared.Step.the-variants.{Taken}
 use Rattle.reader.specs.declared.Step.the-variants as step
@@ -82,17 +83,23 @@ module _ (b : List ℕ) (bs : all isByte b ≡ true) (items : ℕ) (s₀ : Slot)
     walked : Walked b items (members (slotOf i) (tk .lead)) [] (pred d) (suc around) q₀ (suc c) w tab tab₁
     walked = rw (← inside-is (slotOf i) (tk .lead), tk .kind-is, tk .arg-is, ← add-one c) m
 
+    -- the bytes of the head, if it is a reference
+    head-is : headBy i k a (q₀ - p) ≡ referenceHead (slotOf i) (tk .lead)
+    head-is = reference-head i k a (q₀ - p) (tk .lead) (tk .kind-is) (tk .arg-is) (λ z.
+        let r = drop (size (tk .lead)) (drop p b) in
+        omega (arith, ap length (tk .passed .string), length-take-le (stringSize (tk .lead)) r (tk .passed .there), tk .after-is))
+
     -- a member is refused
     pub breaks : {r y : ℕ} → w ≡ Refused r y → {z : List ℕ} → Walked b items (due s₀ n₀) prev₀ d around p₀ c₀ w t₀ z
     breaks {r} {y} g {z} =
         rw g (lead .then (broken b bs items (slotOf i) n (keyOf (part b f t)) d around p c k a q₀ tk (rw g at walked)))
 
-    module _ {q₁ e₁ : ℕ} (g : w ≡ Read q₁ e₁) {tab₂ : List ℕ} (put : tab₂ ≡ set tab₁ c (packed p q₁ around i)) where
+    module _ {q₁ e₁ : ℕ} (g : w ≡ Read q₁ e₁) {tab₂ : List ℕ} (put : tab₂ ≡ set tab₁ c (packed p q₁ around i (headBy i k a (q₀ - p)))) where
       -- what follows the item ends the level
       item : {u : Walk} {z : List ℕ} → Walked b items (rule (slotOf i) .next (tk .lead .arg) n) (prevAfter (slotOf i) (keyOf (part b f t)) (tk .lead) (tk .str)) d around q₁ e₁ u tab₂ z
           → Walked b items (due s₀ n₀) prev₀ d around p₀ c₀ u t₀ z
       item y =
-          lead .then (onward b bs items (slotOf i) n (keyOf (part b f t)) d around p c k a q₀ tk (rw g at walked) (put ∙ rw (number-slot i v)) y)
+          lead .then (onward b bs items (slotOf i) n (keyOf (part b f t)) d around p c k a q₀ tk (rw g at walked) (put ∙ rw (number-slot i v, head-is)) y)
 
       module _ (kk : k ≤ 9) (fit : fitsCode i k a ≡ true) {nx : Next} (nn : nx ≡ nextCode i a n) where
         next-is : levelOf nx ≡ rule (slotOf i) .next (tk .lead .arg) n

@@ -15,7 +15,8 @@ use Rattle.grammar.specs.declared.Next.the-variants.{Done, Due}
 use Rattle.grammar.specs.Code.{slotOf, IsSlot, extraOf, nextCode}
 use Rattle.grammar.proofs.Right.{extra-right}
 use Rattle.grammar.proofs.TableWays.{below-containers}
-use Rattle.item_table.specs.Entries.{packed}
+use Rattle.item_table.specs.Entries.{packed, headBy}
+use Rattle.item_table.proofs.Entries.{leaf-head}
 use Rattle.reader.specs.declared.Step.{Step}
 use Rattle.reader.specs.declared.Step.the-variants.{Taken}
 use Rattle.reader.specs.declared.Walk.the-variants.{Read}
@@ -55,19 +56,22 @@ module _ (b : List ℕ) (bs : all isByte b ≡ true) (items : ℕ) (s₀ : Slot)
     (i n f t p c : ℕ) (tab : List ℕ) (v : IsSlot i)
     (lead : Leads b items s₀ n₀ prev₀ d around p₀ c₀ t₀ (slotOf i) n (keyOf (part b f t)) p c tab)
     {x : Step} (e : x ≡ stepAt b p (slotOf i) (keyOf (part b f t)) (items - c) d) (h : Bounded b p c items d i x) {k a q₀ : ℕ} (q : x ≡ Taken k a q₀)
-    {r : Bool} (y : r ≡ (ltb k 4 && eqb (extraOf i) 0)) (u : r ≡ true) {tab₂ : List ℕ} (put : tab₂ ≡ set tab c (packed p q₀ around i))
+    {r : Bool} (y : r ≡ (ltb k 4 && eqb (extraOf i) 0)) (u : r ≡ true) {tab₂ : List ℕ} (put : tab₂ ≡ set tab c (packed p q₀ around i 0))
     {nx : Next} (nn : nx ≡ nextCode i a n) where
   nothing : Walked b items (insideLevel (slotOf i) k a) [] (pred d) (suc around) q₀ (c + 1) (Read q₀ (c + 1)) tab tab
   nothing = plain-inside i k y u a b items d around q₀ (c + 1) v (taken-in b p c items d i h q) (taken-more b p c items d i h q)
 
+  kept : tab₂ ≡ set tab c (packed p q₀ around i (headBy i k a (q₀ - p)))
+  kept = put ∙ rw (leaf-head i k a (q₀ - p) (plain i k y u .0))
+
   pub plain-ends : nx ≡ Done → Walked b items (due s₀ n₀) prev₀ d around p₀ c₀ (Read q₀ (c + 1)) t₀ tab₂
   plain-ends z =
-      ends b bs items s₀ n₀ prev₀ d around p₀ c₀ t₀ i n f t p c tab v lead e q nothing refl put (taken-kind b p c items d i h q) (taken-fits b p c items d i h q) nn z (taken-in b p c items d i h q) (taken-more b p c items d i h q)
+      ends b bs items s₀ n₀ prev₀ d around p₀ c₀ t₀ i n f t p c tab v lead e q nothing refl kept (taken-kind b p c items d i h q) (taken-fits b p c items d i h q) nn z (taken-in b p c items d i h q) (taken-more b p c items d i h q)
 
   pub plain-slotted : {j m : ℕ} → nx ≡ Due j m → IsSlot j
   plain-slotted z =
-      next-slotted b bs items s₀ n₀ prev₀ d around p₀ c₀ t₀ i n f t p c tab v lead e q nothing refl put (taken-kind b p c items d i h q) (taken-fits b p c items d i h q) nn z
+      next-slotted b bs items s₀ n₀ prev₀ d around p₀ c₀ t₀ i n f t p c tab v lead e q nothing refl kept (taken-kind b p c items d i h q) (taken-fits b p c items d i h q) nn z
 
   pub plain-again : {j m : ℕ} → nx ≡ Due j m → Leads b items s₀ n₀ prev₀ d around p₀ c₀ t₀ (slotOf j) m (keyOf (part b f t)) q₀ (c + 1) tab₂
   plain-again z =
-      again b bs items s₀ n₀ prev₀ d around p₀ c₀ t₀ i n f t p c tab v lead e q nothing refl put (taken-kind b p c items d i h q) (taken-fits b p c items d i h q) nn z (plain-span i k y u f p) (plain-span i k y u t q₀)
+      again b bs items s₀ n₀ prev₀ d around p₀ c₀ t₀ i n f t p c tab v lead e q nothing refl kept (taken-kind b p c items d i h q) (taken-fits b p c items d i h q) nn z (plain-span i k y u f p) (plain-span i k y u t q₀)

@@ -21,7 +21,7 @@ use Rattle.ari.specs.Due.{Due, Good}
 use Rattle.ari.proofs.Due.{prevAfter}
 use Rattle.ari.proofs.Central.{Judged, judged}
 use Rattle.grammar.specs.Code.{slotNumber}
-use Rattle.item_table.specs.Entries.{packed, entryOf}
+use Rattle.item_table.specs.Entries.{packed, referenceHead, entryOf}
 use Rattle.reader.specs.declared.Step.the-variants.{Taken}
 use Rattle.reader.specs.declared.Step.the-variants as step
 use Rattle.reader.specs.declared.Walk.{Walk}
@@ -147,7 +147,7 @@ module _ (b : List ℕ) (bs : all isByte b ≡ true) (items : ℕ) (s : Slot) (n
 
   -- what follows the item finishes the whole
   module _ {q e : ℕ} {t t₁ t₂ : List ℕ} (w : Walked b items (members s (h .lead)) [] (pred d) (suc around) q₀ (suc c) (Read q e) t t₁)
-      (put : t₂ ≡ set t₁ c (packed p q around (slotNumber s))) where
+      (put : t₂ ≡ set t₁ c (packed p q around (slotNumber s) (referenceHead s (h .lead)))) where
     abbrev next : Level
     next = rule s .next (h .lead .arg) n
 
@@ -174,7 +174,7 @@ module _ (b : List ℕ) (bs : all isByte b ≡ true) (items : ℕ) (s : Slot) (n
           bytes = head-bytes ∙ rw (m .bytes, v .bytes) (simp append-assoc);
           place = simp (length-append) (omega (arith, m .place, v .place, i, ll));
           count = omega (arith, m .count, v .count);
-          table = v .table ∙ rw (put, m .table, ce, x, i) (item-entries t c (heads ms) (packed p q around (slotNumber s)) xs (spots rs false next q around) hx);
+          table = v .table ∙ rw (put, m .table, ce, x, i) (item-entries t c (heads ms) (packed p q around (slotNumber s) (referenceHead s l)) xs (spots rs false next q around) hx);
         }
 
     onward-of : (v : Walk) {z : List ℕ} → Walked b items next after d around q e v t₂ z → Walked b items (due s n) prev d around p c v t z

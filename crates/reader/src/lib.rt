@@ -431,7 +431,7 @@ fn walk_level(
             };
         }
         if is_plain(place, word, kind) {
-            item_table::put(entries, c, p, after, around, place);
+            item_table::put_plain(entries, c, p, after, around, place);
             let n = next_at(place, word, arg, left);
             let grammar::Next::Due { slot: a, more: b } = n else {
                 return Walk::Read {
@@ -460,7 +460,7 @@ fn walk_level(
         let Walk::Read { next: q, count: e } = r else {
             return same_walk(r);
         };
-        item_table::put(entries, c, p, q, around, place);
+        item_table::put(entries, c, p, q, around, place, kind, arg, after - p);
         prev = key_by(place, extra_at(place, word), prev, p, after);
         let n = next_at(place, word, arg, left);
         let grammar::Next::Due { slot: a, more: b } = n else {
@@ -660,7 +660,7 @@ fn walk_version(s: &[u8], items: usize, containers: usize, entries: &mut [u64]) 
             entries,
         );
     }
-    item_table::put(entries, 0, 0, 1, 0, grammar::VERSION);
+    item_table::put_plain(entries, 0, 0, 1, 0, grammar::VERSION);
     Walk::Read { next: 1, count: 1 }
 }
 
@@ -719,7 +719,7 @@ fn walk_set(
     let Walk::Read { next, count: e } = w else {
         return w;
     };
-    item_table::put(entries, count, at, next, 0, grammar::ARI_MESSAGE);
+    item_table::put_plain(entries, count, at, next, 0, grammar::ARI_MESSAGE);
     Walk::Read { next, count: e }
 }
 

@@ -8,7 +8,7 @@ pub is-reference-spec : {M : Type 1} → statement M
 is-reference-spec =
     tie.close
     (tie.spec
+    (λ c. search (reference-ways, needs))
+    (λ c. search (reference-ways, needs))
     (λ c κs. search needs)
-    (λ c. search (reference-ways, needs))
-    (λ c. search (reference-ways, needs))
     (λ c. search (reference-ways, needs)))

@@ -10,8 +10,9 @@ put-spec =
     tie.close
     (tie.spec
     (λ c κs. search needs)
+    (λ c κs. search needs)
     (λ c. search needs)
     (λ c. search needs)
     (λ c. search needs)
-    (λ c. cc)
+    (λ c. rw (← c .before .head-by .ensures, ← c .pack .ensures))
     (λ c. sym (set-out _ _ _ (c .if1 .left))))

@@ -1,4 +1,4 @@
--- `listing::reference_at` meets its contract: by the slot.
+-- `listing::reference_at` meets its contract: by the bytes of the head.
 use Rattle.listing.proofs.ReferenceWays.{ways}
 use borrow.Author.Needs.{needs}
 use Rattle.listing.proofs.reference_at.Statement.{statement}
@@ -8,8 +8,9 @@ pub reference-at-spec : {M : Type 1} → statement M
 reference-at-spec =
     tie.close
     (tie.spec
-    (λ c κs. search needs)
-    (λ c κs. search needs)
+    (λ c κs. search (ways, needs))
     (λ c. search (ways, needs))
-    (λ c κs. search needs)
+    (λ c κs. search (ways, needs))
+    (λ c. search (ways, needs))
+    (λ c κs. search (ways, needs))
     (λ c. search (ways, needs)))

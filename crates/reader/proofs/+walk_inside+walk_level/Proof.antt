@@ -25,6 +25,7 @@ use Rattle.reader.proofs.walk_level.Reads as walk-level
 use Rattle.reader.proofs.walk_level.Kinds as walk-level-kinds
 use Rattle.reader.proofs.+walk_inside+walk_level.Lts-walk_level as walk-level-lts
 use Rattle.item_table.proofs.put.Reads as put-reads
+use Rattle.item_table.proofs.put_plain.Reads as put-plain-reads
 use Rattle.reader.proofs.is_plain.Reads as is-plain-reads
 use Rattle.reader.proofs.extra_at.Reads as extra-at-reads
 use Rattle.reader.proofs.key_by.Reads as key-by-reads
@@ -81,7 +82,7 @@ pub +walk-inside+walk-level-spec : {M : Type 1} → statement M
     (λ c. search (nothing-inside, needs))
     (λ c. search needs)
     (λ c. search (opened, levelled, needs)))
-    λ t. walk-level-lts.spec (walk-word-reads.Asked, walk-word-reads.Learnt, take-head-reads.Asked, take-head-reads.Learnt, stopped-reads.Asked, stopped-reads.Learnt, is-plain-reads.Asked, is-plain-reads.Learnt, put-reads.Asked, put-reads.Learnt, next-at-reads.Asked, next-at-reads.Learnt, walk-inside-below t, walk-inside.Post, same-walk-reads.Asked, same-walk-reads.Learnt, extra-at-reads.Asked, extra-at-reads.Learnt, key-by-reads.Asked, key-by-reads.Learnt)
+    λ t. walk-level-lts.spec (walk-word-reads.Asked, walk-word-reads.Learnt, take-head-reads.Asked, take-head-reads.Learnt, stopped-reads.Asked, stopped-reads.Learnt, is-plain-reads.Asked, is-plain-reads.Learnt, put-plain-reads.Asked, put-plain-reads.Learnt, next-at-reads.Asked, next-at-reads.Learnt, walk-inside-below t, walk-inside.Post, same-walk-reads.Asked, same-walk-reads.Learnt, put-reads.Asked, put-reads.Learnt, extra-at-reads.Asked, extra-at-reads.Learnt, key-by-reads.Asked, key-by-reads.Learnt)
     (walk-level-at t)
     walk-level.Post
     walk-level-Inv-loop
@@ -107,7 +108,7 @@ pub +walk-inside+walk-level-spec : {M : Type 1} → statement M
     (λ c. let l = c .before .before .before .before .before .before .before .before .before .before .before .before .before .before .before .loop .inv in
     let h = c .before .before .before .before .before .before .before .before .before .before .before .before .before .take-head .ensures in
     let sp = c .before .before .before .before .before .before .before .before .before .before .before .before .before .before .before .loop .prev in
-    on-level (c .before .before .before .before .before .before .before .before .before .if1 .left) (plain-ends _ (l .7) _ _ _ _ _ _ _ _ _ _ _ (sp .from) (sp .to) _ _ _ (l .1) (l .0) (h .0) (h .1) (c .before .before .before .before .before .before .before .before .before .before .before .t .given .1) (c .before .before .before .before .before .before .before .before .is-plain .ensures) (c .before .before .before .before .before .before .before .if2 .taken) (c .before .before .before .before .before .put .ensures) (c .before .before .next-at .ensures) (search needs)))
+    on-level (c .before .before .before .before .before .before .before .before .before .if1 .left) (plain-ends _ (l .7) _ _ _ _ _ _ _ _ _ _ _ (sp .from) (sp .to) _ _ _ (l .1) (l .0) (h .0) (h .1) (c .before .before .before .before .before .before .before .before .before .before .before .t .given .1) (c .before .before .before .before .before .before .before .before .is-plain .ensures) (c .before .before .before .before .before .before .before .if2 .taken) (c .before .before .before .before .before .put-plain .ensures) (c .before .before .next-at .ensures) (search needs)))
     (λ c. search (bounds, needs))
     (λ c. let h = c .before .before .before .before .before .before .before .before .before .before .before .before .before .before .take-head .ensures in
     let q = c .before .before .before .before .before .before .before .before .before .before .before .before .t .given .1 in
@@ -118,7 +119,7 @@ pub +walk-inside+walk-level-spec : {M : Type 1} → statement M
     let sp = c .before .before .before .before .before .before .before .before .before .before .before .before .before .before .before .before .loop .prev in
     let plain = c .before .before .before .before .before .before .before .before .before .is-plain .ensures in
     let taken = c .before .before .before .before .before .before .before .before .if2 .taken in
-    let put = c .before .before .before .before .before .before .put .ensures in
+    let put = c .before .before .before .before .before .before .put-plain .ensures in
     let nn = c .before .before .before .next-at .ensures in
     let z = c .before .n .given .1 in (
       plain-again _ (l .7) _ _ _ _ _ _ _ _ _ _ _ (sp .from) (sp .to) _ _ _ (l .1) (l .0) (h .0) (h .1) q plain taken put nn z,
@@ -127,7 +128,7 @@ pub +walk-inside+walk-level-spec : {M : Type 1} → statement M
       l .3,
       taken-in _ _ _ _ _ _ (h .1) q,
       taken-more _ _ _ _ _ _ (h .1) q,
-      omega (arith, c .before .before .before .before .before .before .put .kept .0, l .6),
+      omega (arith, c .before .before .before .before .before .before .put-plain .kept .0, l .6),
       l .7,
       l .8,
       later-turn _ _ _ _ _ _ _ _ _ (c .before .before .before .before .before .before .before .before .before .before .if1 .left),
@@ -139,20 +140,21 @@ pub +walk-inside+walk-level-spec : {M : Type 1} → statement M
     (λ c κs. search needs)
     (λ c. search needs)
     (λ c. rw (c .same-walk .ensures) (search (on-level, turns, needs)))
+    (λ c. le-of-lt (taken-on _ _ _ _ _ _ (c .before .before .before .before .before .before .before .before .before .before .before .before .before .before .take-head .ensures .1) (c .before .before .before .before .before .before .before .before .before .before .before .before .t .given .1)))
     (λ c κs. search needs)
     (λ c κs. search needs)
     (λ c κs. search needs)
     (λ c κs. search needs)
     (λ c. search needs)
     (λ c. search needs)
-    (λ c. omega (arith, c .before .before .before .before .before .before .before .put2 .kept .0, c .before .before .before .before .before .before .before .before .before .before .before .before .before .before .walk-inside .kept .1 .1 .1 .1 .1 .1 .1 .1 .1 .0, c .before .before .before .before .before .before .before .before .before .before .before .before .before .before .before .before .before .before .before .before .before .before .before .before .loop .inv .6))
+    (λ c. omega (arith, c .before .before .before .before .before .before .before .put .kept .0, c .before .before .before .before .before .before .before .before .before .before .before .before .before .before .walk-inside .kept .1 .1 .1 .1 .1 .1 .1 .1 .1 .0, c .before .before .before .before .before .before .before .before .before .before .before .before .before .before .before .before .before .before .before .before .before .before .before .before .loop .inv .6))
     (λ c. let l = c .before .before .before .before .before .before .before .before .before .before .before .before .before .before .before .before .before .before .before .before .before .before .before .before .loop .inv in
     let h = c .before .before .before .before .before .before .before .before .before .before .before .before .before .before .before .before .before .before .before .before .before .before .take-head .ensures in
     let q = c .before .before .before .before .before .before .before .before .before .before .before .before .before .before .before .before .before .before .before .before .t .given .1 in
     let m = c .before .before .before .before .before .before .before .before .before .before .before .before .before .before .walk-inside .ensures in
     let g = c .before .before .before .before .before .before .before .before .before .before .r .given .1 in
     let sp = c .before .before .before .before .before .before .before .before .before .before .before .before .before .before .before .before .before .before .before .before .before .before .before .before .loop .prev in
-    on-level (c .before .before .before .before .before .before .before .before .before .before .before .before .before .before .before .before .before .before .if1 .left) (ends _ (l .7) _ _ _ _ _ _ _ _ _ _ _ (sp .from) (sp .to) _ _ _ (l .1) (l .0) (h .0) q m g (c .before .before .before .before .before .before .before .put2 .ensures) (taken-kind _ _ _ _ _ _ (h .1) q) (taken-fits _ _ _ _ _ _ (h .1) q) (c .before .before .next-at2 .ensures) (search needs) (read-in _ _ _ _ _ _ _ _ m g) (read-few _ _ _ _ _ _ _ _ m g)))
+    on-level (c .before .before .before .before .before .before .before .before .before .before .before .before .before .before .before .before .before .before .if1 .left) (ends _ (l .7) _ _ _ _ _ _ _ _ _ _ _ (sp .from) (sp .to) _ _ _ (l .1) (l .0) (h .0) q m g (c .before .before .before .before .before .before .before .put .ensures) (taken-kind _ _ _ _ _ _ (h .1) q) (taken-fits _ _ _ _ _ _ (h .1) q) (c .before .before .next-at2 .ensures) (search needs) (read-in _ _ _ _ _ _ _ _ m g) (read-few _ _ _ _ _ _ _ _ m g)))
     (λ c. let l = c .before .before .before .before .before .before .before .before .before .before .before .before .before .before .before .before .before .before .before .before .before .before .before .before .before .loop .inv in
     let h = c .before .before .before .before .before .before .before .before .before .before .before .before .before .before .before .before .before .before .before .before .before .before .before .take-head .ensures in
     let q = c .before .before .before .before .before .before .before .before .before .before .before .before .before .before .before .before .before .before .before .before .before .t .given .1 in
@@ -168,7 +170,7 @@ pub +walk-inside+walk-level-spec : {M : Type 1} → statement M
     let extra = rule (slotOf (c .before .before .before .before .before .before .before .before .before .before .before .before .before .before .before .before .before .before .before .before .before .before .before .before .before .loop .place)) .extra in
     let kk = taken-kind _ _ _ _ _ _ (h .1) q in
     let fit = taken-fits _ _ _ _ _ _ (h .1) q in
-    let put = c .before .before .before .before .before .before .before .before .put2 .ensures in
+    let put = c .before .before .before .before .before .before .before .before .put .ensures in
     let y = c .before .before .before .before .key-by .ensures in
     let nn = c .before .before .before .next-at2 .ensures in
     let z = c .before .n2 .given .1 in (
@@ -178,7 +180,7 @@ pub +walk-inside+walk-level-spec : {M : Type 1} → statement M
       rw (y .1) (span-within extra _ _ _ (l .3) (taken-in _ _ _ _ _ _ (h .1) q)),
       read-in _ _ _ _ _ _ _ _ m g,
       read-few _ _ _ _ _ _ _ _ m g,
-      omega (arith, c .before .before .before .before .before .before .before .before .put2 .kept .0, c .before .before .before .before .before .before .before .before .before .before .before .before .before .before .before .walk-inside .kept .1 .1 .1 .1 .1 .1 .1 .1 .1 .0, l .6),
+      omega (arith, c .before .before .before .before .before .before .before .before .put .kept .0, c .before .before .before .before .before .before .before .before .before .before .before .before .before .before .before .walk-inside .kept .1 .1 .1 .1 .1 .1 .1 .1 .1 .0, l .6),
       l .7,
       l .8,
       later-turn _ _ _ _ _ _ _ _ _ (c .before .before .before .before .before .before .before .before .before .before .before .before .before .before .before .before .before .before .before .if1 .left),
