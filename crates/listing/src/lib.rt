@@ -234,13 +234,22 @@ fn list_in(s: &[u8], limits: Limits, out: &mut [u8], entries: &mut [u64]) -> Lis
     }
 }
 
-// A message has no more items than bytes: a table of 128 serves a small one, and is cleared in a fraction of the time.
+// A message has no more items than bytes: tables of 128 and of 1,024 serve small ones, and are cleared in a fraction of the time.
 fn list_small(s: &[u8], limits: Limits, out: &mut [u8]) -> Listed
     requires { ⌜ (length (now s) ≤ 128) × (limits .bytes < 65536) × (limits .containers < 256) ⌝ }
     ensures { λ r. ⌜ r ≡ listOf limits (now (s .entry)) (now (out .entry)) ⌝ }
     ensures { λ r. ⌜ now (out .exit) ≡ writtenOf limits (now (s .entry)) (now (out .entry)) ⌝ }
 {
     let mut entries = [0u64; 128];
+    list_in(s, limits, out, &mut entries)
+}
+
+fn list_middle(s: &[u8], limits: Limits, out: &mut [u8]) -> Listed
+    requires { ⌜ (length (now s) ≤ 1024) × (limits .bytes < 65536) × (limits .containers < 256) ⌝ }
+    ensures { λ r. ⌜ r ≡ listOf limits (now (s .entry)) (now (out .entry)) ⌝ }
+    ensures { λ r. ⌜ now (out .exit) ≡ writtenOf limits (now (s .entry)) (now (out .entry)) ⌝ }
+{
+    let mut entries = [0u64; 1024];
     list_in(s, limits, out, &mut entries)
 }
 
@@ -252,6 +261,9 @@ pub fn list_within(limits: Limits, s: &[u8], out: &mut [u8]) -> Listed
     let most = ari::cap(limits);
     if s.len() <= 128 {
         return list_small(s, most, out);
+    }
+    if s.len() <= 1024 {
+        return list_middle(s, most, out);
     }
     let mut entries = [0u64; ari::ITEMS];
     list_in(s, most, out, &mut entries)
