@@ -13,13 +13,14 @@ use borrow.Author.Tests.{lt-ltb, le-ltb, leb-true, leb-false}
 use Rattle.ari.specs.Table.{rule}
 use Rattle.ari.specs.declared.Limits.{Limits}
 use Rattle.ari.specs.declared.Input.the-variants.{Single}
-use Rattle.ari.specs.Reader.{end, push}
+use Rattle.ari.specs.Reader.{end, push, read}
 use Rattle.ari.specs.Items.{Items}
 use Rattle.ari.specs.Decode.{decode}
 use Rattle.ari.specs.Rules.{Stands, an-ari}
 use Rattle.ari.specs.Due.{Due}
 use Rattle.ari.proofs.Due.{Fit, unsplit}
 use Rattle.ari.proofs.RulesFit.{here-ari}
+use Rattle.buffer.specs.Bytes.{part}
 use Rattle.buffer.proofs.ByteLaws.{all-bytes}
 use Rattle.text.specs.Text.{anAriDue, isRelative, isSet, textOf}
 use Rattle.text.specs.Answer.{Spelled, Output, refused, output, writeText, lent, cut, longest}
@@ -222,13 +223,31 @@ module _ (m : Limits) (b : List ℕ) (bytes : (j : ℕ) → Fits w8 (getD b j 0)
     pub fills-room : (i : ℕ) (z : List ℕ) {z′ : List ℕ} → z′ ≡ roomAfter z (lent i (output (take (l - 0) scratch′) n)) → z′ ≡ roomAfter z (lent i (writeText m b))
     fills-room i z e = e ∙ ap (λ (o : Output). roomAfter z (lent i o)) handed-is
 
--- It is written at once, within the capped limits.
-module _ {m m′ : Limits} (c : m ≡ m′) (b : List ℕ) (bytes : (j : ℕ) → Fits w8 (getD b j 0)) {need k : ℕ} (e : need ≡ longest m (length b)) (h : need ≤ k) where
-  uncut : cut k (writeText m b) ≡ lent k (writeText m′ b)
-  uncut = same-answer m b bytes (rw e at h) ∙ rw c
+-- It is written at once.
+module _ (m : Limits) (b : List ℕ) (bytes : (j : ℕ) → Fits w8 (getD b j 0)) {need k : ℕ} (e : need ≡ longest m (length b)) (h : need ≤ k) where
+  uncut : cut k (writeText m b) ≡ lent k (writeText m b)
+  uncut = same-answer m b bytes (rw e at h)
 
-  pub at-once : {a : Written} → a ≡ writtenOf (cut k (writeText m b)) → a ≡ writtenOf (lent k (writeText m′ b))
+  pub at-once : {a : Written} → a ≡ writtenOf (cut k (writeText m b)) → a ≡ writtenOf (lent k (writeText m b))
   at-once q = q ∙ ap writtenOf uncut
 
-  pub at-once-filled : (z : List ℕ) {z′ : List ℕ} → z′ ≡ roomAfter z (cut k (writeText m b)) → z′ ≡ roomAfter z (lent k (writeText m′ b))
+  pub at-once-filled : (z : List ℕ) {z′ : List ℕ} → z′ ≡ roomAfter z (cut k (writeText m b)) → z′ ≡ roomAfter z (lent k (writeText m b))
   at-once-filled z q = q ∙ ap (roomAfter z) uncut
+
+-- What is too long is refused as its front is.
+module _ (m : Limits) (b : List ℕ) {n : ℕ} (e : n ≡ m .bytes + 1) (h : n < length b) where
+  too-long : (c : List ℕ) → m .bytes < length c → writeText m c ≡ refused 1 0
+  unfolding writeText read
+  too-long c l = rw (lt-ltb (m .bytes) (length c) l)
+
+  alike : writeText m (part b 0 n) ≡ writeText m b
+  alike = too-long (part b 0 n) (omega (arith, length-take (n - 0) b)) ∙ sym (too-long b (omega arith))
+
+  pub front-answers : (k : ℕ) {a : Written} → a ≡ writtenOf (lent k (writeText m (part b 0 n))) → a ≡ writtenOf (lent k (writeText m b))
+  front-answers k q = q ∙ ap (λ (o : Output). writtenOf (lent k o)) alike
+
+  pub front-fills : (k : ℕ) (z : List ℕ) {z′ : List ℕ} → z′ ≡ roomAfter z (lent k (writeText m (part b 0 n))) → z′ ≡ roomAfter z (lent k (writeText m b))
+  front-fills k z q = q ∙ ap (λ (o : Output). roomAfter z (lent k o)) alike
+
+  pub front-shorter : length (part b 0 n) < length b
+  front-shorter = omega (arith, length-take (n - 0) b)

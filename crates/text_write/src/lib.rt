@@ -399,20 +399,34 @@ fn longest(limits: Limits, size: usize) -> usize
     4 + 3 * buffer::least(size, limits.bytes) + 16 * buffer::least(size, limits.items)
 }
 
-// The text of a single ARI in binary form, within these limits, none above the gate's own, is written into lent room: at once, if the room holds any
-// text of such an ARI.
+// Within limits of which none is above the gate's own; at once, if the room holds any text of such an ARI. An input that is too long is refused as its
+// front is. By that call of itself this stays a function without the large scratch: LLVM leaves large arrays out of what calls itself, and with
+// them each call would touch all pages of the scratch first.
+fn write_capped(limits: Limits, s: &[u8], out: &mut [u8]) -> Written
+    requires { ⌜ (limits .bytes ≤ gateLimits .bytes) × (limits .items ≤ gateLimits .items) ⌝ }
+    ensures { λ r. ⌜ r ≡ writtenOf (lent (length (now (out .entry))) (writeText limits (now (s .entry)))) ⌝ }
+    ensures { λ r. ⌜ now (out .exit) ≡ roomAfter (now (out .entry)) (lent (length (now (out .entry))) (writeText limits (now (s .entry)))) ⌝ }
+{
+    let enough = limits.bytes + 1;
+    if enough < s.len() {
+        return write_capped(limits, &s[0..enough], out);
+    }
+    if longest(limits, s.len()) <= out.len() {
+        return put_text(limits, s, out);
+    }
+    if s.len() <= SMALL {
+        return write_small(limits, s, out);
+    }
+    write_large(limits, s, out)
+}
+
+// The text of a single ARI in binary form, within these limits, none above the gate's own, is written into lent room.
 pub fn write_text_within(limits: Limits, s: &[u8], out: &mut [u8]) -> Written
     ensures { λ r. ⌜ r ≡ writtenOf (lent (length (now (out .entry))) (writeText (capped limits) (now (s .entry)))) ⌝ }
     ensures { λ r. ⌜ now (out .exit) ≡ roomAfter (now (out .entry)) (lent (length (now (out .entry))) (writeText (capped limits) (now (s .entry)))) ⌝ }
 {
     let most = ari::cap(limits);
-    if longest(most, s.len()) <= out.len() {
-        return put_text(most, s, out);
-    }
-    if s.len() <= SMALL {
-        return write_small(most, s, out);
-    }
-    write_large(most, s, out)
+    write_capped(most, s, out)
 }
 
 // The text of a single ARI in binary form is written into lent room.
