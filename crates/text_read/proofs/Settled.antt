@@ -15,8 +15,8 @@ use Rattle.ari.specs.Reader.{read}
 use Rattle.ari.specs.Items.{encode}
 use Rattle.text.specs.Text.{anAriDue}
 use Rattle.text.specs.Parse.{starts, parse, level, candidate}
-use Rattle.text.specs.Answer.{refused, output, writeText, checked, readText, lent, cut}
-use Rattle.buffer.specs.Bytes.{same}
+use Rattle.text.specs.Answer.{Output, refused, output, writeText, checked, readText, lent, cut}
+use Rattle.buffer.specs.Bytes.{same, part}
 use Rattle.buffer.proofs.ByteLaws.{same-length}
 use Rattle.buffer.specs.Put.{Put}
 use Rattle.buffer.proofs.Putting.{put-size}
@@ -125,14 +125,28 @@ module _ (m : Limits) (t : List ℕ) where
       pub short-fills : (z : List ℕ) (i : ℕ) {z′ : List ℕ} → z′ ≡ roomAfter z (lent i (checked t given (writeText m given))) → z′ ≡ roomAfter z (lent i (readText m t))
       short-fills z i o = rw (← whole-settled left-room) o
 
--- a text that is too long, within the capped limits
-module _ {m m′ : Limits} (c : m ≡ m′) (t : List ℕ) (h : m .text < length t) where
-  long-is : readText m′ t ≡ refused 1 0
+-- a text that is too long, and its front
+module _ (m : Limits) (t : List ℕ) where
+  long-is : m .text < length t → readText m t ≡ refused 1 0
   unfolding readText
-  long-is = rw (← c, lt-ltb (m .text) (length t) h)
+  long-is h = rw (lt-ltb (m .text) (length t) h)
 
-  pub long-refused : (k : ℕ) → Refused 1 0 ≡ writtenOf (lent k (readText m′ t))
-  long-refused k = rw long-is
+  module _ (h : m .text < length t) where
+    pub long-refused : (k : ℕ) → Refused 1 0 ≡ writtenOf (lent k (readText m t))
+    long-refused k = rw (long-is h)
 
-  pub long-kept : (room : List ℕ) (k : ℕ) → room ≡ roomAfter room (lent k (readText m′ t))
-  long-kept room k = rw long-is
+    pub long-kept : (room : List ℕ) (k : ℕ) → room ≡ roomAfter room (lent k (readText m t))
+    long-kept room k = rw (long-is h)
+
+module _ (m : Limits) (t : List ℕ) {n : ℕ} (e : n ≡ m .text + 1) (h : n < length t) where
+  alike : readText m (part t 0 n) ≡ readText m t
+  alike = long-is m (part t 0 n) (omega (arith, length-take (n - 0) t)) ∙ sym (long-is m t (omega arith))
+
+  pub front-answers : (k : ℕ) {a : Written} → a ≡ writtenOf (lent k (readText m (part t 0 n))) → a ≡ writtenOf (lent k (readText m t))
+  front-answers k q = q ∙ ap (λ (o : Output). writtenOf (lent k o)) alike
+
+  pub front-fills : (k : ℕ) (z : List ℕ) {z′ : List ℕ} → z′ ≡ roomAfter z (lent k (readText m (part t 0 n))) → z′ ≡ roomAfter z (lent k (readText m t))
+  front-fills k z q = q ∙ ap (λ (o : Output). roomAfter z (lent k o)) alike
+
+  pub front-shorter : length (part t 0 n) < length t
+  front-shorter = omega (arith, length-take (n - 0) t)

@@ -1,4 +1,4 @@
--- The walk that reads a text: what it puts, and where it ends. Private to src/: Parsed, Begins, short, middle.
+-- The walk that reads a text: what it puts, and where it ends. Private to src/: Parsed, Begins, middle.
 use Prim.Native.Nat.{ℕ, _+_, _≤_}
 use Prim.Native.Char.{code}
 use mathlib.Core.Path.{_≡_}
@@ -21,9 +21,6 @@ pub record Begins (t : List ℕ) (r : ℕ) : Type 0 where
   pub is : drop r t ≡ cond (starts (code ".") t) t (drop 4 t)
   pub inside : r ≤ length t
 
--- a text of fewer bytes is read in little room
-abbrev pub short : ℕ
-short = 128
-
+-- a text of fewer bytes is read in less room
 abbrev pub middle : ℕ
 middle = 16384

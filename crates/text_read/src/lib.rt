@@ -13,7 +13,7 @@ ghost use Rattle.buffer.specs.Put.{Put};
 ghost use Rattle.text.specs.Parse.{level, parse, candidate};
 ghost use Rattle.text.specs.Answer.{refused, output, writeText, checked, readText, lent};
 ghost use Rattle.text_write.specs.Written.{writtenOf, roomAfter};
-ghost use Rattle.text_read.specs.Parsed.{Parsed, Begins, short, middle};
+ghost use Rattle.text_read.specs.Parsed.{Parsed, Begins, middle};
 use ari::Limits;
 use text_write::Written;
 
@@ -194,40 +194,52 @@ fn read_long(limits: Limits, t: &[u8], out: &mut [u8]) -> Written
     read_in(limits, t, &mut bytes, &mut scratch, out)
 }
 
+// A text of fewer bytes is one of middle length, and has less room to clear.
+const MIDDLE: usize = 16384;
+
+fn read_middle(limits: Limits, t: &[u8], out: &mut [u8]) -> Written
+    requires { ⌜ (length (now t) < middle) × (length (now t) ≤ limits .text) × (limits .bytes ≤ gateLimits .bytes) ⌝ }
+    ensures { λ r. ⌜ r ≡ writtenOf (lent (length (now (out .entry))) (readText limits (now (t .entry)))) ⌝ }
+    ensures { λ r. ⌜ now (out .exit) ≡ roomAfter (now (out .entry)) (lent (length (now (out .entry))) (readText limits (now (t .entry)))) ⌝ }
+{
+    let mut bytes = [0u8; ari::BYTES + 1];
+    let mut scratch = [0u8; MIDDLE];
+    read_in(limits, t, &mut bytes, &mut scratch, out)
+}
+
 // A text of fewer bytes is a short one.
 const SHORT: usize = 128;
 
-// A short text, with little room to clear: should its candidate fill that room, the text is read as a long one.
-fn read_short(limits: Limits, t: &[u8], out: &mut [u8]) -> Written
-    requires { ⌜ (length (now t) < short) × (length (now t) ≤ limits .text) × (limits .bytes ≤ gateLimits .bytes) × (limits .text ≤ gateLimits .text) ⌝ }
+// Within limits of which none is above the gate's own. A short text has little room: should its candidate fill that, it is read as a longer one. A text
+// that is too long is refused as its front is: by that call of itself this stays a function without the large rooms, as `text_write::write_capped` does.
+fn read_capped(limits: Limits, t: &[u8], out: &mut [u8]) -> Written
+    requires { ⌜ (limits .bytes ≤ gateLimits .bytes) × (limits .text ≤ gateLimits .text) ⌝ }
     ensures { λ r. ⌜ r ≡ writtenOf (lent (length (now (out .entry))) (readText limits (now (t .entry)))) ⌝ }
     ensures { λ r. ⌜ now (out .exit) ≡ roomAfter (now (out .entry)) (lent (length (now (out .entry))) (readText limits (now (t .entry)))) ⌝ }
 {
-    let mut bytes = [0u8; SHORT];
-    let mut scratch = [0u8; SHORT];
-    let size = put_candidate(limits, t, &mut bytes);
-    if bytes.len() <= size {
-        return read_long(limits, t, out);
+    let enough = limits.text + 1;
+    if enough < t.len() {
+        return read_capped(limits, &t[0..enough], out);
     }
-    confirm(limits, t, &bytes[0..size], &mut scratch, out)
-}
-
-// One that is not short, of fewer bytes than this, is of middle length.
-const MIDDLE: usize = 16384;
-
-// So is a text of middle length, with less room to clear than the longest may need.
-fn read_middle(limits: Limits, t: &[u8], out: &mut [u8]) -> Written
-    requires { ⌜ (length (now t) < middle) × (length (now t) ≤ limits .text) × (limits .bytes ≤ gateLimits .bytes) × (limits .text ≤ gateLimits .text) ⌝ }
-    ensures { λ r. ⌜ r ≡ writtenOf (lent (length (now (out .entry))) (readText limits (now (t .entry)))) ⌝ }
-    ensures { λ r. ⌜ now (out .exit) ≡ roomAfter (now (out .entry)) (lent (length (now (out .entry))) (readText limits (now (t .entry)))) ⌝ }
-{
-    let mut bytes = [0u8; MIDDLE];
-    let mut scratch = [0u8; MIDDLE];
-    let size = put_candidate(limits, t, &mut bytes);
-    if bytes.len() <= size {
-        return read_long(limits, t, out);
+    if limits.text < t.len() {
+        return Written::Refused {
+            number: 1,
+            place: 0,
+        };
     }
-    confirm(limits, t, &bytes[0..size], &mut scratch, out)
+    if t.len() < SHORT {
+        let mut bytes = [0u8; SHORT];
+        let mut scratch = [0u8; SHORT];
+        let size = put_candidate(limits, t, &mut bytes);
+        if size < bytes.len() {
+            return confirm(limits, t, &bytes[0..size], &mut scratch, out);
+        }
+        return read_middle(limits, t, out);
+    }
+    if t.len() < MIDDLE {
+        return read_middle(limits, t, out);
+    }
+    read_long(limits, t, out)
 }
 
 // The binary form of the single ARI that a text is, within these limits, none above the gate's own.
@@ -236,19 +248,7 @@ pub fn read_text_within(limits: Limits, t: &[u8], out: &mut [u8]) -> Written
     ensures { λ r. ⌜ now (out .exit) ≡ roomAfter (now (out .entry)) (lent (length (now (out .entry))) (readText (capped limits) (now (t .entry)))) ⌝ }
 {
     let most = ari::cap(limits);
-    if most.text < t.len() {
-        return Written::Refused {
-            number: 1,
-            place: 0,
-        };
-    }
-    if t.len() < SHORT {
-        return read_short(most, t, out);
-    }
-    if t.len() < MIDDLE {
-        return read_middle(most, t, out);
-    }
-    read_long(most, t, out)
+    read_capped(most, t, out)
 }
 
 // The binary form of the single ARI that a text is.
