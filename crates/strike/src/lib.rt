@@ -1,8 +1,7 @@
 // A message without one of its targets or reports: what stands before its inner array's head, a new head, what stands up to the struck part, and
 // what stands behind it.
 ghost use mathlib.Core.Path.{_≡_};
-ghost use mathlib.Core.List.{[]};
-ghost use Prim.Native.Nat.{suc, _+_, _<_, _≤_, min};
+ghost use Prim.Native.Nat.{_+_, _<_, _≤_, min};
 ghost use lib.ListN.{length, drop};
 ghost use Rattle.buffer.specs.Put.{Put};
 ghost use Rattle.cbor.specs.Head.{array, headBytes};
@@ -167,7 +166,7 @@ fn strike_found(
     ensures { λ r. ⌜ now (out .exit) ≡ roomAfter r (struckBytes number (now (s .entry))) (now (out .entry)) ⌝ }
 {
     let h = cbor::head_again(s, inner);
-    let cbor::Head::Good { kind: _, arg, next } = h else {
+    let cbor::Head::Good { arg, next, .. } = h else {
         // the inner array's head stands there
         return Struck::Refused {
             number: 0,
