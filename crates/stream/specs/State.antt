@@ -9,11 +9,11 @@ use lib.Dec.{eqb}
 use Rattle.buffer.specs.Bytes.{part}
 use Rattle.cbor.specs.Head.{keyOf}
 use Rattle.ari.specs.declared.Limits.{Limits}
-use Rattle.ari.specs.Table.{message, version, ari}
+use Rattle.ari.specs.Table.{version}
 use Rattle.ari.specs.Reader.{Dues, sets, frame, run}
 use Rattle.grammar.specs.Code.{slotOf, IsSlot}
 use Rattle.stream.specs.declared.Frame.{Frame}
-use Rattle.stream.specs.Stream.{Standing, none, stands, standing}
+use Rattle.stream.specs.Stream.{none, stands, standing}
 
 abbrev pub word : List ℕ → ℕ → ℕ
 word ws k = getD ws k 0

@@ -1,7 +1,7 @@
 -- A message as the link delivers it: R130 to R134. Interface: all of it. The bytes are those that were received since a fresh message began, however
 -- they were cut.
 use Prim.Native.Nat.{ℕ, _-_, _/_}
-use mathlib.Core.Bool.{Bool, true, false, _||_, cond}
+use mathlib.Core.Bool.{Bool, _||_, cond}
 use mathlib.Core.List.{List}
 use lib.ListN.{length, take}
 use lib.Seq.{sets}

@@ -2,7 +2,7 @@
 // fragment goes on from there; the message itself stands in a lent room.
 ghost use mathlib.Core.Path.{_≡_};
 ghost use mathlib.Core.Bool.{false, _&&_};
-ghost use Prim.Native.Nat.{_+_, _-_, _≤_, _<_, min};
+ghost use Prim.Native.Nat.{_+_, _-_, _≤_, _<_};
 ghost use lib.ListN.{length, set};
 ghost use lib.Dec.{eqb};
 ghost use Rattle.buffer.specs.Put.{Put};
@@ -185,7 +185,7 @@ fn string_until(s: &[u8], at: usize, most: usize) -> usize
     ensures { λ r. ⌜ r ≡ stringUntil (headAt (now (s .entry)) at) most (length (now (s .entry))) ⌝ }
 {
     match cbor::head_again(s, at) {
-        cbor::Head::Good { kind: _, arg, next } => next + buffer::least(arg as usize, most),
+        cbor::Head::Good { arg, next, .. } => next + buffer::least(arg as usize, most),
         cbor::Head::Bad(_) => s.len() + 1,
     }
 }
@@ -215,11 +215,7 @@ fn halt(s: &[u8], most: usize, t: Step, at: usize, count: usize, opened: usize) 
             }
             Stop::Refused { number, place }
         }
-        Step::Taken {
-            kind: _,
-            arg: _,
-            after: _,
-        } => Stop::Refused {
+        Step::Taken { .. } => Stop::Refused {
             number: 0,
             place: 0,
         },
@@ -377,12 +373,7 @@ fn overflow(s: &[u8], limits: Limits, state: &mut [u64]) -> Fed
 {
     match go_on(s, limits, state) {
         Stop::Refused { number, place } => stand(state, number, place),
-        Stop::Waits {
-            at: _,
-            count: _,
-            opened: _,
-            until: _,
-        } => stand(state, 1, 0),
+        Stop::Waits { .. } => stand(state, 1, 0),
     }
 }
 
@@ -542,11 +533,8 @@ fn wants_room(a: Listed) -> bool
     ensures { λ r. ⌜ r ≡ wantsRoom a ⌝ }
 {
     match a {
-        Listed::Refused { number, place: _ } => number == 16,
-        Listed::Entries {
-            listed: _,
-            count: _,
-        } => false,
+        Listed::Refused { number, .. } => number == 16,
+        Listed::Entries { .. } => false,
     }
 }
 
