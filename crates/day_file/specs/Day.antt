@@ -3,7 +3,7 @@ use Prim.Native.Nat.{ℕ, zero, suc, _+_, _-_, _*_, _<_, min}
 use mathlib.Core.Path.{_≡_}
 use mathlib.Core.Bool.{Bool, true, false, not, _&&_, _||_, cond}
 use mathlib.Core.List.{List, [], _∷_, _++_}
-use lib.ListN.{length, drop, take, getD}
+use lib.ListN.{length, drop, getD}
 use lib.Dec.{eqb, ltb, leb}
 use Rattle.buffer.specs.Bytes.{be, loadAt, part, within}
 use Rattle.ari.specs.declared.Limits.{Limits}

@@ -6,7 +6,6 @@ ghost use Prim.Native.Nat.{_+_, _*_, _<_, _≤_};
 ghost use lib.ListN.{length};
 ghost use Rattle.buffer.specs.Bytes.{be, part};
 ghost use Rattle.buffer.specs.Put.{Put};
-ghost use Rattle.ari.specs.declared.Input.the-variants as input;
 ghost use Rattle.day_file.specs.Day.{width, mostBytes, trailer, countIn, startIn, offsetIn, endIn, messageIn, firstAt, messageAt, trailerStands, entryStands, messageStands, firstNot, Sized, checkDay, outlineDay, findDay, partOf, isFull, fullOr, grown, withMessage, addDay, roomAfter};
 ghost use Rattle.day_file.specs.Versions.{isSecond, formatOf, limitsOf};
 use ari::Input;
@@ -263,10 +262,7 @@ fn message_stands(format: Format, limits: Limits, file: &[u8], k: usize) -> bool
 {
     match reader::check(Input::Message, limits, message_in(format, file, k)) {
         Answer::Accepted(_) => true,
-        Answer::Refused {
-            number: _,
-            place: _,
-        } => false,
+        Answer::Refused { .. } => false,
     }
 }
 
@@ -361,10 +357,7 @@ pub fn message<'a>(format: Format, limits: Limits, file: &'a [u8], number: u64) 
 {
     match find(format, limits, file, number) {
         Found::Part { from, to } => part(file, from, to),
-        Found::Refused {
-            number: _,
-            place: _,
-        } => &file[0..0],
+        Found::Refused { .. } => &file[0..0],
     }
 }
 
