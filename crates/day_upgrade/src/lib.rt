@@ -1,11 +1,11 @@
 // A day file of version 1 as one of version 2, with the same messages.
 ghost use mathlib.Core.Path.{_≡_};
-ghost use Prim.Native.Nat.{_*_, _<_};
+ghost use Prim.Native.Nat.{_<_};
 ghost use lib.ListN.{length};
 ghost use Rattle.buffer.specs.Put.{Put};
 ghost use Rattle.ari.specs.Limits.{firstLimits};
 ghost use Rattle.day_file.specs.declared.Day.the-variants as days;
-ghost use Rattle.day_file.specs.Day.{trailer, startIn, checkDay, roomAfter};
+ghost use Rattle.day_file.specs.Day.{trailer, checkDay, roomAfter};
 ghost use Rattle.day_file.specs.Versions.{version1, version2};
 ghost use Rattle.day_upgrade.specs.Upgrade.{upgraded, upgradedBy, upgradeDay};
 ghost use Rattle.day_upgrade.specs.Code.{wideOffsets, rewritten};
