@@ -96,7 +96,7 @@ fn kind_at(slot: u64, h: cbor::Head) -> Kind
     ensures { λ r. ⌜ r ≡ kindAt slot h ⌝ }
 {
     match h {
-        cbor::Head::Good { kind, arg, next: _ } => kind_of(
+        cbor::Head::Good { kind, arg, .. } => kind_of(
             item_table::is_reference(slot, kind, arg),
             kind,
             arg,
