@@ -125,8 +125,8 @@ pub fn release_code(a: Released) -> u64
     ensures { λ r. ⌜ r ≡ releaseCode (releasedOf a) ⌝ }
 {
     match a {
-        Released::Yes { compared: _ } => 0,
-        Released::No { entry, compared: _ } => refusal_code(255, entry as u64),
+        Released::Yes { .. } => 0,
+        Released::No { entry, .. } => refusal_code(255, entry as u64),
         Released::Refused { number, place } => refusal_code(number, place as u64),
     }
 }
@@ -137,14 +137,8 @@ pub fn put_compared(a: Released, compared: &mut u64)
 {
     match a {
         Released::Yes { compared: c } => *compared = c,
-        Released::No {
-            entry: _,
-            compared: c,
-        } => *compared = c,
-        Released::Refused {
-            number: _,
-            place: _,
-        } => {}
+        Released::No { compared: c, .. } => *compared = c,
+        Released::Refused { .. } => {}
     }
 }
 
