@@ -1,6 +1,6 @@
 // The C archive: each answer is one number, as host/surfbodkin.h says.
 ghost use mathlib.Core.Path.{_≡_};
-ghost use Prim.Native.Nat.{_-_, _/_, min};
+ghost use Prim.Native.Nat.{_/_};
 ghost use lib.ListN.{length};
 ghost use Rattle.ari.specs.declared.Input.the-variants.{Single, Message};
 ghost use Rattle.ari.specs.Reader.{read};
@@ -16,9 +16,8 @@ ghost use Rattle.day_upgrade.specs.Upgrade.{upgraded, upgradeDay};
 ghost use Rattle.day_search.specs.Search.{searchDay, hits, roomAfter as foundIn};
 ghost use Rattle.month.specs.Adding.{sourceOf};
 ghost use Rattle.grants.specs.Bytes.{checkBytes};
-ghost use Rattle.grants.specs.Verdict.{checkOf};
 ghost use Rattle.listing.specs.Answers.{listOf, writtenOf as listedIn};
-ghost use Rattle.release.specs.Release.{releaseBytes, answerOf as releasedOf};
+ghost use Rattle.release.specs.Release.{releaseBytes};
 ghost use Rattle.release.specs.Compared.{countAfter, countedBytes};
 ghost use Rattle.why_held.specs.Why.{why, outcomeIn, whyRoom};
 ghost use Rattle.text.specs.Answer.{writeText, readText, lent};
