@@ -1,7 +1,7 @@
 // Orders composed at a field console: the message of a nonce and of targets that are given as texts. What is read, judged and handed over is the gate's.
 ghost use mathlib.Core.Path.{_≡_};
 ghost use mathlib.Core.Bool.{true};
-ghost use Prim.Native.Nat.{_+_, _≤_, _<_};
+ghost use Prim.Native.Nat.{_≤_, _<_};
 ghost use lib.ListN.{length};
 ghost use Rattle.buffer.specs.Put.{Put};
 ghost use Rattle.buffer.specs.Runs.{RunTo};
@@ -139,7 +139,7 @@ fn is_object(b: &[u8]) -> bool
     ensures { λ r. ⌜ r ≡ isObjectAt (now (b .entry)) ⌝ }
 {
     match cbor::head_again(b, 0) {
-        cbor::Head::Good { kind, arg, next: _ } => {
+        cbor::Head::Good { kind, arg, .. } => {
             if kind == cbor::ARRAY {
                 if 3 <= arg {
                     return arg <= 4;
@@ -157,7 +157,7 @@ fn take_text(limits: Limits, t: &[u8], room: &mut [u8]) -> Taken
 {
     let w = text_read::read_text_within(limits, t, room);
     match w {
-        Written::Refused { number, place: _ } => {
+        Written::Refused { number, .. } => {
             if number == 16 {
                 return Taken::TooLong;
             }
@@ -228,7 +228,7 @@ fn rest_of(limits: Limits, texts: &[u8], at: usize, number: usize, room: &mut [u
         match w {
             Taken::Nothing => return Rest::Wrong(k),
             Taken::TooLong => return Rest::Wrong(k),
-            Taken::Target { size: _, count: _ } => {}
+            Taken::Target { .. } => {}
         }
         p = e + 1;
         k += 1;
@@ -281,41 +281,12 @@ fn finish(limits: Limits, b: &[u8], count: usize, out: &mut [u8]) -> Written
         return refusal(5, 0);
     }
     match reader::check(ari::Input::Message, most, b) {
-        Answer::Refused {
-            number: _,
-            place: _,
-        } => refusal(6, 0),
+        Answer::Refused { .. } => refusal(6, 0),
         Answer::Accepted(items) => text_write::hand_over(b, items, out),
     }
 }
 
 // Through a scratch that holds any message. Of an order that it does not hold, the texts that are left are looked at all the same.
-fn compose_in(
-    limits: Limits,
-    kind: u64,
-    number: u64,
-    nonce: &[u8],
-    texts: &[u8],
-    scratch: &mut [u8],
-    out: &mut [u8],
-) -> Written
-    requires { ⌜ (gateLimits .bytes < length (now scratch)) × (inRange (nonceOf kind number (now nonce)) ≡ true) ⌝ }
-    ensures { λ r. ⌜ r ≡ writtenOf (lent (length (now (out .entry))) (composedBy (capped limits) (nonceOf kind number (now (nonce .entry))) (gatherAt (capped limits) (now (texts .entry)) 0 0))) ⌝ }
-    ensures { λ r. ⌜ now (out .exit) ≡ roomAfter (now (out .entry)) (lent (length (now (out .entry))) (composedBy (capped limits) (nonceOf kind number (now (nonce .entry))) (gatherAt (capped limits) (now (texts .entry)) 0 0))) ⌝ }
-{
-    let w = build(limits, kind, number, nonce, texts, scratch);
-    match w {
-        Built::Wrong(k) => refusal(24, k),
-        Built::Over { at, number: k } => {
-            match rest_of(limits, texts, at, k, scratch) {
-                Rest::Wrong(j) => refusal(24, j),
-                Rest::Right => refusal(1, 0),
-            }
-        }
-        Built::Whole { size, count } => finish(limits, &scratch[0..size], count, out),
-    }
-}
-
 fn compose_long(
     limits: Limits,
     kind: u64,
@@ -329,7 +300,17 @@ fn compose_long(
     ensures { λ r. ⌜ now (out .exit) ≡ roomAfter (now (out .entry)) (lent (length (now (out .entry))) (composedBy (capped limits) (nonceOf kind number (now (nonce .entry))) (gatherAt (capped limits) (now (texts .entry)) 0 0))) ⌝ }
 {
     let mut scratch = [0u8; ari::BYTES + 1];
-    compose_in(limits, kind, number, nonce, texts, &mut scratch, out)
+    let w = build(limits, kind, number, nonce, texts, &mut scratch);
+    match w {
+        Built::Wrong(k) => refusal(24, k),
+        Built::Over { at, number: k } => {
+            match rest_of(limits, texts, at, k, &mut scratch) {
+                Rest::Wrong(j) => refusal(24, j),
+                Rest::Right => refusal(1, 0),
+            }
+        }
+        Built::Whole { size, count } => finish(limits, &scratch[0..size], count, out),
+    }
 }
 
 // What is this short makes a short order, nearly always.
@@ -352,7 +333,7 @@ fn compose_short(
     let w = build(limits, kind, number, nonce, texts, &mut scratch);
     match w {
         Built::Wrong(k) => refusal(24, k),
-        Built::Over { at: _, number: _ } => compose_long(limits, kind, number, nonce, texts, out),
+        Built::Over { .. } => compose_long(limits, kind, number, nonce, texts, out),
         Built::Whole { size, count } => finish(limits, &scratch[0..size], count, out),
     }
 }
