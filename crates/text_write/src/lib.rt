@@ -64,9 +64,11 @@ fn take_item(s: &[u8], at: usize, slot: u64, depth: usize) -> Item
     }
 }
 
+// What a head writes, before its members and after them; the slot's spelling is looked up once for both.
 fn write_before(
     s: &[u8],
     slot: u64,
+    spelling: u8,
     kind: u8,
     arg: u64,
     from: usize,
@@ -74,18 +76,16 @@ fn write_before(
     out: &mut [u8],
     at: usize,
 ) -> usize
-    requires { ⌜ IsSlot slot × (from ≤ to) × (to ≤ length (now s)) ⌝ }
+    requires { ⌜ (spelling ≡ spellingAt slot) × (from ≤ to) × (to ≤ length (now s)) ⌝ }
     ensures { λ r. ⌜ Put (now (out .entry)) (now (out .exit)) at r (beforeBy (spellingAt slot) kind arg (part (now (s .entry)) from to)) ⌝ }
 {
-    let spelling = text_write_item::spelling_of(slot);
     text_write_item::put_before(out, at, spelling, kind, arg, &s[from..to])
 }
 
-fn write_after(slot: u64, kind: u8, more: bool, out: &mut [u8], at: usize) -> usize
-    requires { ⌜ IsSlot slot ⌝ }
+fn write_after(slot: u64, spelling: u8, kind: u8, more: bool, out: &mut [u8], at: usize) -> usize
+    requires { ⌜ spelling ≡ spellingAt slot ⌝ }
     ensures { λ r. ⌜ Put (now (out .entry)) (now (out .exit)) at r (afterBy (spellingAt slot) kind more) ⌝ }
 {
-    let spelling = text_write_item::spelling_of(slot);
     text_write_item::put_after(out, at, spelling, kind, more)
 }
 
@@ -128,6 +128,7 @@ fn write_level(
     let mut place = slot;
     let mut left = more;
     loop {
+        let spelling = text_write_item::spelling_of(place);
         let t = take_item(s, p, place, depth);
         let Item::Taken {
             kind,
@@ -138,17 +139,17 @@ fn write_level(
         else {
             return Pos { next: p, end: r };
         };
-        let q = write_before(s, place, kind, arg, from, to, out, r);
+        let q = write_before(s, place, spelling, kind, arg, from, to, out, r);
         let w = write_inside(s, to, depth, place, kind, arg, out, q);
         let n = grammar::next_slot(place, arg, left);
         let grammar::Next::Due { slot: a, more: b } = n else {
-            let e = write_after(place, kind, false, out, w.end);
+            let e = write_after(place, spelling, kind, false, out, w.end);
             return Pos {
                 next: w.next,
                 end: e,
             };
         };
-        r = write_after(place, kind, true, out, w.end);
+        r = write_after(place, spelling, kind, true, out, w.end);
         p = w.next;
         place = a;
         left = b;

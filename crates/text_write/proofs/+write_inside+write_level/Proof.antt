@@ -9,7 +9,7 @@ use Rattle.grammar.specs.Code.{slotOf}
 use Rattle.grammar.specs.Code.{IsSlot}
 use Rattle.reader.proofs.Bounds.{opens, less-deep, inner-slot}
 use Rattle.buffer.proofs.Putting.{put-size}
-use Rattle.text_write.proofs.Writing.{Leads, begins, again, next-slotted, falls-on, taken-on, taken-order, taken-in, writing}
+use Rattle.text_write.proofs.Writing.{Leads, begins, ends, again, next-slotted, falls-on, taken-on, taken-order, taken-in, writing}
 use borrow.Fn.Kinds.{In}
 use borrow.Fn.PlainCycle.{Measures, is, falls, and}
 use Rattle.text_write.proofs.write_inside.Reads as write-inside
@@ -20,6 +20,7 @@ use Rattle.text_write.proofs.write_level.Kinds as write-level-kinds
 use Rattle.text_write.proofs.+write_inside+write_level.Lts-write_level as write-level-lts
 use Rattle.grammar.proofs.inside.Reads as inside-reads
 use Rattle.grammar.proofs.next_slot.Reads as next-slot-reads
+use Rattle.text_write_item.proofs.spelling_of.Reads as spelling-of-reads
 use Rattle.text_write.proofs.write_after.Reads as write-after-reads
 use Rattle.text_write.proofs.write_before.Reads as write-before-reads
 use Rattle.text_write.proofs.take_item.Reads as take-item-reads
@@ -55,6 +56,8 @@ abbrev write-level-μ-loop : write-level-lts.MeasureT-loop
 write-level-μ-loop s at depth slot more out₀ end p₀ r₀ place₀ left₀ out p r place left = length s - p
 
 write-level-loop-less : (t : ℕ) → write-level-lts.Need-loop-less (
+  spelling-of-reads.Asked,
+  spelling-of-reads.Learnt,
   take-item-reads.Asked,
   take-item-reads.Learnt,
   write-before-reads.Asked,
@@ -73,6 +76,8 @@ write-level-loop-less t c =
     falls-on _ _ _ _ _ (taken-on _ _ 0 _ _ 0 y e) (taken-order _ _ 0 _ _ 0 y e) (m .on) (m .within)
 
 write-level-loop-again : (t : ℕ) → write-level-lts.Need-loop-again (
+  spelling-of-reads.Asked,
+  spelling-of-reads.Learnt,
   take-item-reads.Asked,
   take-item-reads.Learnt,
   write-before-reads.Asked,
@@ -85,7 +90,7 @@ write-level-loop-again : (t : ℕ) → write-level-lts.Need-loop-again (
   write-after-reads.Learnt,
 ) (write-level-at t) write-level.Post write-level-Inv-loop write-level-μ-loop
 write-level-loop-again t c =
-    let l = c .before .before .before .before .before .before .before .before .before .before .before .before .before .before .before .before .before .before .before .before .loop .inv in
+    let l = c .before .before .before .before .before .before .before .before .before .before .before .before .before .before .before .before .before .before .before .before .before .loop .inv in
     let y = c .before .before .before .before .before .before .before .before .before .before .before .before .before .before .before .before .before .before .before .take-item .ensures in
     let e = c .before .before .before .before .before .before .before .before .before .before .before .before .before .before .before .before .before .t .given .1 in
     let p = c .before .before .before .before .before .before .before .before .before .before .before .before .before .before .write-before .ensures in
@@ -117,6 +122,8 @@ pub +write-inside+write-level-spec : {M : Type 1} → statement M
     (λ c. search (writing, needs))
     (λ c. search (writing, needs)))
     λ t. write-level-lts.spec (
+      spelling-of-reads.Asked,
+      spelling-of-reads.Learnt,
       take-item-reads.Asked,
       take-item-reads.Learnt,
       write-before-reads.Asked,
@@ -134,6 +141,7 @@ pub +write-inside+write-level-spec : {M : Type 1} → statement M
     write-level-μ-loop
     (λ c. (search (begins, needs), search needs, search needs, search needs))
     (λ c κs. search (writing, needs))
+    (λ c κs. search (writing, needs))
     (λ c. search (writing, needs))
     (λ c. search (writing, needs))
     (λ c. search (writing, needs))
@@ -144,8 +152,17 @@ pub +write-inside+write-level-spec : {M : Type 1} → statement M
     (λ c. search (writing, needs))
     (λ c. search (writing, needs))
     (λ c κs. search (writing, needs))
-    (λ c. search (writing, needs))
-    (λ c. search (writing, needs))
+    (λ c. put-size (c .before .before .write-after .ensures) ∙ c .before .before .before .before .before .before .before .before .before .write-inside .kept .1 .1 .1 .1 .1 .1 .0 ∙ put-size (c .before .before .before .before .before .before .before .before .before .before .before .before .before .write-before .ensures) ∙ c .before .before .before .before .before .before .before .before .before .before .before .before .before .before .before .before .before .before .before .before .loop .inv .3)
+    (λ c.
+    let l = c .before .before .before .before .before .before .before .before .before .before .before .before .before .before .before .before .before .before .before .before .loop .inv in
+    let y = c .before .before .before .before .before .before .before .before .before .before .before .before .before .before .before .before .before .before .take-item .ensures in
+    let e = c .before .before .before .before .before .before .before .before .before .before .before .before .before .before .before .before .t .given .1 in
+    let p = c .before .before .before .before .before .before .before .before .before .before .before .before .before .write-before .ensures in
+    let m = c .before .before .before .before .before .before .before .before .before .write-inside .ensures in
+    let n = c .before .before .before .before .before .before .next-slot .ensures in
+    let z = c .before .before .before .before .enum-told2 .given .1 in
+    let q = c .before .before .write-after .ensures in
+    ends _ _ _ _ _ _ _ _ _ _ _ (l .0) y e (l .1) n p m z q)
     (λ c κs. search (writing, needs))
     (write-level-loop-less t)
     (write-level-loop-again t)
