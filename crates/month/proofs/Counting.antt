@@ -10,7 +10,7 @@ use Rattle.month_lines.specs.Lines.{mostLines}
 use Rattle.month_lines.specs.Code.{beyond, Counts}
 use Rattle.month_figures.specs.Figures.{turned, Figures}
 use Rattle.month.specs.declared.Tally.{Tally}
-use Rattle.month.specs.Code.{withCode, withSize, Goes, sized}
+use Rattle.month.specs.Code.{withCounts, withCode, withSize, Goes, sized}
 
 more : (a d : ℕ) {v x : ℕ} → x ≡ min a beyond → v ≡ min (x + d) beyond → v ≡ min (a + d) beyond
 more a d h e = omega arith
@@ -18,8 +18,8 @@ more a d h e = omega arith
 module _ (t : Tally) (ps cs : List ℕ) where
   module _ {s : Namespace} where
     pub space-number : {w p n : ℕ} {ps′ cs′ : List ℕ} → s ≡ code.Number w → p ≡ turned w → Counts ps cs (t .lines) p n ps′ cs′ → mostLines ≤ length ps → mostLines ≤ length cs
-        → Goes t ps cs (withCode s) (record { messages = t .messages; bytes = t .bytes; items = t .items; unknown = t .unknown; relative = t .relative; lines = n }) ps′ cs′
-    space-number g e c a b = rw g (record {
+        → {r : Tally} → r ≡ withCounts t (t .unknown) (t .relative) n → Goes t ps cs (withCode s) r ps′ cs′
+    space-number g e c a b q = rw (g, q) (record {
       on = λ f h. record {
         messages = h .messages;
         bytes = h .bytes;
@@ -31,8 +31,8 @@ module _ (t : Tally) (ps cs : List ℕ) where
     })
 
     pub space-unknown : {p l x : ℕ} → s ≡ code.Name p l → x ≡ min (t .unknown + 1) beyond
-        → Goes t ps cs (withCode s) (record { messages = t .messages; bytes = t .bytes; items = t .items; unknown = x; relative = t .relative; lines = t .lines }) ps cs
-    space-unknown g e = rw g (record {
+        → {r : Tally} → r ≡ withCounts t x (t .relative) (t .lines) → Goes t ps cs (withCode s) r ps cs
+    space-unknown g e q = rw (g, q) (record {
       on = λ f h. record {
         messages = h .messages;
         bytes = h .bytes;
@@ -44,8 +44,8 @@ module _ (t : Tally) (ps cs : List ℕ) where
     })
 
     pub space-relative : {x : ℕ} → s ≡ code.Relative → x ≡ min (t .relative + 1) beyond
-        → Goes t ps cs (withCode s) (record { messages = t .messages; bytes = t .bytes; items = t .items; unknown = t .unknown; relative = x; lines = t .lines }) ps cs
-    space-relative g e = rw g (record {
+        → {r : Tally} → r ≡ withCounts t (t .unknown) x (t .lines) → Goes t ps cs (withCode s) r ps cs
+    space-relative g e q = rw (g, q) (record {
       on = λ f h. record {
         messages = h .messages;
         bytes = h .bytes;

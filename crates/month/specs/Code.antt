@@ -77,6 +77,9 @@ pub record Held (t : Tally) (ps cs : List ℕ) (f : Figures) : Type 0 where
 pub record Goes (t : Tally) (ps cs : List ℕ) (g : Figures → Figures) (t′ : Tally) (ps′ cs′ : List ℕ) : Type 0 where
   pub on : (f : Figures) → Held t ps cs f → Held t′ ps′ cs′ (g f)
 
+abbrev pub withCounts : Tally → ℕ → ℕ → ℕ → Tally
+withCounts t u r n = record { messages = t .messages; bytes = t .bytes; items = t .items; unknown = u; relative = r; lines = n }
+
 abbrev pub sized : Tally → ℕ → ℕ → Tally
 sized t b i = record { messages = min (t .messages + 1) beyond; bytes = min (t .bytes + b) beyond; items = min (t .items + i) beyond; unknown = t .unknown; relative = t .relative; lines = t .lines }
 

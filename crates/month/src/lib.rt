@@ -13,7 +13,7 @@ ghost use Rattle.month_figures.specs.State.{words};
 ghost use mathlib.Core.List.{map};
 ghost use Rattle.day_file.specs.Versions.{formatOf, limitsOf};
 ghost use Rattle.month.specs.Adding.{sourceOf, Adds};
-ghost use Rattle.month.specs.Code.{withCode, withSpaces, withMessage, Goes, sized, MessageWalked, tallyIn, tallyWords, Fetches, putBack, totalsSmall, linesSmall, Judges, Settles, CountedOn, MessagesAdded, Files};
+ghost use Rattle.month.specs.Code.{withCounts, withCode, withSpaces, withMessage, Goes, sized, MessageWalked, tallyIn, tallyWords, Fetches, putBack, totalsSmall, linesSmall, Judges, Settles, CountedOn, MessagesAdded, Files};
 use ari::Input;
 use ari::Limits;
 use day_file::Day;
@@ -40,35 +40,52 @@ pub enum Walked {
     Refused(usize),
 }
 
+// The totals of messages, with these counts of references and lines.
+fn with_counts(t: Tally, unknown: u64, relative: u64, lines: usize) -> Tally
+    ensures { λ r. ⌜ r ≡ withCounts t unknown relative lines ⌝ }
+{
+    Tally {
+        messages: t.messages,
+        bytes: t.bytes,
+        items: t.items,
+        unknown,
+        relative,
+        lines,
+    }
+}
+
 // One reference more: to a number, by a name that stands for none, or with no namespace.
-fn count_space(places: &mut [u64], amounts: &mut [u64], mut t: Tally, namespace: Namespace) -> Tally
+fn count_space(places: &mut [u64], amounts: &mut [u64], t: Tally, namespace: Namespace) -> Tally
     requires { ⌜ (256 ≤ length (now places)) × (256 ≤ length (now amounts)) ⌝ }
     ensures { λ r. ⌜ Goes t (now (places .entry)) (now (amounts .entry)) (withCode namespace) r (now (places .exit)) (now (amounts .exit)) ⌝ }
 {
     match namespace {
         Namespace::Number(word) => {
-            t.lines = month_lines::count(places, amounts, t.lines, month_figures::turned(word));
-            t
+            let lines = month_lines::count(places, amounts, t.lines, month_figures::turned(word));
+            with_counts(t, t.unknown, t.relative, lines)
         }
-        Namespace::Name { .. } => {
-            t.unknown = month_lines::more(t.unknown, 1);
-            t
-        }
-        Namespace::Relative => {
-            t.relative = month_lines::more(t.relative, 1);
-            t
-        }
+        Namespace::Name { .. } => with_counts(
+            t,
+            month_lines::more(t.unknown, 1),
+            t.relative,
+            t.lines,
+        ),
+        Namespace::Relative => with_counts(t, t.unknown, month_lines::more(t.relative, 1), t.lines),
     }
 }
 
 // A message more, with so many bytes and items.
-fn with_size(mut t: Tally, bytes: usize, items: usize) -> Tally
+fn with_size(t: Tally, bytes: usize, items: usize) -> Tally
     ensures { λ r. ⌜ r ≡ sized t bytes items ⌝ }
 {
-    t.messages = month_lines::more(t.messages, 1);
-    t.bytes = month_lines::more(t.bytes, bytes as u64);
-    t.items = month_lines::more(t.items, items as u64);
-    t
+    Tally {
+        messages: month_lines::more(t.messages, 1),
+        bytes: month_lines::more(t.bytes, bytes as u64),
+        items: month_lines::more(t.items, items as u64),
+        unknown: t.unknown,
+        relative: t.relative,
+        lines: t.lines,
+    }
 }
 
 // The references of a table.

@@ -1,4 +1,4 @@
--- `month::count_space` meets its contract: by the namespace.
+-- `month::count_space` meets its contract: by what it stands for.
 use Rattle.month.proofs.Counting.{counts}
 use borrow.Author.Needs.{needs}
 use Rattle.month.proofs.count_space.Statement.{statement}
@@ -11,9 +11,12 @@ count-space-spec =
     (λ c. search (counts, needs))
     (λ c κs. search (counts, needs))
     (λ c κs. search (counts, needs))
-    (λ c. search (counts, needs))
     (λ c κs. search (counts, needs))
     (λ c. search (counts, needs))
+    (λ c κs. search (counts, needs))
+    (λ c κs. search (counts, needs))
+    (λ c. search (counts, needs))
+    (λ c κs. search (counts, needs))
     (λ c κs. search (counts, needs))
     (λ c. search (counts, needs))
     (λ c. search (counts, needs))
