@@ -153,13 +153,12 @@ fn say_usage() {
 fn send(kind: u64, number: u64, nonce: &[u8], texts: &[u8]) {
     let mut room = [0u8; ari::BYTES];
     match composer::compose(kind, number, nonce, texts, &mut room) {
-        text_write::Written::Bytes { length, count: _ } => {
+        text_write::Written::Bytes { length, .. } => {
             print::flush(&room, length);
         }
         text_write::Written::Refused { number, place } => {
             let mut line = io::buffer();
-            let p = print::refused(&mut line, 0, number, place);
-            print::flush(&line, p);
+            print::refusal(&mut line, number, place);
         }
     }
 }

@@ -1,30 +1,8 @@
 // Reads a message from standard input, or with the argument `single` a single ARI, and writes a line for each item, or the
 // input's refusal.
 
+use arguments::Choice;
 use ari::Input;
-
-// What the arguments ask for.
-enum Choice {
-    Message,
-    Single,
-    Unknown,
-}
-
-fn asked() -> Choice {
-    let count = os::arg_count();
-    if count < 2 {
-        return Choice::Message;
-    }
-    if 2 < count {
-        return Choice::Unknown;
-    }
-    let mut word = [0u8; 8];
-    let n = os::arg(1, &mut word);
-    if check::same(&word[..n], b"single") {
-        return Choice::Single;
-    }
-    Choice::Unknown
-}
 
 // The items of an accepted input, by the words of its table, or its refusal.
 fn show_input(s: &[u8], input: Input, entries: &mut [u64], out: &mut [u8]) {
@@ -36,10 +14,7 @@ fn show_input(s: &[u8], input: Input, entries: &mut [u64], out: &mut [u8]) {
                 print::flush(out, p);
             }
         }
-        reader::Answer::Refused { number, place } => {
-            let p = print::refused(out, 0, number, place);
-            print::flush(out, p);
-        }
+        reader::Answer::Refused { number, place } => print::refusal(out, number, place),
     }
 }
 
@@ -53,9 +28,9 @@ fn show_all(kind: Input) {
 }
 
 fn main() {
-    match asked() {
-        Choice::Message => show_all(Input::Message),
-        Choice::Single => show_all(Input::Single),
+    match arguments::asked(b"single") {
+        Choice::Plain => show_all(Input::Message),
+        Choice::Word => show_all(Input::Single),
         Choice::Unknown => {
             io::write_all(2, b"usage: gate items [single]\n");
         }

@@ -1,8 +1,9 @@
 // `gate names PUBLISHED [OWN]`: whether each line of the two lists of names is well-formed: `passes LINES`, or `refused 19 BYTE` and a line that says which
 // line of which file it is and what is wrong with it. `gate names PUBLISHED OWN NAME` writes the line that the name has, if it has one.
 
-ghost use Prim.Native.Nat.{_≤_, _<_};
+ghost use Prim.Native.Nat.{_≤_};
 ghost use lib.ListN.{length};
+use input_file::Loaded;
 
 // One line end more; no file has so many that they are not counted.
 fn counted(n: u64, byte: u8) -> u64
@@ -154,12 +155,12 @@ fn judge_own(published: &[u8], published_name: &[u8], text: &mut [u8]) {
     let mut path = io::buffer();
     let n = os::arg(2, &mut path);
     match list_file::load_argument(2, text) {
-        list_file::Loaded::Bytes(size) => {
+        Loaded::Bytes(size) => {
             if size <= text.len() {
                 judge(published, &text[0..size], published_name, &path[..n]);
             }
         }
-        list_file::Loaded::Nothing => {}
+        Loaded::Nothing => {}
     }
 }
 
@@ -167,12 +168,12 @@ fn judge_published(text: &mut [u8], own: &mut [u8]) {
     let mut path = io::buffer();
     let n = os::arg(1, &mut path);
     match list_file::load_argument(1, text) {
-        list_file::Loaded::Bytes(size) => {
+        Loaded::Bytes(size) => {
             if size <= text.len() {
                 judge_own(&text[0..size], &path[..n], own);
             }
         }
-        list_file::Loaded::Nothing => {}
+        Loaded::Nothing => {}
     }
 }
 

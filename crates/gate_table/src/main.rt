@@ -2,28 +2,7 @@
 // and a line that says which two rows clash. With the argument `pack` it writes the rows as bytes. A text that is no table is said
 // on standard error.
 
-// What the arguments ask for.
-enum Choice {
-    Check,
-    Pack,
-    Unknown,
-}
-
-fn asked() -> Choice {
-    let count = os::arg_count();
-    if count < 2 {
-        return Choice::Check;
-    }
-    if 2 < count {
-        return Choice::Unknown;
-    }
-    let mut word = [0u8; 8];
-    let n = os::arg(1, &mut word);
-    if check::same(&word[..n], b"pack") {
-        return Choice::Pack;
-    }
-    Choice::Unknown
-}
+use arguments::Choice;
 
 fn subscriber_of(t: &[u8], row: u64) -> u64 {
     if 4294967296 < row {
@@ -114,9 +93,9 @@ fn answer_input(pack: bool) {
 }
 
 fn main() {
-    match asked() {
-        Choice::Check => answer_input(false),
-        Choice::Pack => answer_input(true),
+    match arguments::asked(b"pack") {
+        Choice::Plain => answer_input(false),
+        Choice::Word => answer_input(true),
         Choice::Unknown => {
             io::write_all(2, b"usage: gate table [pack]\n");
         }

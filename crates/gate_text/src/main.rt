@@ -1,42 +1,17 @@
 // Reads a single ARI in binary form from standard input and writes its text; with the argument `read` the other way round. A
 // refusal is the line `refused N P`; a text and a binary form have nothing behind them.
 
-// What the arguments ask for.
-enum Choice {
-    Write,
-    Read,
-    Unknown,
-}
-
-// Room for the argument: more than `read` has, so that no longer word passes for it.
-const WORD: usize = 8;
-
-fn asked() -> Choice {
-    let count = os::arg_count();
-    if count < 2 {
-        return Choice::Write;
-    }
-    if 2 < count {
-        return Choice::Unknown;
-    }
-    let mut word = [0u8; WORD];
-    let n = os::arg(1, &mut word);
-    if check::same(&word[..n], b"read") {
-        return Choice::Read;
-    }
-    Choice::Unknown
-}
+use arguments::Choice;
 
 // What was written into a lent buffer, or the refusal.
 fn send(answer: text_write::Written, room: &[u8]) {
     match answer {
-        text_write::Written::Bytes { length, count: _ } => {
+        text_write::Written::Bytes { length, .. } => {
             print::flush(room, length);
         }
         text_write::Written::Refused { number, place } => {
             let mut out = io::buffer();
-            let p = print::refused(&mut out, 0, number, place);
-            print::flush(&out, p);
+            print::refusal(&mut out, number, place);
         }
     }
 }
@@ -68,9 +43,9 @@ fn read_input() {
 }
 
 fn main() {
-    match asked() {
-        Choice::Write => write_input(),
-        Choice::Read => read_input(),
+    match arguments::asked(b"read") {
+        Choice::Plain => write_input(),
+        Choice::Word => read_input(),
         Choice::Unknown => {
             io::write_all(2, b"usage: gate text [read]\n");
         }

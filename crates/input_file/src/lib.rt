@@ -37,10 +37,15 @@ pub fn load(k: usize, room: &mut [u8]) -> Loaded {
     load_path(&path[..n], room)
 }
 
-// The file's name and a line feed, on standard error.
-pub fn say_name(k: usize) {
+// The file's name and what is said of it, on standard error.
+pub fn say(k: usize, words: &[u8]) {
     let mut path = io::buffer();
     let n = os::arg(k, &mut path);
     io::write_all(2, &path[..n]);
-    io::write_all(2, b"\n");
+    io::write_all(2, words);
+}
+
+// The name alone, on a line.
+pub fn say_name(k: usize) {
+    say(k, b"\n");
 }

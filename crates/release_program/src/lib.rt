@@ -1,5 +1,6 @@
 // What `gate release` and `gate why` do: a message from standard input, judged under the grant table, the lists of names and the subscriber that the arguments
 // name.
+use input_file::Loaded;
 use why_held::Link;
 use why_held::Outcome;
 
@@ -19,19 +20,13 @@ fn show_no(s: &[u8], k: usize, compared: u64, room: &mut [u8], out: &mut [u8]) {
     let a = buffer::put_all(out, 0, b"no ");
     let b = print::field(out, a, k as u64);
     match listing::list_message(s, room) {
-        listing::Listed::Entries {
-            listed: _,
-            count: _,
-        } => {
+        listing::Listed::Entries { .. } => {
             if k < listing::ENTRIES {
                 let c = print::entry(out, b, s, room, k * 24);
                 show_compared(out, c, compared);
             }
         }
-        listing::Listed::Refused { number, place } => {
-            let c = print::refused(out, 0, number, place);
-            print::flush(out, c);
-        }
+        listing::Listed::Refused { number, place } => print::refusal(out, number, place),
     }
 }
 
@@ -50,10 +45,7 @@ fn judge<'a>(
             show_compared(out, a, compared);
         }
         release::Released::No { entry, compared } => show_no(s, entry, compared, room, out),
-        release::Released::Refused { number, place } => {
-            let a = print::refused(out, 0, number, place);
-            print::flush(out, a);
-        }
+        release::Released::Refused { number, place } => print::refusal(out, number, place),
     }
 }
 
@@ -78,15 +70,12 @@ fn put_reference(
         return put_ends(out, at, first, after);
     }
     match text_write::write_text(&s[first..after], text) {
-        text_write::Written::Bytes { length, count: _ } => {
+        text_write::Written::Bytes { length, .. } => {
             print::flush(out, at);
             print::flush(text, length);
             0
         }
-        text_write::Written::Refused {
-            number: _,
-            place: _,
-        } => put_ends(out, at, first, after),
+        text_write::Written::Refused { .. } => put_ends(out, at, first, after),
     }
 }
 
@@ -100,7 +89,7 @@ fn put_key(s: &[u8], key: u64, first: usize, text: &mut [u8], out: &mut [u8], at
         return at;
     }
     match text_write::write_text(&s[place..first], text) {
-        text_write::Written::Bytes { length, count: _ } => {
+        text_write::Written::Bytes { length, .. } => {
             if length < 4 {
                 return at;
             }
@@ -111,10 +100,7 @@ fn put_key(s: &[u8], key: u64, first: usize, text: &mut [u8], out: &mut [u8], at
             io::write_all(1, &text[4..length]);
             0
         }
-        text_write::Written::Refused {
-            number: _,
-            place: _,
-        } => at,
+        text_write::Written::Refused { .. } => at,
     }
 }
 
@@ -208,11 +194,7 @@ fn less(a: u64, b: u64) -> u64 {
 
 fn put_parameters(s: &[u8], first: usize, out: &mut [u8], at: usize) -> usize {
     match cbor::head_again(s, first) {
-        cbor::Head::Good {
-            kind,
-            arg: _,
-            next: _,
-        } => {
+        cbor::Head::Good { kind, .. } => {
             if kind == cbor::MAP {
                 return buffer::put_all(out, at, b"parameter map");
             }
@@ -412,11 +394,7 @@ fn explain<'a>(
             print::flush(out, a);
         }
         Outcome::Refused { number, place } => print::refusal(out, number, place),
-        Outcome::Held {
-            entry,
-            reason: _,
-            links,
-        } => {
+        Outcome::Held { entry, links, .. } => {
             let l = w.links;
             show_held(s, entry, l, links, published, own, subscriber, room, out);
         }
@@ -460,23 +438,23 @@ fn judge_input<'a>(
 // The lists that the third and fourth argument name.
 fn judge_own(asked: Asked, grants: &[u8], published: &[u8], subscriber: u64, text: &mut [u8]) {
     match list_file::load_argument(4, text) {
-        list_file::Loaded::Bytes(size) => {
+        Loaded::Bytes(size) => {
             if size <= text.len() {
                 judge_input(asked, grants, published, &text[0..size], subscriber);
             }
         }
-        list_file::Loaded::Nothing => {}
+        Loaded::Nothing => {}
     }
 }
 
 fn judge_published(asked: Asked, grants: &[u8], subscriber: u64, text: &mut [u8], own: &mut [u8]) {
     match list_file::load_argument(3, text) {
-        list_file::Loaded::Bytes(size) => {
+        Loaded::Bytes(size) => {
             if size <= text.len() {
                 judge_own(asked, grants, &text[0..size], subscriber, own);
             }
         }
-        list_file::Loaded::Nothing => {}
+        Loaded::Nothing => {}
     }
 }
 
@@ -512,13 +490,6 @@ fn judge_under(asked: Asked, path: &[u8], subscriber: u64) {
     judge_file(asked, path, subscriber, &mut room);
 }
 
-// The second argument: a number as in a table.
-fn subscriber() -> buffer::Number {
-    let mut word = [0u8; 32];
-    let n = os::arg(2, &mut word);
-    buffer::unsigned(&word[..n])
-}
-
 // The message, by its arguments.
 pub fn run(asked: Asked, usage: &[u8]) {
     let count = os::arg_count();
@@ -526,7 +497,7 @@ pub fn run(asked: Asked, usage: &[u8]) {
         io::write_all(2, usage);
         return;
     }
-    match subscriber() {
+    match arguments::number(2) {
         buffer::Number::Value(s) => {
             let mut path = io::buffer();
             let n = os::arg(1, &mut path);
