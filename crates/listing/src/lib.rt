@@ -140,13 +140,15 @@ fn word_code(n: Namespace) -> u64
     }
 }
 
+// The three numbers of an entry, in a part of known length: the tests of room fall away.
 fn put_numbers(out: &mut [u8], at: usize, ends: u64, kind: u64, word: u64)
     requires { ⌜ at + 24 ≤ length (now out) ⌝ }
     ensures { λ _. ⌜ now (out .exit) ≡ sets (now (out .entry)) at (be 8 ends ++ (be 8 kind ++ be 8 word)) ⌝ }
 {
-    buffer::store8(out, at, ends);
-    buffer::store8(out, at + 8, kind);
-    buffer::store8(out, at + 16, word);
+    let entry = &mut out[at..at + 24];
+    buffer::store8(entry, 0, ends);
+    buffer::store8(entry, 8, kind);
+    buffer::store8(entry, 16, word);
 }
 
 // The 24 bytes of an entry; its two ends are one number.
@@ -253,6 +255,15 @@ fn list_middle(s: &[u8], limits: Limits, out: &mut [u8]) -> Listed
     list_in(s, limits, out, &mut entries)
 }
 
+fn list_large(s: &[u8], limits: Limits, out: &mut [u8]) -> Listed
+    requires { ⌜ (limits .items ≤ 4096) × (limits .bytes < 65536) × (limits .containers < 256) ⌝ }
+    ensures { λ r. ⌜ r ≡ listOf limits (now (s .entry)) (now (out .entry)) ⌝ }
+    ensures { λ r. ⌜ now (out .exit) ≡ writtenOf limits (now (s .entry)) (now (out .entry)) ⌝ }
+{
+    let mut entries = [0u64; ari::ITEMS];
+    list_in(s, limits, out, &mut entries)
+}
+
 // The listing of a message within these limits, none above the gate's own, in the lent room.
 pub fn list_within(limits: Limits, s: &[u8], out: &mut [u8]) -> Listed
     ensures { λ r. ⌜ r ≡ listOf (capped limits) (now (s .entry)) (now (out .entry)) ⌝ }
@@ -265,14 +276,20 @@ pub fn list_within(limits: Limits, s: &[u8], out: &mut [u8]) -> Listed
     if s.len() <= 1024 {
         return list_middle(s, most, out);
     }
-    let mut entries = [0u64; ari::ITEMS];
-    list_in(s, most, out, &mut entries)
+    list_large(s, most, out)
 }
 
-// The listing of a message.
+// The listing of a message. It does not go through `list_within`: a function with two callers stays one of its own, so that a small message makes no room
+// on the stack for the largest table.
 pub fn list_message(s: &[u8], out: &mut [u8]) -> Listed
     ensures { λ r. ⌜ r ≡ listOf gateLimits (now (s .entry)) (now (out .entry)) ⌝ }
     ensures { λ r. ⌜ now (out .exit) ≡ writtenOf gateLimits (now (s .entry)) (now (out .entry)) ⌝ }
 {
-    list_within(ari::LIMITS, s, out)
+    if s.len() <= 128 {
+        return list_small(s, ari::LIMITS, out);
+    }
+    if s.len() <= 1024 {
+        return list_middle(s, ari::LIMITS, out);
+    }
+    list_large(s, ari::LIMITS, out)
 }

@@ -14,7 +14,6 @@ list-within-spec =
     (λ c κs. search needs)
     (λ c. search needs)
     (λ c. (cc, cc))
-    (λ c. search needs)
     (λ c κs. search needs)
     (λ c. search needs)
     (λ c. (cc, cc)))
