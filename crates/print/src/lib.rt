@@ -1,7 +1,7 @@
 // What the programs write. Each writer puts its text into a lent buffer from a place on and answers the place behind it; what
 // the buffer has no room for is left out.
 ghost use mathlib.Core.Path.{_≡_};
-ghost use mathlib.Core.List.{[], _∷_, _++_};
+ghost use mathlib.Core.List.{_++_};
 ghost use Prim.Native.Nat.{_-_, min, max};
 ghost use lib.ListN.{length};
 ghost use Rattle.buffer.specs.Put.{Put};
@@ -266,7 +266,7 @@ fn name(out: &mut [u8], at: usize, s: &[u8], place: usize) -> usize
     ensures { λ r. ⌜ Put (now (out .entry)) (now (out .exit)) at r (nameOf (now (s .entry)) (headAt (now (s .entry)) place)) ⌝ }
 {
     let h = cbor::head_at(s, place);
-    let cbor::Head::Good { kind: _, arg, next } = h else {
+    let cbor::Head::Good { arg, next, .. } = h else {
         return at;
     };
     let size = arg as usize;
