@@ -222,11 +222,8 @@ fn entries_of(listed: Listed) -> usize
     ensures { λ r. ⌜ r ≡ entriesOf listed ⌝ }
 {
     match listed {
-        Listed::Entries { listed, count: _ } => listed,
-        Listed::Refused {
-            number: _,
-            place: _,
-        } => 0,
+        Listed::Entries { listed, .. } => listed,
+        Listed::Refused { .. } => 0,
     }
 }
 
@@ -235,10 +232,7 @@ fn answered(listed: Listed, given: Released) -> Released
     ensures { λ r. ⌜ r ≡ answerBy listed given ⌝ }
 {
     match listed {
-        Listed::Entries {
-            listed: _,
-            count: _,
-        } => given,
+        Listed::Entries { .. } => given,
         Listed::Refused { number, place } => Released::Refused { number, place },
     }
 }
