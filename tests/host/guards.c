@@ -651,7 +651,7 @@ int main(void) {
   with_day(COMPARE, "01 82 14 82 f6 84 f6 20 00 81 82 0e 6161", "01 82 14 82 f6 84 f6 20 00 81 82 0e 6141",
            0, "", "", (uint64_t)1 << 32 | 1, CHANGED("0c", "0c"));
   with_day(COMPARE, "01 82 15 83 f6 00 83 00 83 00 20 00 00", "01 82 14 82 f6 83 00 20 00", 0, "", "",
-           (uint64_t)1 << 32 | 1, CHANGED("06", "05"));
+           (uint64_t)1 << 32 | 1, CHANGED("08", "07"));
   with_day(COMPARE, "02", "01 82", 0, "", "", refused(8, 0), "");
   with_day(COMPARE, "01 82", "02", 0, "", "", refused(2, 2), "");
   with_day(COMPARE, C, "01 82 14 80", 0, "", "", refused(7, 3), "");
