@@ -147,10 +147,7 @@ fn keep(s: &[u8], entries: &mut [u64]) -> usize
 {
     match reader::keep(Input::Message, ari::LIMITS, s, entries) {
         reader::Answer::Accepted(count) => buffer::least(count, entries.len()),
-        reader::Answer::Refused {
-            number: _,
-            place: _,
-        } => 0,
+        reader::Answer::Refused { .. } => 0,
     }
 }
 
@@ -178,14 +175,10 @@ fn show_accepted(a: &[u8], b: &[u8], entries: &[u8], count: usize) {
 // The refused file is the first, if it is refused by itself.
 fn show_refused(first: &[u8], number: u8, place: usize) {
     let mut out = io::buffer();
-    let p = print::refused(&mut out, 0, number, place);
-    print::flush(&out, p);
+    print::refusal(&mut out, number, place);
     match reader::check_message(first) {
         reader::Answer::Accepted(_) => input_file::say_name(2),
-        reader::Answer::Refused {
-            number: _,
-            place: _,
-        } => input_file::say_name(1),
+        reader::Answer::Refused { .. } => input_file::say_name(1),
     }
 }
 

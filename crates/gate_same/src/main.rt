@@ -4,14 +4,10 @@
 // The refused file is the first, if it is refused by itself.
 fn show_refused(first: &[u8], number: u8, place: usize) {
     let mut out = io::buffer();
-    let p = print::refused(&mut out, 0, number, place);
-    print::flush(&out, p);
+    print::refusal(&mut out, number, place);
     match reader::check_single(first) {
         reader::Answer::Accepted(_) => input_file::say_name(2),
-        reader::Answer::Refused {
-            number: _,
-            place: _,
-        } => input_file::say_name(1),
+        reader::Answer::Refused { .. } => input_file::say_name(1),
     }
 }
 
