@@ -4,12 +4,4 @@ use Rattle.answer_codes.proofs.add_code.Statement.{statement}
 use Rattle.answer_codes.proofs.add_code.Tie as tie
 
 pub add-code-spec : {M : Type 1} → statement M
-add-code-spec =
-    tie.close
-    (tie.spec
-    (λ c. search needs)
-    (λ c κs. search needs)
-    (λ c. search needs)
-    (λ c κs. search needs)
-    (λ c. cc)
-    (λ c. cc))
+add-code-spec = tie.close (tie.spec (λ c. search needs) (λ c κs. search needs) (λ c. search needs) (λ c κs. search needs) (λ c. cc) (λ c. cc))

@@ -4,12 +4,4 @@ use Rattle.answer_codes.proofs.check_code.Statement.{statement}
 use Rattle.answer_codes.proofs.check_code.Tie as tie
 
 pub check-code-spec : {M : Type 1} → statement M
-check-code-spec =
-    tie.close
-    (tie.spec
-    (λ c. search needs)
-    (λ c κs. search needs)
-    (λ c. search needs)
-    (λ c κs. search needs)
-    (λ c. cc)
-    (λ c. cc))
+check-code-spec = tie.close (tie.spec (λ c. search needs) (λ c κs. search needs) (λ c. search needs) (λ c κs. search needs) (λ c. cc) (λ c. cc))

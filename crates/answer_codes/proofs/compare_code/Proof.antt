@@ -4,12 +4,4 @@ use Rattle.answer_codes.proofs.compare_code.Statement.{statement}
 use Rattle.answer_codes.proofs.compare_code.Tie as tie
 
 pub compare-code-spec : {M : Type 1} → statement M
-compare-code-spec =
-    tie.close
-    (tie.spec
-    (λ c. search needs)
-    (λ c κs. search needs)
-    (λ c. search needs)
-    (λ c κs. search needs)
-    (λ c. cc)
-    (λ c. cc))
+compare-code-spec = tie.close (tie.spec (λ c. search needs) (λ c κs. search needs) (λ c. search needs) (λ c κs. search needs) (λ c. cc) (λ c. cc))

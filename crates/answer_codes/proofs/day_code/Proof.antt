@@ -4,12 +4,4 @@ use Rattle.answer_codes.proofs.day_code.Statement.{statement}
 use Rattle.answer_codes.proofs.day_code.Tie as tie
 
 pub day-code-spec : {M : Type 1} → statement M
-day-code-spec =
-    tie.close
-    (tie.spec
-    (λ c. search needs)
-    (λ c κs. search needs)
-    (λ c. search needs)
-    (λ c κs. search needs)
-    (λ c. cc)
-    (λ c. cc))
+day-code-spec = tie.close (tie.spec (λ c. search needs) (λ c κs. search needs) (λ c. search needs) (λ c κs. search needs) (λ c. cc) (λ c. cc))

@@ -4,11 +4,4 @@ use Rattle.answer_codes.proofs.fed_code.Statement.{statement}
 use Rattle.answer_codes.proofs.fed_code.Tie as tie
 
 pub fed-code-spec : {M : Type 1} → statement M
-fed-code-spec =
-    tie.close
-    (tie.spec
-    (λ c. search needs)
-    (λ c. search needs)
-    (λ c κs. search needs)
-    (λ c. search needs)
-    (λ c. cc))
+fed-code-spec = tie.close (tie.spec (λ c. search needs) (λ c. search needs) (λ c κs. search needs) (λ c. search needs) (λ c. cc))

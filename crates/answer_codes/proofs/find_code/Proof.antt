@@ -4,13 +4,5 @@ use Rattle.answer_codes.proofs.find_code.Statement.{statement}
 use Rattle.answer_codes.proofs.find_code.Tie as tie
 
 pub find-code-spec : {M : Type 1} → statement M
-find-code-spec =
-    tie.close
-    (tie.spec
-    (λ c. search needs)
-    (λ c κs. search needs)
-    (λ c κs. search needs)
-    (λ c. search needs)
-    (λ c κs. search needs)
-    (λ c. cc)
-    (λ c. cc))
+find-code-spec = tie.close (tie.spec (λ c. search needs) (λ c κs. search needs) (λ c κs. search needs) (λ c. search needs) (λ c κs. search needs)
+    (λ c. cc) (λ c. cc))

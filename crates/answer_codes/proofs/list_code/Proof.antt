@@ -4,12 +4,4 @@ use Rattle.answer_codes.proofs.list_code.Statement.{statement}
 use Rattle.answer_codes.proofs.list_code.Tie as tie
 
 pub list-code-spec : {M : Type 1} → statement M
-list-code-spec =
-    tie.close
-    (tie.spec
-    (λ c. search needs)
-    (λ c κs. search needs)
-    (λ c. search needs)
-    (λ c κs. search needs)
-    (λ c. cc)
-    (λ c. cc))
+list-code-spec = tie.close (tie.spec (λ c. search needs) (λ c κs. search needs) (λ c. search needs) (λ c κs. search needs) (λ c. cc) (λ c. cc))

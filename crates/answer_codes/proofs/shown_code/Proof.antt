@@ -4,12 +4,4 @@ use Rattle.answer_codes.proofs.shown_code.Statement.{statement}
 use Rattle.answer_codes.proofs.shown_code.Tie as tie
 
 pub shown-code-spec : {M : Type 1} → statement M
-shown-code-spec =
-    tie.close
-    (tie.spec
-    (λ c. search needs)
-    (λ c κs. search needs)
-    (λ c. search needs)
-    (λ c κs. search needs)
-    (λ c. cc)
-    (λ c. cc))
+shown-code-spec = tie.close (tie.spec (λ c. search needs) (λ c κs. search needs) (λ c. search needs) (λ c κs. search needs) (λ c. cc) (λ c. cc))

@@ -4,12 +4,4 @@ use Rattle.answer_codes.proofs.strike_code.Statement.{statement}
 use Rattle.answer_codes.proofs.strike_code.Tie as tie
 
 pub strike-code-spec : {M : Type 1} → statement M
-strike-code-spec =
-    tie.close
-    (tie.spec
-    (λ c. search needs)
-    (λ c κs. search needs)
-    (λ c. search needs)
-    (λ c κs. search needs)
-    (λ c. cc)
-    (λ c. cc))
+strike-code-spec = tie.close (tie.spec (λ c. search needs) (λ c κs. search needs) (λ c. search needs) (λ c κs. search needs) (λ c. cc) (λ c. cc))

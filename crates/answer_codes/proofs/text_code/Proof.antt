@@ -4,12 +4,4 @@ use Rattle.answer_codes.proofs.text_code.Statement.{statement}
 use Rattle.answer_codes.proofs.text_code.Tie as tie
 
 pub text-code-spec : {M : Type 1} → statement M
-text-code-spec =
-    tie.close
-    (tie.spec
-    (λ c. search needs)
-    (λ c κs. search needs)
-    (λ c. search needs)
-    (λ c κs. search needs)
-    (λ c. cc)
-    (λ c. cc))
+text-code-spec = tie.close (tie.spec (λ c. search needs) (λ c κs. search needs) (λ c. search needs) (λ c κs. search needs) (λ c. cc) (λ c. cc))

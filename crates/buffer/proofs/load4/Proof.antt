@@ -5,14 +5,5 @@ use Rattle.buffer.proofs.load4.Statement.{statement}
 use Rattle.buffer.proofs.load4.Tie as tie
 
 pub load4-spec : {M : Type 1} → statement M
-load4-spec =
-    tie.close
-    (tie.spec
-    (λ c. search (numbers, needs))
-    (λ c. search needs)
-    (λ c. search (numbers, needs))
-    (λ c κs. search needs)
-    (λ c. search needs)
-    (λ c κs. search needs)
-    (λ c. search needs)
-    (λ c. search (numbers, needs)))
+load4-spec = tie.close (tie.spec (λ c. search (numbers, needs)) (λ c. search needs) (λ c. search (numbers, needs)) (λ c κs. search needs)
+    (λ c. search needs) (λ c κs. search needs) (λ c. search needs) (λ c. search (numbers, needs)))

@@ -5,17 +5,6 @@ use Rattle.buffer.proofs.load8.Statement.{statement}
 use Rattle.buffer.proofs.load8.Tie as tie
 
 pub load8-spec : {M : Type 1} → statement M
-load8-spec =
-    tie.close
-    (tie.spec
-    (λ c. search (numbers, needs))
-    (λ c. search needs)
-    (λ c. search (numbers, needs))
-    (λ c κs. search needs)
-    (λ c. search needs)
-    (λ c κs. search needs)
-    (λ c. search needs)
-    (λ c κs. search needs)
-    (λ c. search needs)
-    (λ c κs. search needs)
+load8-spec = tie.close (tie.spec (λ c. search (numbers, needs)) (λ c. search needs) (λ c. search (numbers, needs)) (λ c κs. search needs)
+    (λ c. search needs) (λ c κs. search needs) (λ c. search needs) (λ c κs. search needs) (λ c. search needs) (λ c κs. search needs)
     (λ c. search (numbers, needs)))

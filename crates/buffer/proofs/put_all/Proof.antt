@@ -14,16 +14,6 @@ abbrev μ-loop : tie.MeasureT-loop
 μ-loop out₀ at s r₀ i₀ out r i = length s - i
 
 pub put-all-spec : {M : Type 1} → statement M
-put-all-spec =
-    tie.close
-    (tie.spec
-    Inv-loop
-    μ-loop
-    (λ c. search (putting, needs))
-    (λ c. search (putting, needs))
-    (λ c κs. search (putting, needs))
-    (λ c. search (putting, needs))
-    (λ c. search (putting, needs))
-    (λ c. search (putting, needs))
-    (λ c. search (putting, needs))
+put-all-spec = tie.close (tie.spec Inv-loop μ-loop (λ c. search (putting, needs)) (λ c. search (putting, needs)) (λ c κs. search (putting, needs))
+    (λ c. search (putting, needs)) (λ c. search (putting, needs)) (λ c. search (putting, needs)) (λ c. search (putting, needs))
     (λ c. search (putting, needs)))

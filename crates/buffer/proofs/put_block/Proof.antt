@@ -14,21 +14,7 @@ abbrev μ-loop : tie.MeasureT-loop
 μ-loop out₀ at s n i₀ out i = n - i
 
 pub put-block-spec : {M : Type 1} → statement M
-put-block-spec =
-    tie.close
-    (tie.spec
-    Inv-loop
-    μ-loop
-    (λ c. search (copying, needs))
-    (λ c. search (copying, needs))
-    (λ c κs. search (copying, needs))
-    (λ c. search (copying, needs))
-    (λ c. search (copying, needs))
-    (λ c. search (copying, needs))
-    (λ c. search (in-lent, needs))
-    (λ c. search (copying, needs))
-    (λ c. search (copying, needs))
-    (λ c. (search (put-next, in-text, in-room, needs), search needs))
-    (λ c. search (copying, needs))
-    (λ c. search (copying, needs))
-    (λ c. search (copying, needs)))
+put-block-spec = tie.close (tie.spec Inv-loop μ-loop (λ c. search (copying, needs)) (λ c. search (copying, needs)) (λ c κs. search (copying, needs))
+    (λ c. search (copying, needs)) (λ c. search (copying, needs)) (λ c. search (copying, needs)) (λ c. search (in-lent, needs))
+    (λ c. search (copying, needs)) (λ c. search (copying, needs)) (λ c. (search (put-next, in-text, in-room, needs), search needs))
+    (λ c. search (copying, needs)) (λ c. search (copying, needs)) (λ c. search (copying, needs)))

@@ -5,12 +5,5 @@ use Rattle.buffer.proofs.put_decimal.Statement.{statement}
 use Rattle.buffer.proofs.put_decimal.Tie as tie
 
 pub put-decimal-spec : {M : Type 1} → statement M
-put-decimal-spec =
-    tie.close
-    (tie.spec
-    (λ c κs. search needs)
-    (λ c. search needs)
-    (λ c. search (decimals, needs))
-    (λ c κs. search needs)
-    (λ c. search needs)
-    (λ c. search (decimals, needs)))
+put-decimal-spec = tie.close (tie.spec (λ c κs. search needs) (λ c. search needs) (λ c. search (decimals, needs)) (λ c κs. search needs)
+    (λ c. search needs) (λ c. search (decimals, needs)))

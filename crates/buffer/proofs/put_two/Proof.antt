@@ -4,12 +4,5 @@ use Rattle.buffer.proofs.put_two.Statement.{statement}
 use Rattle.buffer.proofs.put_two.Tie as tie
 
 pub put-two-spec : {M : Type 1} → statement M
-put-two-spec =
-    tie.close
-    (tie.spec
-    (λ c κs. search needs)
-    (λ c κs. search needs)
-    (λ c κs. search needs)
-    (λ c κs. search needs)
-    (λ c. search needs)
+put-two-spec = tie.close (tie.spec (λ c κs. search needs) (λ c κs. search needs) (λ c κs. search needs) (λ c κs. search needs) (λ c. search needs)
     (λ c. search (decimals, needs)))

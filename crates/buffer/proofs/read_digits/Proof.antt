@@ -15,18 +15,6 @@ abbrev μ-loop : tie.MeasureT-loop
 μ-loop t n₀ i₀ n i = length t - i
 
 pub read-digits-spec : {M : Type 1} → statement M
-read-digits-spec =
-    tie.close
-    (tie.spec
-    Inv-loop
-    μ-loop
-    (λ c. search (reading, needs))
-    (λ c. search (reading, needs))
-    (λ c κs. search (reading, needs))
-    (λ c. search (reading, needs))
-    (λ c. search (reading, needs))
-    (λ c. search (reading, needs))
-    (λ c. search (reading, needs))
-    (λ c. search (reading, needs))
-    (λ c. search (reading, needs))
-    (λ c. search (reading, needs)))
+read-digits-spec = tie.close (tie.spec Inv-loop μ-loop (λ c. search (reading, needs)) (λ c. search (reading, needs)) (λ c κs. search (reading, needs))
+    (λ c. search (reading, needs)) (λ c. search (reading, needs)) (λ c. search (reading, needs)) (λ c. search (reading, needs))
+    (λ c. search (reading, needs)) (λ c. search (reading, needs)) (λ c. search (reading, needs)))

@@ -15,24 +15,8 @@ abbrev μ-loop : tie.MeasureT-loop
 μ-loop a b i₀ i = length a - i
 
 pub same-spec : {M : Type 1} → statement M
-same-spec =
-    tie.close
-    (tie.spec
-    Inv-loop
-    μ-loop
-    (λ c. search (comparing, needs))
-    (λ c. search (comparing, needs))
-    (λ c. search (comparing, needs))
-    (λ c κs. search (comparing, needs))
-    (λ c. search (comparing, needs))
-    (λ c. search (comparing, needs))
-    (λ c. search (comparing, needs))
-    (λ c. search (comparing, needs))
-    (λ c. search (comparing, needs))
-    (λ c. search (comparing, needs))
-    (λ c. search (comparing, needs))
-    (λ c. search (comparing, needs))
-    (λ c. search (comparing, needs))
-    (λ c. search (comparing, needs))
-    (λ c κs. search (comparing, needs))
+same-spec = tie.close (tie.spec Inv-loop μ-loop (λ c. search (comparing, needs)) (λ c. search (comparing, needs)) (λ c. search (comparing, needs))
+    (λ c κs. search (comparing, needs)) (λ c. search (comparing, needs)) (λ c. search (comparing, needs)) (λ c. search (comparing, needs))
+    (λ c. search (comparing, needs)) (λ c. search (comparing, needs)) (λ c. search (comparing, needs)) (λ c. search (comparing, needs))
+    (λ c. search (comparing, needs)) (λ c. search (comparing, needs)) (λ c. search (comparing, needs)) (λ c κs. search (comparing, needs))
     (λ c. search (comparing, needs)))

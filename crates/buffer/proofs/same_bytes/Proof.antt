@@ -15,17 +15,6 @@ abbrev μ-loop : tie.MeasureT-loop
 μ-loop a b i₀ i = length a - i
 
 pub same-bytes-spec : {M : Type 1} → statement M
-same-bytes-spec =
-    tie.close
-    (tie.spec
-    Inv-loop
-    μ-loop
-    (λ c. search (comparing, needs))
-    (λ c. search (comparing, needs))
-    (λ c. search (comparing, needs))
-    (λ c. search (comparing, needs))
-    (λ c. search (comparing, needs))
-    (λ c. search (comparing, needs))
-    (λ c. search (comparing, needs))
-    (λ c. search (comparing, needs))
-    (λ c. search (comparing, needs)))
+same-bytes-spec = tie.close (tie.spec Inv-loop μ-loop (λ c. search (comparing, needs)) (λ c. search (comparing, needs))
+    (λ c. search (comparing, needs)) (λ c. search (comparing, needs)) (λ c. search (comparing, needs)) (λ c. search (comparing, needs))
+    (λ c. search (comparing, needs)) (λ c. search (comparing, needs)) (λ c. search (comparing, needs)))

@@ -6,11 +6,7 @@ use Rattle.buffer.proofs.same_eight.Statement.{statement}
 use Rattle.buffer.proofs.same_eight.Tie as tie
 
 pub same-eight-spec : {M : Type 1} → statement M
-same-eight-spec =
-    tie.close
-    (tie.spec
-    (λ c κs. search needs)
-    (λ c κs. search needs)
+same-eight-spec = tie.close (tie.spec (λ c κs. search needs) (λ c κs. search needs)
     (λ c.
     let start = c .before .before .before .before in
     let f = all-bytes (start .args .a .now) (c .before .before .before .shared-slice-known .given) in

@@ -5,13 +5,5 @@ use Rattle.buffer.proofs.unsigned.Statement.{statement}
 use Rattle.buffer.proofs.unsigned.Tie as tie
 
 pub unsigned-spec : {M : Type 1} → statement M
-unsigned-spec =
-    tie.close
-    (tie.spec
-    (λ c. search (reading, needs))
-    (λ c κs. search (reading, needs))
-    (λ c. search (reading, needs))
-    (λ c. search (reading, needs))
-    (λ c. search (reading, needs))
-    (λ c κs. search (reading, needs))
-    (λ c. search (reading, needs)))
+unsigned-spec = tie.close (tie.spec (λ c. search (reading, needs)) (λ c κs. search (reading, needs)) (λ c. search (reading, needs))
+    (λ c. search (reading, needs)) (λ c. search (reading, needs)) (λ c κs. search (reading, needs)) (λ c. search (reading, needs)))

@@ -14,16 +14,6 @@ abbrev μ-loop : tie.MeasureT-loop
 μ-loop s at i₀ i = length s - i
 
 pub ascii-blocks-spec : {M : Type 1} → statement M
-ascii-blocks-spec =
-    tie.close
-    (tie.spec
-    Inv-loop
-    μ-loop
-    (λ c. search (asciis, needs))
-    (λ c. search (asciis, needs))
-    (λ c κs. search (asciis, needs))
-    (λ c. search (asciis, needs))
-    (λ c. search (asciis, needs))
-    (λ c. search (asciis, needs))
-    (λ c. search (asciis, needs))
+ascii-blocks-spec = tie.close (tie.spec Inv-loop μ-loop (λ c. search (asciis, needs)) (λ c. search (asciis, needs)) (λ c κs. search (asciis, needs))
+    (λ c. search (asciis, needs)) (λ c. search (asciis, needs)) (λ c. search (asciis, needs)) (λ c. search (asciis, needs))
     (λ c. search (asciis, needs)))

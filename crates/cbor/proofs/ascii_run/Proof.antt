@@ -16,17 +16,7 @@ abbrev μ-loop : tie.MeasureT-loop
 μ-loop s at i₀ i = length s - i
 
 pub ascii-run-spec : {M : Type 1} → statement M
-ascii-run-spec =
-    tie.close
-    (tie.spec
-    Inv-loop
-    μ-loop
-    (λ c κs. search (asciis, texts, needs))
-    (λ c κs. search (asciis, texts, needs))
-    (λ c. search (asciis, texts, needs))
-    (λ c. search (asciis, texts, needs))
-    (λ c. search (asciis, texts, needs))
-    (λ c. search (asciis, texts, needs))
-    (λ c. search (asciis, texts, needs))
-    (λ c. search (asciis, texts, needs))
+ascii-run-spec = tie.close (tie.spec Inv-loop μ-loop (λ c κs. search (asciis, texts, needs)) (λ c κs. search (asciis, texts, needs))
+    (λ c. search (asciis, texts, needs)) (λ c. search (asciis, texts, needs)) (λ c. search (asciis, texts, needs))
+    (λ c. search (asciis, texts, needs)) (λ c. search (asciis, texts, needs)) (λ c. search (asciis, texts, needs))
     (λ c. search (asciis, texts, needs)))

@@ -14,17 +14,6 @@ abbrev μ-loop : tie.MeasureT-loop
 μ-loop a b i₀ i = length a - i
 
 pub is-below-spec : {M : Type 1} → statement M
-is-below-spec =
-    tie.close
-    (tie.spec
-    Inv-loop
-    μ-loop
-    (λ c. search (orders, needs))
-    (λ c. search (orders, needs))
-    (λ c. search (orders, needs))
-    (λ c. search (orders, needs))
-    (λ c. search (orders, needs))
-    (λ c. search (orders, needs))
-    (λ c. search (orders, needs))
-    (λ c. search (orders, needs))
-    (λ c. search (orders, needs)))
+is-below-spec = tie.close (tie.spec Inv-loop μ-loop (λ c. search (orders, needs)) (λ c. search (orders, needs)) (λ c. search (orders, needs))
+    (λ c. search (orders, needs)) (λ c. search (orders, needs)) (λ c. search (orders, needs)) (λ c. search (orders, needs))
+    (λ c. search (orders, needs)) (λ c. search (orders, needs)))

@@ -5,24 +5,7 @@ use Rattle.cbor.proofs.is_key_below.Statement.{statement}
 use Rattle.cbor.proofs.is_key_below.Tie as tie
 
 pub is-key-below-spec : {M : Type 1} → statement M
-is-key-below-spec =
-    tie.close
-    (tie.spec
-    (λ c κs. search needs)
-    (λ c κs. search needs)
-    (λ c κs. search needs)
-    (λ c. search (keys, needs))
-    (λ c κs. search needs)
-    (λ c κs. search needs)
-    (λ c. search (keys, needs))
-    (λ c. search (keys, needs))
-    (λ c. search (keys, needs))
-    (λ c. search (keys, needs))
-    (λ c. search (keys, needs))
-    (λ c. search (keys, needs))
-    (λ c. search (keys, needs))
-    (λ c. search (keys, needs))
-    (λ c. search (keys, needs))
-    (λ c. search (keys, needs))
-    (λ c κs. search needs)
-    (λ c. search (keys, needs)))
+is-key-below-spec = tie.close (tie.spec (λ c κs. search needs) (λ c κs. search needs) (λ c κs. search needs) (λ c. search (keys, needs))
+    (λ c κs. search needs) (λ c κs. search needs) (λ c. search (keys, needs)) (λ c. search (keys, needs)) (λ c. search (keys, needs))
+    (λ c. search (keys, needs)) (λ c. search (keys, needs)) (λ c. search (keys, needs)) (λ c. search (keys, needs)) (λ c. search (keys, needs))
+    (λ c. search (keys, needs)) (λ c. search (keys, needs)) (λ c κs. search needs) (λ c. search (keys, needs)))

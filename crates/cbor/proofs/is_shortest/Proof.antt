@@ -5,15 +5,5 @@ use Rattle.cbor.proofs.is_shortest.Statement.{statement}
 use Rattle.cbor.proofs.is_shortest.Tie as tie
 
 pub is-shortest-spec : {M : Type 1} → statement M
-is-shortest-spec =
-    tie.close
-    (tie.spec
-    (λ c. search (keys, needs))
-    (λ c. search (keys, needs))
-    (λ c. search (keys, needs))
-    (λ c. search (keys, needs))
-    (λ c. search (keys, needs))
-    (λ c. search (keys, needs))
-    (λ c. search (keys, needs))
-    (λ c. search (keys, needs))
-    (λ c. search (keys, needs)))
+is-shortest-spec = tie.close (tie.spec (λ c. search (keys, needs)) (λ c. search (keys, needs)) (λ c. search (keys, needs)) (λ c. search (keys, needs))
+    (λ c. search (keys, needs)) (λ c. search (keys, needs)) (λ c. search (keys, needs)) (λ c. search (keys, needs)) (λ c. search (keys, needs)))

@@ -13,17 +13,6 @@ abbrev μ-loop : tie.MeasureT-loop
 μ-loop s i₀ i = length s - i
 
 pub is-utf8-spec : {M : Type 1} → statement M
-is-utf8-spec =
-    tie.close
-    (tie.spec
-    Inv-loop
-    μ-loop
-    (λ c κs. search (texts, needs))
-    (λ c. search (texts, needs))
-    (λ c κs. search (texts, needs))
-    (λ c. search (texts, needs))
-    (λ c. search (texts, needs))
-    (λ c κs. search (texts, needs))
-    (λ c. search (texts, needs))
-    (λ c. search (texts, needs))
-    (λ c. search (texts, needs)))
+is-utf8-spec = tie.close (tie.spec Inv-loop μ-loop (λ c κs. search (texts, needs)) (λ c. search (texts, needs)) (λ c κs. search (texts, needs))
+    (λ c. search (texts, needs)) (λ c. search (texts, needs)) (λ c κs. search (texts, needs)) (λ c. search (texts, needs))
+    (λ c. search (texts, needs)) (λ c. search (texts, needs)))

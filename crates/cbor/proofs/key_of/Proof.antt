@@ -6,12 +6,5 @@ use Rattle.cbor.proofs.key_of.Statement.{statement}
 use Rattle.cbor.proofs.key_of.Tie as tie
 
 pub key-of-spec : {M : Type 1} → statement M
-key-of-spec =
-    tie.close
-    (tie.spec
-    (λ c κs. search needs)
-    (λ c. search needs)
-    (λ c. search (keys, stays-inside, needs))
-    (λ c. search needs)
-    (λ c. search (keys, stays-inside, needs))
-    (λ c. search (keys, stays-inside, needs)))
+key-of-spec = tie.close (tie.spec (λ c κs. search needs) (λ c. search needs) (λ c. search (keys, stays-inside, needs)) (λ c. search needs)
+    (λ c. search (keys, stays-inside, needs)) (λ c. search (keys, stays-inside, needs)))

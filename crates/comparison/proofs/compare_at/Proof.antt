@@ -30,27 +30,8 @@ loop-again c =
     )
 
 pub compare-at-spec : {M : Type 1} → statement M
-compare-at-spec =
-    tie.close
-    (tie.spec
-    Inv-loop
-    μ-loop
-    (λ c. search (walks, needs))
-    (λ c. search (walks, needs))
-    (λ c κs. search (walks, needs))
-    (λ c. search (walks, needs))
-    (λ c. search (walks, needs))
-    (λ c. search (walks, needs))
-    (λ c κs. search (walks, needs))
-    (λ c κs. search (walks, needs))
-    (λ c. search (walks, needs))
-    (λ c. search (walks, needs))
-    (λ c. search (walks, needs))
-    (λ c κs. search (walks, needs))
-    returns-2
-    (λ c. search (walks, needs))
-    (λ c. search (walks, needs))
-    (λ c. search (walks, needs))
-    loop-again
-    (λ c κs. search (walks, needs))
-    (λ c. search (walks, needs)))
+compare-at-spec = tie.close (tie.spec Inv-loop μ-loop (λ c. search (walks, needs)) (λ c. search (walks, needs)) (λ c κs. search (walks, needs))
+    (λ c. search (walks, needs)) (λ c. search (walks, needs)) (λ c. search (walks, needs)) (λ c κs. search (walks, needs))
+    (λ c κs. search (walks, needs)) (λ c. search (walks, needs)) (λ c. search (walks, needs)) (λ c. search (walks, needs))
+    (λ c κs. search (walks, needs)) returns-2 (λ c. search (walks, needs)) (λ c. search (walks, needs)) (λ c. search (walks, needs)) loop-again
+    (λ c κs. search (walks, needs)) (λ c. search (walks, needs)))

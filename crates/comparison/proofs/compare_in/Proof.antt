@@ -5,19 +5,6 @@ use Rattle.comparison.proofs.compare_in.Statement.{statement}
 use Rattle.comparison.proofs.compare_in.Tie as tie
 
 pub compare-in-spec : {M : Type 1} → statement M
-compare-in-spec =
-    tie.close
-    (tie.spec
-    (λ c κs. search needs)
-    (λ c. search needs)
-    (λ c. search needs)
-    (λ c. search needs)
-    (λ c. search needs)
-    (λ c. search (outcomes, needs))
-    (λ c κs. search (outcomes, needs))
-    (λ c. search needs)
-    (λ c. search (outcomes, needs))
-    (λ c. search needs)
-    (λ c. search needs)
-    (λ c. search needs)
-    (λ c. search (outcomes, needs)))
+compare-in-spec = tie.close (tie.spec (λ c κs. search needs) (λ c. search needs) (λ c. search needs) (λ c. search needs) (λ c. search needs)
+    (λ c. search (outcomes, needs)) (λ c κs. search (outcomes, needs)) (λ c. search needs) (λ c. search (outcomes, needs)) (λ c. search needs)
+    (λ c. search needs) (λ c. search needs) (λ c. search (outcomes, needs)))

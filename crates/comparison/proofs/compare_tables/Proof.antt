@@ -5,17 +5,6 @@ use Rattle.comparison.proofs.compare_tables.Statement.{statement}
 use Rattle.comparison.proofs.compare_tables.Tie as tie
 
 pub compare-tables-spec : {M : Type 1} → statement M
-compare-tables-spec =
-    tie.close
-    (tie.spec
-    (λ c κs. search needs)
-    (λ c κs. search (rooms, needs))
-    (λ c. search needs)
-    (λ c. search needs)
-    (λ c κs. search needs)
-    (λ c κs. search needs)
-    (λ c κs. search needs)
-    (λ c. search (rooms, needs))
-    (λ c κs. search (rooms, needs))
-    (λ c. search needs)
-    (λ c. search needs))
+compare-tables-spec = tie.close (tie.spec (λ c κs. search needs) (λ c κs. search (rooms, needs)) (λ c. search needs) (λ c. search needs)
+    (λ c κs. search needs) (λ c κs. search needs) (λ c κs. search needs) (λ c. search (rooms, needs)) (λ c κs. search (rooms, needs))
+    (λ c. search needs) (λ c. search needs))

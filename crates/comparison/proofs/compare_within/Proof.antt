@@ -4,15 +4,5 @@ use Rattle.comparison.proofs.compare_within.Statement.{statement}
 use Rattle.comparison.proofs.compare_within.Tie as tie
 
 pub compare-within-spec : {M : Type 1} → statement M
-compare-within-spec =
-    tie.close
-    (tie.spec
-    (λ c κs. search needs)
-    (λ c κs. search needs)
-    (λ c. search needs)
-    (λ c. (cc, search needs))
-    (λ c. search needs)
-    (λ c. search needs)
-    (λ c κs. search needs)
-    (λ c. search needs)
-    (λ c. (cc, search needs)))
+compare-within-spec = tie.close (tie.spec (λ c κs. search needs) (λ c κs. search needs) (λ c. search needs) (λ c. (cc, search needs))
+    (λ c. search needs) (λ c. search needs) (λ c κs. search needs) (λ c. search needs) (λ c. (cc, search needs)))

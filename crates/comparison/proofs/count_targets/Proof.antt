@@ -13,19 +13,6 @@ abbrev μ-loop : tie.MeasureT-loop
 μ-loop entries count₀ k₀ count k = length entries - k
 
 pub count-targets-spec : {M : Type 1} → statement M
-count-targets-spec =
-    tie.close
-    (tie.spec
-    Inv-loop
-    μ-loop
-    (λ c. search (counts, needs))
-    (λ c. search (counts, needs))
-    (λ c. search (counts, needs))
-    (λ c. search (counts, needs))
-    (λ c κs. search (counts, needs))
-    (λ c. search (counts, needs))
-    (λ c. search (counts, needs))
-    (λ c. search (counts, needs))
-    (λ c. search (counts, needs))
-    (λ c. search (counts, needs))
-    (λ c. search (counts, needs)))
+count-targets-spec = tie.close (tie.spec Inv-loop μ-loop (λ c. search (counts, needs)) (λ c. search (counts, needs)) (λ c. search (counts, needs))
+    (λ c. search (counts, needs)) (λ c κs. search (counts, needs)) (λ c. search (counts, needs)) (λ c. search (counts, needs))
+    (λ c. search (counts, needs)) (λ c. search (counts, needs)) (λ c. search (counts, needs)) (λ c. search (counts, needs)))

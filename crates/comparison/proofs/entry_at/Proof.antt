@@ -5,12 +5,5 @@ use Rattle.comparison.proofs.entry_at.Statement.{statement}
 use Rattle.comparison.proofs.entry_at.Tie as tie
 
 pub entry-at-spec : {M : Type 1} → statement M
-entry-at-spec =
-    tie.close
-    (tie.spec
-    (λ c κs. search needs)
-    (λ c. search (entry-ways, needs))
-    (λ c κs. search needs)
-    (λ c. search (entry-ways, needs))
-    (λ c κs. search needs)
-    (λ c. search (entry-ways, needs)))
+entry-at-spec = tie.close (tie.spec (λ c κs. search needs) (λ c. search (entry-ways, needs)) (λ c κs. search needs) (λ c. search (entry-ways, needs))
+    (λ c κs. search needs) (λ c. search (entry-ways, needs)))

@@ -13,17 +13,6 @@ abbrev μ-loop : tie.MeasureT-loop
 μ-loop entries from k₀ k = length entries - k
 
 pub next-target-spec : {M : Type 1} → statement M
-next-target-spec =
-    tie.close
-    (tie.spec
-    Inv-loop
-    μ-loop
-    (λ c. search (looks, needs))
-    (λ c. search (looks, needs))
-    (λ c. search (looks, needs))
-    (λ c κs. search (looks, needs))
-    (λ c. search (looks, needs))
-    (λ c. search (looks, needs))
-    (λ c. search (looks, needs))
-    (λ c. search (looks, needs))
-    (λ c. search (looks, needs)))
+next-target-spec = tie.close (tie.spec Inv-loop μ-loop (λ c. search (looks, needs)) (λ c. search (looks, needs)) (λ c. search (looks, needs))
+    (λ c κs. search (looks, needs)) (λ c. search (looks, needs)) (λ c. search (looks, needs)) (λ c. search (looks, needs))
+    (λ c. search (looks, needs)) (λ c. search (looks, needs)))

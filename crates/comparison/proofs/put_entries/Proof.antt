@@ -42,21 +42,6 @@ returns c =
     (gone-tally (turn .loop .inv) (c .before .if1 .left) none-left, gone-room (turn .loop .inv) (c .before .if1 .left) none-left)
 
 pub put-entries-spec : {M : Type 1} → statement M
-put-entries-spec =
-    tie.close
-    (tie.spec
-    Inv-loop
-    μ-loop
-    (λ c κs. search needs)
-    (λ c κs. search needs)
-    (λ c. search (gone-none, needs))
-    (λ c κs. (gone-first (c .before .loop .inv), gone-second (c .before .loop .inv)))
-    (λ c κs. search needs)
-    (λ c κs. search needs)
-    add-different
-    (λ c κs. search needs)
-    (λ c κs. search needs)
-    loop-less
-    loop-again
-    (λ c. search (gone-size, needs))
-    returns)
+put-entries-spec = tie.close (tie.spec Inv-loop μ-loop (λ c κs. search needs) (λ c κs. search needs) (λ c. search (gone-none, needs))
+    (λ c κs. (gone-first (c .before .loop .inv), gone-second (c .before .loop .inv))) (λ c κs. search needs) (λ c κs. search needs) add-different
+    (λ c κs. search needs) (λ c κs. search needs) loop-less loop-again (λ c. search (gone-size, needs)) returns)

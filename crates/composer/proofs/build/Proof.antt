@@ -29,14 +29,4 @@ returns-3 : tie.Need-returns-3
 returns-3 c = search (built, needs)
 
 pub build-spec : {M : Type 1} → statement M
-build-spec =
-    tie.close
-    (tie.spec
-    count-texts-requires
-    returns
-    put-front-requires
-    same-length
-    returns-2
-    put-targets-requires
-    same-length-2
-    returns-3)
+build-spec = tie.close (tie.spec count-texts-requires returns put-front-requires same-length returns-2 put-targets-requires same-length-2 returns-3)

@@ -53,22 +53,5 @@ returns-3 : tie.Need-returns-3
 returns-3 c = (search (orders, needs), search (orders-left, needs))
 
 pub compose-short-spec : {M : Type 1} → statement M
-compose-short-spec =
-    tie.close
-    (tie.spec
-    slice-aggregate-build
-    build-requires
-    enum-known-w
-    refusal-requires
-    enum-told
-    compose-long-requires
-    enum-known-w-2
-    sub-finish
-    part-finish-start
-    part-finish-end
-    finish-requires
-    returns
-    same-length
-    returns-2
-    same-length-2
-    returns-3)
+compose-short-spec = tie.close (tie.spec slice-aggregate-build build-requires enum-known-w refusal-requires enum-told compose-long-requires
+    enum-known-w-2 sub-finish part-finish-start part-finish-end finish-requires returns same-length returns-2 same-length-2 returns-3)

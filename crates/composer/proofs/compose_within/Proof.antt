@@ -32,15 +32,5 @@ returns-3 : tie.Need-returns-3
 returns-3 c = (search (nonced, needs), search (nonced-left, needs))
 
 pub compose-within-spec : {M : Type 1} → statement M
-compose-within-spec =
-    tie.close
-    (tie.spec
-    is-nonce-requires
-    refusal-requires
-    returns
-    compose-short-requires
-    same-length
-    returns-2
-    compose-long-requires
-    same-length-2
-    returns-3)
+compose-within-spec = tie.close (tie.spec is-nonce-requires refusal-requires returns compose-short-requires same-length returns-2
+    compose-long-requires same-length-2 returns-3)

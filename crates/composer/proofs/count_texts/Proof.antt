@@ -13,16 +13,6 @@ abbrev μ-loop : tie.MeasureT-loop
 μ-loop texts n₀ i₀ n i = length texts - i
 
 pub count-texts-spec : {M : Type 1} → statement M
-count-texts-spec =
-    tie.close
-    (tie.spec
-    Inv-loop
-    μ-loop
-    (λ c. search (counting, needs))
-    (λ c. search (counting, needs))
-    (λ c κs. search (counting, needs))
-    (λ c. search (counting, needs))
-    (λ c. search (counting, needs))
-    (λ c. search (counting, needs))
-    (λ c. search (counting, needs))
-    (λ c. search (counting, needs)))
+count-texts-spec = tie.close (tie.spec Inv-loop μ-loop (λ c. search (counting, needs)) (λ c. search (counting, needs))
+    (λ c κs. search (counting, needs)) (λ c. search (counting, needs)) (λ c. search (counting, needs)) (λ c. search (counting, needs))
+    (λ c. search (counting, needs)) (λ c. search (counting, needs)))

@@ -44,19 +44,5 @@ returns-4 : tie.Need-returns-4
 returns-4 c = (search (answered, needs), search (left, needs))
 
 pub finish-spec : {M : Type 1} → statement M
-finish-spec =
-    tie.close
-    (tie.spec
-    cap-requires
-    refusal-requires
-    returns
-    refusal-requires-2
-    returns-2
-    check-requires
-    enum-told
-    refusal-requires-3
-    enum-known-items
-    hand-over-requires
-    returns-3
-    same-length
-    returns-4)
+finish-spec = tie.close (tie.spec cap-requires refusal-requires returns refusal-requires-2 returns-2 check-requires enum-told refusal-requires-3
+    enum-known-items hand-over-requires returns-3 same-length returns-4)

@@ -35,16 +35,5 @@ returns-3 : tie.Need-returns-3
 returns-3 c = search (nonces, needs)
 
 pub put-nonce-spec : {M : Type 1} → statement M
-put-nonce-spec =
-    tie.close
-    (tie.spec
-    put-head-requires
-    same-length
-    returns
-    put-head-requires-2
-    put-block-requires
-    same-length-2
-    returns-2
-    put-head-requires-3
-    same-length-3
-    returns-3)
+put-nonce-spec = tie.close (tie.spec put-head-requires same-length returns put-head-requires-2 put-block-requires same-length-2 returns-2
+    put-head-requires-3 same-length-3 returns-3)

@@ -83,31 +83,6 @@ returns-4 : tie.Need-returns-4 Inv-loop μ-loop
 returns-4 c = search (going, needs)
 
 pub put-targets-spec : {M : Type 1} → statement M
-put-targets-spec =
-    tie.close
-    (tie.spec
-    Inv-loop
-    μ-loop
-    loop-holds
-    text-end-requires
-    same-length
-    returns
-    sub-put-text
-    part-put-text-start
-    part-put-text-end
-    put-text-requires
-    enum-told
-    same-length-2
-    returns-2
-    enum-told-2
-    same-length-3
-    returns-3
-    enum-known-w
-    add-q
-    add-n
-    add-p
-    add-k
-    loop-less
-    loop-again
-    same-length-4
-    returns-4)
+put-targets-spec = tie.close (tie.spec Inv-loop μ-loop loop-holds text-end-requires same-length returns sub-put-text part-put-text-start
+    part-put-text-end put-text-requires enum-told same-length-2 returns-2 enum-told-2 same-length-3 returns-3 enum-known-w add-q add-n add-p add-k
+    loop-less loop-again same-length-4 returns-4)

@@ -23,12 +23,4 @@ returns : tie.Need-returns
 returns c = search (text-put, needs)
 
 pub put-text-spec : {M : Type 1} → statement M
-put-text-spec =
-    tie.close
-    (tie.spec
-    sub-take-text
-    part-take-text-start
-    part-take-text-end
-    take-text-requires
-    same-length
-    returns)
+put-text-spec = tie.close (tie.spec sub-take-text part-take-text-start part-take-text-end take-text-requires same-length returns)

@@ -77,29 +77,6 @@ returns-4 : tie.Need-returns-4 Inv-loop μ-loop
 returns-4 c = search (onward, needs)
 
 pub rest-of-spec : {M : Type 1} → statement M
-rest-of-spec =
-    tie.close
-    (tie.spec
-    Inv-loop
-    μ-loop
-    loop-holds
-    text-end-requires
-    same-length
-    returns
-    sub-take-text
-    part-take-text-start
-    part-take-text-end
-    take-text-requires
-    enum-told
-    same-length-2
-    returns-2
-    enum-told-2
-    same-length-3
-    returns-3
-    enum-told-3
-    add-p
-    add-k
-    loop-less
-    loop-again
-    same-length-4
-    returns-4)
+rest-of-spec = tie.close (tie.spec Inv-loop μ-loop loop-holds text-end-requires same-length returns sub-take-text part-take-text-start
+    part-take-text-end take-text-requires enum-told same-length-2 returns-2 enum-told-2 same-length-3 returns-3 enum-told-3 add-p add-k loop-less
+    loop-again same-length-4 returns-4)

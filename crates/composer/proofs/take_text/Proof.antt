@@ -41,18 +41,5 @@ returns-4 : tie.Need-returns-4
 returns-4 c = search (taking, needs)
 
 pub take-text-spec : {M : Type 1} → statement M
-take-text-spec =
-    tie.close
-    (tie.spec
-    read-text-within-requires
-    enum-known-w
-    same-length
-    returns
-    enum-known-w-2
-    is-object-requires
-    same-length-2
-    returns-2
-    same-length-3
-    returns-3
-    same-length-4
-    returns-4)
+take-text-spec = tie.close (tie.spec read-text-within-requires enum-known-w same-length returns enum-known-w-2 is-object-requires same-length-2
+    returns-2 same-length-3 returns-3 same-length-4 returns-4)

@@ -38,16 +38,5 @@ returns-2 : tie.Need-returns-2 Inv-loop μ-loop
 returns-2 c = search (runs, needs)
 
 pub text-end-spec : {M : Type 1} → statement M
-text-end-spec =
-    tie.close
-    (tie.spec
-    Inv-loop
-    μ-loop
-    loop-holds
-    shared-slice-read-is-in-text
-    is-in-text-requires
-    add-i
-    loop-less
-    loop-again
-    returns
+text-end-spec = tie.close (tie.spec Inv-loop μ-loop loop-holds shared-slice-read-is-in-text is-in-text-requires add-i loop-less loop-again returns
     returns-2)

@@ -45,19 +45,5 @@ returns-5 : tie.Need-returns-5 Inv-loop μ-loop
 returns-5 c = search needs
 
 pub is-decimal-spec : {M : Type 1} → statement M
-is-decimal-spec =
-    tie.close
-    (tie.spec
-    Inv-loop
-    μ-loop
-    returns
-    shared-slice-read-if2
-    returns-2
-    loop-holds
-    shared-slice-read-x
-    returns-3
-    returns-4
-    add-i
-    loop-less
-    loop-again
-    returns-5)
+is-decimal-spec = tie.close (tie.spec Inv-loop μ-loop returns shared-slice-read-if2 returns-2 loop-holds shared-slice-read-x returns-3 returns-4 add-i
+    loop-less loop-again returns-5)

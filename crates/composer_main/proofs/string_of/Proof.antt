@@ -79,30 +79,6 @@ returns-5 : tie.Need-returns-5 Inv-loop μ-loop
 returns-5 c = search needs
 
 pub string-of-spec : {M : Type 1} → statement M
-string-of-spec =
-    tie.close
-    (tie.spec
-    Inv-loop
-    μ-loop
-    returns
-    returns-2
-    loop-holds
-    mul-digit
-    shared-slice-read-digit
-    digit-requires
-    mul-digit-2
-    add-digit
-    shared-slice-read-digit-2
-    digit-requires-2
-    same-length
-    returns-3
-    same-length-2
-    returns-4
-    mul-room
-    add-room
-    slice-write-room
-    add-i
-    loop-less
-    loop-again
-    same-length-3
-    returns-5)
+string-of-spec = tie.close (tie.spec Inv-loop μ-loop returns returns-2 loop-holds mul-digit shared-slice-read-digit digit-requires mul-digit-2
+    add-digit shared-slice-read-digit-2 digit-requires-2 same-length returns-3 same-length-2 returns-4 mul-room add-room slice-write-room add-i
+    loop-less loop-again same-length-3 returns-5)

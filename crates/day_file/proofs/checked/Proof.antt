@@ -5,13 +5,5 @@ use Rattle.day_file.proofs.checked.Statement.{statement}
 use Rattle.day_file.proofs.checked.Tie as tie
 
 pub checked-spec : {M : Type 1} → statement M
-checked-spec =
-    tie.close
-    (tie.spec
-    (λ c κs. search (checks, needs))
-    (λ c. search (checks, needs))
-    (λ c. search (checks, needs))
-    (λ c κs. search (checks, needs))
-    (λ c. search (checks, needs))
-    (λ c. search (checks, needs))
-    (λ c. search (checks, needs)))
+checked-spec = tie.close (tie.spec (λ c κs. search (checks, needs)) (λ c. search (checks, needs)) (λ c. search (checks, needs))
+    (λ c κs. search (checks, needs)) (λ c. search (checks, needs)) (λ c. search (checks, needs)) (λ c. search (checks, needs)))

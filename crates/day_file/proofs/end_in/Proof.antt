@@ -5,13 +5,5 @@ use Rattle.day_file.proofs.end_in.Statement.{statement}
 use Rattle.day_file.proofs.end_in.Tie as tie
 
 pub end-in-spec : {M : Type 1} → statement M
-end-in-spec =
-    tie.close
-    (tie.spec
-    (λ c. search (places, needs))
-    (λ c κs. search (places, needs))
-    (λ c. search (places, needs))
-    (λ c κs. search (places, needs))
-    (λ c. search (places, needs))
-    (λ c κs. search (places, needs))
-    (λ c. search (places, needs)))
+end-in-spec = tie.close (tie.spec (λ c. search (places, needs)) (λ c κs. search (places, needs)) (λ c. search (places, needs))
+    (λ c κs. search (places, needs)) (λ c. search (places, needs)) (λ c κs. search (places, needs)) (λ c. search (places, needs)))

@@ -13,15 +13,6 @@ abbrev μ-loop : tie.MeasureT-loop
 μ-loop format file count k₀ k = count - k
 
 pub first-bad-entry-spec : {M : Type 1} → statement M
-first-bad-entry-spec =
-    tie.close
-    (tie.spec
-    Inv-loop
-    μ-loop
-    (λ c. search (firsts, needs))
-    (λ c κs. search (firsts, needs))
-    (λ c. search (firsts, needs))
-    (λ c. search (firsts, needs))
-    (λ c. search (firsts, needs))
-    (λ c. search (firsts, needs))
+first-bad-entry-spec = tie.close (tie.spec Inv-loop μ-loop (λ c. search (firsts, needs)) (λ c κs. search (firsts, needs))
+    (λ c. search (firsts, needs)) (λ c. search (firsts, needs)) (λ c. search (firsts, needs)) (λ c. search (firsts, needs))
     (λ c. search (firsts, needs)))

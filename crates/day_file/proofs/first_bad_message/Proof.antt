@@ -13,15 +13,6 @@ abbrev μ-loop : tie.MeasureT-loop
 μ-loop format limits file count k₀ k = count - k
 
 pub first-bad-message-spec : {M : Type 1} → statement M
-first-bad-message-spec =
-    tie.close
-    (tie.spec
-    Inv-loop
-    μ-loop
-    (λ c. search (firsts, needs))
-    (λ c κs. search (firsts, needs))
-    (λ c. search (firsts, needs))
-    (λ c. search (firsts, needs))
-    (λ c. search (firsts, needs))
-    (λ c. search (firsts, needs))
+first-bad-message-spec = tie.close (tie.spec Inv-loop μ-loop (λ c. search (firsts, needs)) (λ c κs. search (firsts, needs))
+    (λ c. search (firsts, needs)) (λ c. search (firsts, needs)) (λ c. search (firsts, needs)) (λ c. search (firsts, needs))
     (λ c. search (firsts, needs)))

@@ -5,9 +5,4 @@ use Rattle.day_file.proofs.format_of.Statement.{statement}
 use Rattle.day_file.proofs.format_of.Tie as tie
 
 pub format-of-spec : {M : Type 1} → statement M
-format-of-spec =
-    tie.close
-    (tie.spec
-    (λ c κs. search (versions, needs))
-    (λ c. search (versions, needs))
-    (λ c. search (versions, needs)))
+format-of-spec = tie.close (tie.spec (λ c κs. search (versions, needs)) (λ c. search (versions, needs)) (λ c. search (versions, needs)))

@@ -5,14 +5,6 @@ use Rattle.day_file.proofs.part.Statement.{statement}
 use Rattle.day_file.proofs.part.Tie as tie
 
 pub part-spec : {M : Type 1} → statement M
-part-spec =
-    tie.close
-    (tie.spec
-    (λ c κs. search (places, needs))
-    (λ c. search (places, needs))
-    (λ c. search (places, needs))
-    (λ c. search (places, needs))
-    (λ c. search (places, needs))
-    (λ c. search (places, needs))
-    (λ c. search (places, needs))
+part-spec = tie.close (tie.spec (λ c κs. search (places, needs)) (λ c. search (places, needs)) (λ c. search (places, needs))
+    (λ c. search (places, needs)) (λ c. search (places, needs)) (λ c. search (places, needs)) (λ c. search (places, needs))
     (λ c. search (places, needs)))

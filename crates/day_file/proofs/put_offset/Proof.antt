@@ -5,14 +5,5 @@ use Rattle.day_file.proofs.put_offset.Statement.{statement}
 use Rattle.day_file.proofs.put_offset.Tie as tie
 
 pub put-offset-spec : {M : Type 1} → statement M
-put-offset-spec =
-    tie.close
-    (tie.spec
-    (λ c. search (puts, needs))
-    (λ c κs. search (puts, needs))
-    (λ c. search (puts, needs))
-    (λ c. search (puts, needs))
-    (λ c. search (puts, needs))
-    (λ c κs. search (puts, needs))
-    (λ c. search (puts, needs))
-    (λ c. search (puts, needs)))
+put-offset-spec = tie.close (tie.spec (λ c. search (puts, needs)) (λ c κs. search (puts, needs)) (λ c. search (puts, needs))
+    (λ c. search (puts, needs)) (λ c. search (puts, needs)) (λ c κs. search (puts, needs)) (λ c. search (puts, needs)) (λ c. search (puts, needs)))

@@ -14,18 +14,6 @@ abbrev μ-loop : tie.MeasureT-loop
 μ-loop format limits file count published own word out₀ table₀ found₀ k₀ out table found k = count - k
 
 pub find-day-spec : {M : Type 1} → statement M
-find-day-spec =
-    tie.close
-    (tie.spec
-    Inv-loop
-    μ-loop
-    (λ c. search (days, needs))
-    (λ c κs. search (days, needs))
-    (λ c κs. search (days, needs))
-    (λ c κs. search (days, needs))
-    (λ c. search (days, needs))
-    (λ c. search (days, needs))
-    (λ c. search (days, needs))
-    (λ c. search (days, needs))
-    (λ c. search (days, needs))
-    (λ c. search (days, needs)))
+find-day-spec = tie.close (tie.spec Inv-loop μ-loop (λ c. search (days, needs)) (λ c κs. search (days, needs)) (λ c κs. search (days, needs))
+    (λ c κs. search (days, needs)) (λ c. search (days, needs)) (λ c. search (days, needs)) (λ c. search (days, needs)) (λ c. search (days, needs))
+    (λ c. search (days, needs)) (λ c. search (days, needs)))

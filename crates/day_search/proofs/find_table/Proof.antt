@@ -14,29 +14,9 @@ abbrev μ-loop : tie.MeasureT-loop
 μ-loop s count entries published own word message base out₀ before found₀ k₀ out found k = count - k
 
 pub find-table-spec : {M : Type 1} → statement M
-find-table-spec =
-    tie.close
-    (tie.spec
-    Inv-loop
-    μ-loop
-    (λ c. search (findings, needs))
-    (λ c. search (findings, needs))
-    (λ c. search (findings, needs))
-    (λ c κs. search (findings, needs))
-    (λ c. search (findings, needs))
-    (λ c. search (findings, needs))
-    (λ c. search (findings, needs))
-    (λ c. search (findings, needs))
-    (λ c. search (findings, needs))
-    (λ c κs. search (findings, needs))
-    (λ c. search (findings, needs))
-    (λ c. search (findings, needs))
-    (λ c. search (findings, needs))
-    (λ c κs. search (findings, needs))
-    (λ c. search (findings, needs))
-    (λ c. search (findings, needs))
-    (λ c. search (findings, needs))
-    (λ c. search (findings, needs))
-    (λ c. search (findings, needs))
-    (λ c. search (findings, needs))
-    (λ c. search (findings, needs)))
+find-table-spec = tie.close (tie.spec Inv-loop μ-loop (λ c. search (findings, needs)) (λ c. search (findings, needs)) (λ c. search (findings, needs))
+    (λ c κs. search (findings, needs)) (λ c. search (findings, needs)) (λ c. search (findings, needs)) (λ c. search (findings, needs))
+    (λ c. search (findings, needs)) (λ c. search (findings, needs)) (λ c κs. search (findings, needs)) (λ c. search (findings, needs))
+    (λ c. search (findings, needs)) (λ c. search (findings, needs)) (λ c κs. search (findings, needs)) (λ c. search (findings, needs))
+    (λ c. search (findings, needs)) (λ c. search (findings, needs)) (λ c. search (findings, needs)) (λ c. search (findings, needs))
+    (λ c. search (findings, needs)) (λ c. search (findings, needs)))

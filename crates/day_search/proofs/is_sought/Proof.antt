@@ -5,13 +5,5 @@ use Rattle.day_search.proofs.is_sought.Statement.{statement}
 use Rattle.day_search.proofs.is_sought.Tie as tie
 
 pub is-sought-spec : {M : Type 1} → statement M
-is-sought-spec =
-    tie.close
-    (tie.spec
-    (λ c κs. search (seeks, needs))
-    (λ c. search (seeks, needs))
-    (λ c. search (seeks, needs))
-    (λ c. search (seeks, needs))
-    (λ c. search (seeks, needs))
-    (λ c. search (seeks, needs))
-    (λ c. search (seeks, needs)))
+is-sought-spec = tie.close (tie.spec (λ c κs. search (seeks, needs)) (λ c. search (seeks, needs)) (λ c. search (seeks, needs))
+    (λ c. search (seeks, needs)) (λ c. search (seeks, needs)) (λ c. search (seeks, needs)) (λ c. search (seeks, needs)))

@@ -5,18 +5,7 @@ use Rattle.day_search.proofs.search_messages.Statement.{statement}
 use Rattle.day_search.proofs.search_messages.Tie as tie
 
 pub search-messages-spec : {M : Type 1} → statement M
-search-messages-spec =
-    tie.close
-    (tie.spec
-    (λ c κs. search (rooms, needs))
-    (λ c. search (rooms, needs))
-    (λ c. search (rooms, needs))
-    (λ c. search (rooms, needs))
-    (λ c. search (rooms, needs))
-    (λ c κs. search (rooms, needs))
-    (λ c. search (rooms, needs))
-    (λ c. search (rooms, needs))
-    (λ c κs. search (rooms, needs))
-    (λ c. search (rooms, needs))
-    (λ c. search (rooms, needs))
+search-messages-spec = tie.close (tie.spec (λ c κs. search (rooms, needs)) (λ c. search (rooms, needs)) (λ c. search (rooms, needs))
+    (λ c. search (rooms, needs)) (λ c. search (rooms, needs)) (λ c κs. search (rooms, needs)) (λ c. search (rooms, needs))
+    (λ c. search (rooms, needs)) (λ c κs. search (rooms, needs)) (λ c. search (rooms, needs)) (λ c. search (rooms, needs))
     (λ c. search (rooms, needs)))

@@ -5,18 +5,7 @@ use Rattle.day_search.proofs.search_within.Statement.{statement}
 use Rattle.day_search.proofs.search_within.Tie as tie
 
 pub search-within-spec : {M : Type 1} → statement M
-search-within-spec =
-    tie.close
-    (tie.spec
-    (λ c κs. search (searches, needs))
-    (λ c. search (searches, needs))
-    (λ c. search (searches, needs))
-    (λ c κs. search (searches, needs))
-    (λ c. search (searches, needs))
-    (λ c. search (searches, needs))
-    (λ c. search (searches, needs))
-    (λ c κs. search (searches, needs))
-    (λ c. search (searches, needs))
-    (λ c. search (searches, needs))
-    (λ c. search (searches, needs))
+search-within-spec = tie.close (tie.spec (λ c κs. search (searches, needs)) (λ c. search (searches, needs)) (λ c. search (searches, needs))
+    (λ c κs. search (searches, needs)) (λ c. search (searches, needs)) (λ c. search (searches, needs)) (λ c. search (searches, needs))
+    (λ c κs. search (searches, needs)) (λ c. search (searches, needs)) (λ c. search (searches, needs)) (λ c. search (searches, needs))
     (λ c. search (searches, needs)))

@@ -17,17 +17,7 @@ abbrev μ-loop : tie.MeasureT-loop
 μ-loop file count out₀ at p₀ k₀ out p k = count - k
 
 pub put-offsets-spec : {M : Type 1} → statement M
-put-offsets-spec =
-    tie.close
-    (tie.spec
-    Inv-loop
-    μ-loop
-    (λ c. search (rewritings, put-size, needs))
-    (λ c κs. search (rewritings, put-size, needs))
-    (λ c. search (rewritings, put-size, needs))
-    (λ c κs. search (rewritings, put-size, needs))
-    (λ c. search (rewritings, put-size, needs))
-    (λ c. search (rewritings, put-size, needs))
-    (λ c. search (rewritings, put-size, needs))
-    (λ c. search (rewritings, put-size, needs))
+put-offsets-spec = tie.close (tie.spec Inv-loop μ-loop (λ c. search (rewritings, put-size, needs)) (λ c κs. search (rewritings, put-size, needs))
+    (λ c. search (rewritings, put-size, needs)) (λ c κs. search (rewritings, put-size, needs)) (λ c. search (rewritings, put-size, needs))
+    (λ c. search (rewritings, put-size, needs)) (λ c. search (rewritings, put-size, needs)) (λ c. search (rewritings, put-size, needs))
     (λ c. search (rewritings, put-size, needs)))

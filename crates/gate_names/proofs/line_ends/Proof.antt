@@ -12,15 +12,5 @@ abbrev μ-loop : tie.MeasureT-loop
 μ-loop t n₀ i₀ n i = length t - i
 
 pub line-ends-spec : {M : Type 1} → statement M
-line-ends-spec =
-    tie.close
-    (tie.spec
-    Inv-loop
-    μ-loop
-    (λ c. search needs)
-    (λ c. search needs)
-    (λ c κs. search needs)
-    (λ c. search needs)
-    (λ c. search needs)
-    (λ c. search needs)
-    (λ c. search needs))
+line-ends-spec = tie.close (tie.spec Inv-loop μ-loop (λ c. search needs) (λ c. search needs) (λ c κs. search needs) (λ c. search needs)
+    (λ c. search needs) (λ c. search needs) (λ c. search needs))

@@ -5,14 +5,5 @@ use Rattle.grammar.proofs.fits_by.Statement.{statement}
 use Rattle.grammar.proofs.fits_by.Tie as tie
 
 pub fits-by-spec : {M : Type 1} → statement M
-fits-by-spec =
-    tie.close
-    (tie.spec
-    (λ c. search (fit-ways, needs))
-    (λ c. search needs)
-    (λ c. search needs)
-    (λ c κs. search needs)
-    (λ c. search needs)
-    (λ c. search (fit-ways, needs))
-    (λ c κs. search needs)
-    (λ c. search (fit-ways, needs)))
+fits-by-spec = tie.close (tie.spec (λ c. search (fit-ways, needs)) (λ c. search needs) (λ c. search needs) (λ c κs. search needs) (λ c. search needs)
+    (λ c. search (fit-ways, needs)) (λ c κs. search needs) (λ c. search (fit-ways, needs)))

@@ -15,23 +15,7 @@ abbrev μ-loop : tie.MeasureT-loop
 μ-loop s at i₀ i = length s - i
 
 pub is-identifier-at-spec : {M : Type 1} → statement M
-is-identifier-at-spec =
-    tie.close
-    (tie.spec
-    Inv-loop
-    μ-loop
-    (λ c. search (names, needs))
-    (λ c. search (names, needs))
-    (λ c. search (names, needs))
-    (λ c. search (names, needs))
-    (λ c κs. search (names, needs))
-    (λ c. search (names, needs))
-    (λ c. search (names, needs))
-    (λ c. search (names, needs))
-    (λ c κs. search (names, needs))
-    (λ c. search (names, needs))
-    (λ c. search (names, needs))
-    (λ c. search (names, needs))
-    (λ c. search (names, needs))
-    (λ c. search (names, needs))
-    (λ c. search (names, needs)))
+is-identifier-at-spec = tie.close (tie.spec Inv-loop μ-loop (λ c. search (names, needs)) (λ c. search (names, needs)) (λ c. search (names, needs))
+    (λ c. search (names, needs)) (λ c κs. search (names, needs)) (λ c. search (names, needs)) (λ c. search (names, needs))
+    (λ c. search (names, needs)) (λ c κs. search (names, needs)) (λ c. search (names, needs)) (λ c. search (names, needs))
+    (λ c. search (names, needs)) (λ c. search (names, needs)) (λ c. search (names, needs)) (λ c. search (names, needs)))

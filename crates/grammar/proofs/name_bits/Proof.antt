@@ -5,8 +5,4 @@ use Rattle.grammar.proofs.name_bits.Statement.{statement}
 use Rattle.grammar.proofs.name_bits.Tie as tie
 
 pub name-bits-spec : {M : Type 1} → statement M
-name-bits-spec =
-    tie.close
-    (tie.spec
-    (λ c. search (names, needs))
-    (λ c. search (names, needs)))
+name-bits-spec = tie.close (tie.spec (λ c. search (names, needs)) (λ c. search (names, needs)))

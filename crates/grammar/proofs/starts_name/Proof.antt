@@ -5,11 +5,5 @@ use Rattle.grammar.proofs.starts_name.Statement.{statement}
 use Rattle.grammar.proofs.starts_name.Tie as tie
 
 pub starts-name-spec : {M : Type 1} → statement M
-starts-name-spec =
-    tie.close
-    (tie.spec
-    (λ c κs. search needs)
-    (λ c. search (names, needs))
-    (λ c. search (names, needs))
-    (λ c. search needs)
+starts-name-spec = tie.close (tie.spec (λ c κs. search needs) (λ c. search (names, needs)) (λ c. search (names, needs)) (λ c. search needs)
     (λ c. search (names, needs)))

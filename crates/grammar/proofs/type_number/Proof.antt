@@ -5,8 +5,4 @@ use Rattle.grammar.proofs.type_number.Statement.{statement}
 use Rattle.grammar.proofs.type_number.Tie as tie
 
 pub type-number-spec : {M : Type 1} → statement M
-type-number-spec =
-    tie.close
-    (tie.spec
-    (λ c. (search (a-type, needs), search needs))
-    (λ c. (search (no-type, needs), search needs)))
+type-number-spec = tie.close (tie.spec (λ c. (search (a-type, needs), search needs)) (λ c. (search (no-type, needs), search needs)))

@@ -5,19 +5,7 @@ use Rattle.grant_structs.proofs.listed_in.Statement.{statement}
 use Rattle.grant_structs.proofs.listed_in.Tie as tie
 
 pub listed-in-spec : {M : Type 1} → statement M
-listed-in-spec =
-    tie.close
-    (tie.spec
-    (λ c κs. search (decisions, needs))
-    (λ c. search (decisions, needs))
-    (λ c. search (decisions, needs))
-    (λ c κs. search (decisions, needs))
-    (λ c. search (decisions, needs))
-    (λ c. search (decisions, needs))
-    (λ c κs. search (decisions, needs))
-    (λ c. search (decisions, needs))
-    (λ c. search (decisions, needs))
-    (λ c. search (decisions, needs))
-    (λ c. search (decisions, needs))
-    (λ c. search (decisions, needs))
-    (λ c. search (decisions, needs)))
+listed-in-spec = tie.close (tie.spec (λ c κs. search (decisions, needs)) (λ c. search (decisions, needs)) (λ c. search (decisions, needs))
+    (λ c κs. search (decisions, needs)) (λ c. search (decisions, needs)) (λ c. search (decisions, needs)) (λ c κs. search (decisions, needs))
+    (λ c. search (decisions, needs)) (λ c. search (decisions, needs)) (λ c. search (decisions, needs)) (λ c. search (decisions, needs))
+    (λ c. search (decisions, needs)) (λ c. search (decisions, needs)))

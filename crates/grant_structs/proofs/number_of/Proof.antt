@@ -5,12 +5,5 @@ use Rattle.grant_structs.proofs.number_of.Statement.{statement}
 use Rattle.grant_structs.proofs.number_of.Tie as tie
 
 pub number-of-spec : {M : Type 1} → statement M
-number-of-spec =
-    tie.close
-    (tie.spec
-    (λ c. search needs)
-    (λ c. search (low-word, needs))
-    (λ c. search needs)
-    (λ c. search needs)
-    (λ c. search (high-fits, needs))
-    (λ c. search (high-word, needs)))
+number-of-spec = tie.close (tie.spec (λ c. search needs) (λ c. search (low-word, needs)) (λ c. search needs) (λ c. search needs)
+    (λ c. search (high-fits, needs)) (λ c. search (high-word, needs)))

@@ -5,11 +5,5 @@ use Rattle.grant_structs.proofs.rows_for.Statement.{statement}
 use Rattle.grant_structs.proofs.rows_for.Tie as tie
 
 pub rows-for-spec : {M : Type 1} → statement M
-rows-for-spec =
-    tie.close
-    (tie.spec
-    (λ c. search needs)
-    (λ c. search needs)
-    (λ c κs. search needs)
-    (λ c. search (rows-number, needs))
+rows-for-spec = tie.close (tie.spec (λ c. search needs) (λ c. search needs) (λ c κs. search needs) (λ c. search (rows-number, needs))
     (λ c. search (rows-other, needs)))

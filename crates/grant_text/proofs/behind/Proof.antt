@@ -15,16 +15,5 @@ abbrev μ-loop : tie.MeasureT-loop
 μ-loop t from class i₀ i = length t - i
 
 pub behind-spec : {M : Type 1} → statement M
-behind-spec =
-    tie.close
-    (tie.spec
-    Inv-loop
-    μ-loop
-    (λ c. search (ways, needs))
-    (λ c. search (ways, needs))
-    (λ c κs. search (ways, needs))
-    (λ c. search (ways, needs))
-    (λ c. search (ways, needs))
-    (λ c. search (ways, needs))
-    (λ c. search (ways, needs))
-    (λ c. search (ways, needs)))
+behind-spec = tie.close (tie.spec Inv-loop μ-loop (λ c. search (ways, needs)) (λ c. search (ways, needs)) (λ c κs. search (ways, needs))
+    (λ c. search (ways, needs)) (λ c. search (ways, needs)) (λ c. search (ways, needs)) (λ c. search (ways, needs)) (λ c. search (ways, needs)))

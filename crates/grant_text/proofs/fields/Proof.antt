@@ -5,23 +5,7 @@ use Rattle.grant_text.proofs.fields.Statement.{statement}
 use Rattle.grant_text.proofs.fields.Tie as tie
 
 pub fields-spec : {M : Type 1} → statement M
-fields-spec =
-    tie.close
-    (tie.spec
-    (λ c κs. search (ways, needs))
-    (λ c. search (ways, needs))
-    (λ c κs. search (ways, needs))
-    (λ c κs. search (ways, needs))
-    (λ c κs. search (ways, needs))
-    (λ c κs. search (ways, needs))
-    (λ c. search (ways, needs))
-    (λ c. search (ways, needs))
-    (λ c. search (ways, needs))
-    (λ c. search (ways, needs))
-    (λ c κs. search (ways, needs))
-    (λ c. search (ways, needs))
-    (λ c. search (ways, needs))
-    (λ c. search (ways, needs))
-    (λ c κs. search (ways, needs))
-    (λ c κs. search (ways, needs))
-    (λ c. search (ways, needs)))
+fields-spec = tie.close (tie.spec (λ c κs. search (ways, needs)) (λ c. search (ways, needs)) (λ c κs. search (ways, needs))
+    (λ c κs. search (ways, needs)) (λ c κs. search (ways, needs)) (λ c κs. search (ways, needs)) (λ c. search (ways, needs))
+    (λ c. search (ways, needs)) (λ c. search (ways, needs)) (λ c. search (ways, needs)) (λ c κs. search (ways, needs)) (λ c. search (ways, needs))
+    (λ c. search (ways, needs)) (λ c. search (ways, needs)) (λ c κs. search (ways, needs)) (λ c κs. search (ways, needs)) (λ c. search (ways, needs)))

@@ -13,27 +13,8 @@ abbrev μ-loop : tie.MeasureT-loop
 μ-loop text out₀ write from₀ lines₀ n₀ out from lines n = length text - from
 
 pub gather-spec : {M : Type 1} → statement M
-gather-spec =
-    tie.close
-    (tie.spec
-    Inv-loop
-    μ-loop
-    (λ c. search (whole, needs))
-    (λ c κs. search (whole, needs))
-    (λ c. search (whole, needs))
-    (λ c. search (whole, needs))
-    (λ c. search (whole, needs))
-    (λ c. search (whole, needs))
-    (λ c. search (whole, needs))
-    (λ c. search (whole, needs))
-    (λ c. (search (whole, needs), search (whole, needs)))
-    (λ c. search (whole, needs))
-    (λ c κs. search (whole, needs))
-    (λ c. search (whole, needs))
-    (λ c. search (whole, needs))
-    (λ c. search (whole, needs))
-    (λ c. search (whole, needs))
-    (λ c. search (whole, needs))
-    (λ c. (search (whole, needs), search (whole, needs)))
-    (λ c. search (whole, needs))
-    (λ c. (search (whole, needs), search (whole, needs))))
+gather-spec = tie.close (tie.spec Inv-loop μ-loop (λ c. search (whole, needs)) (λ c κs. search (whole, needs)) (λ c. search (whole, needs))
+    (λ c. search (whole, needs)) (λ c. search (whole, needs)) (λ c. search (whole, needs)) (λ c. search (whole, needs)) (λ c. search (whole, needs))
+    (λ c. (search (whole, needs), search (whole, needs))) (λ c. search (whole, needs)) (λ c κs. search (whole, needs)) (λ c. search (whole, needs))
+    (λ c. search (whole, needs)) (λ c. search (whole, needs)) (λ c. search (whole, needs)) (λ c. search (whole, needs))
+    (λ c. (search (whole, needs), search (whole, needs))) (λ c. search (whole, needs)) (λ c. (search (whole, needs), search (whole, needs))))

@@ -5,12 +5,5 @@ use Rattle.grant_text.proofs.is.Statement.{statement}
 use Rattle.grant_text.proofs.is.Tie as tie
 
 pub is-spec : {M : Type 1} → statement M
-is-spec =
-    tie.close
-    (tie.spec
-    (λ c κs. search (ways, needs))
-    (λ c κs. search (ways, needs))
-    (λ c. search (ways, needs))
-    (λ c. search (ways, needs))
-    (λ c. search (ways, needs))
-    (λ c. search (ways, needs)))
+is-spec = tie.close (tie.spec (λ c κs. search (ways, needs)) (λ c κs. search (ways, needs)) (λ c. search (ways, needs)) (λ c. search (ways, needs))
+    (λ c. search (ways, needs)) (λ c. search (ways, needs)))

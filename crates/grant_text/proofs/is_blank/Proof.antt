@@ -5,8 +5,4 @@ use Rattle.grant_text.proofs.is_blank.Statement.{statement}
 use Rattle.grant_text.proofs.is_blank.Tie as tie
 
 pub is-blank-spec : {M : Type 1} → statement M
-is-blank-spec =
-    tie.close
-    (tie.spec
-    (λ c. search (ways, needs))
-    (λ c. search (ways, needs)))
+is-blank-spec = tie.close (tie.spec (λ c. search (ways, needs)) (λ c. search (ways, needs)))

@@ -16,16 +16,5 @@ abbrev μ-loop : tie.MeasureT-loop
 μ-loop t at₀ at = length t - at
 
 pub check-table-spec : {M : Type 1} → statement M
-check-table-spec =
-    tie.close
-    (tie.spec
-    Inv-loop
-    μ-loop
-    (λ c. search (ways, needs))
-    (λ c. search (ways, needs))
-    (λ c κs. search (ways, needs))
-    (λ c. search (ways, needs))
-    (λ c. search (ways, needs))
-    (λ c. search (ways, needs))
-    (λ c. search (ways, needs))
-    (λ c. search (ways, needs)))
+check-table-spec = tie.close (tie.spec Inv-loop μ-loop (λ c. search (ways, needs)) (λ c. search (ways, needs)) (λ c κs. search (ways, needs))
+    (λ c. search (ways, needs)) (λ c. search (ways, needs)) (λ c. search (ways, needs)) (λ c. search (ways, needs)) (λ c. search (ways, needs)))

@@ -17,16 +17,5 @@ abbrev μ-loop : tie.MeasureT-loop
 μ-loop t subscriber namespace at₀ at = length t - at
 
 pub granted-spec : {M : Type 1} → statement M
-granted-spec =
-    tie.close
-    (tie.spec
-    Inv-loop
-    μ-loop
-    (λ c. search (ways, needs))
-    (λ c. search (ways, needs))
-    (λ c κs. search (ways, needs))
-    (λ c. search (ways, needs))
-    (λ c. search (ways, needs))
-    (λ c. search (ways, needs))
-    (λ c. search (ways, needs))
-    (λ c. search (ways, needs)))
+granted-spec = tie.close (tie.spec Inv-loop μ-loop (λ c. search (ways, needs)) (λ c. search (ways, needs)) (λ c κs. search (ways, needs))
+    (λ c. search (ways, needs)) (λ c. search (ways, needs)) (λ c. search (ways, needs)) (λ c. search (ways, needs)) (λ c. search (ways, needs)))

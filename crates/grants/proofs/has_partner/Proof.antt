@@ -16,16 +16,5 @@ abbrev μ-loop : tie.MeasureT-loop
 μ-loop t subscriber namespace at₀ at = length t - at
 
 pub has-partner-spec : {M : Type 1} → statement M
-has-partner-spec =
-    tie.close
-    (tie.spec
-    Inv-loop
-    μ-loop
-    (λ c. search (ways, needs))
-    (λ c. search (ways, needs))
-    (λ c κs. search (ways, needs))
-    (λ c. search (ways, needs))
-    (λ c. search (ways, needs))
-    (λ c. search (ways, needs))
-    (λ c. search (ways, needs))
-    (λ c. search (ways, needs)))
+has-partner-spec = tie.close (tie.spec Inv-loop μ-loop (λ c. search (ways, needs)) (λ c. search (ways, needs)) (λ c κs. search (ways, needs))
+    (λ c. search (ways, needs)) (λ c. search (ways, needs)) (λ c. search (ways, needs)) (λ c. search (ways, needs)) (λ c. search (ways, needs)))

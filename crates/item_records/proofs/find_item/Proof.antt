@@ -5,15 +5,6 @@ use Rattle.item_records.proofs.find_item.Statement.{statement}
 use Rattle.item_records.proofs.find_item.Tie as tie
 
 pub find-item-spec : {M : Type 1} → statement M
-find-item-spec =
-    tie.close
-    (tie.spec
-    (λ c. search needs)
-    (λ c. search needs)
-    (λ c κs. search (found-ways, needs))
-    (λ c. search (found-ways, needs))
-    (λ c. search (found-ways, needs))
-    (λ c κs. search needs)
-    (λ c. search (found-ways, needs))
-    (λ c. search (found-ways, needs))
+find-item-spec = tie.close (tie.spec (λ c. search needs) (λ c. search needs) (λ c κs. search (found-ways, needs)) (λ c. search (found-ways, needs))
+    (λ c. search (found-ways, needs)) (λ c κs. search needs) (λ c. search (found-ways, needs)) (λ c. search (found-ways, needs))
     (λ c. search (found-ways, needs)))

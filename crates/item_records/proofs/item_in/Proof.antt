@@ -5,10 +5,4 @@ use Rattle.item_records.proofs.item_in.Statement.{statement}
 use Rattle.item_records.proofs.item_in.Tie as tie
 
 pub item-in-spec : {M : Type 1} → statement M
-item-in-spec =
-    tie.close
-    (tie.spec
-    (λ c κs. search needs)
-    (λ c κs. search (item-ways, needs))
-    (λ c. search needs)
-    (λ c. search (item-ways, needs)))
+item-in-spec = tie.close (tie.spec (λ c κs. search needs) (λ c κs. search (item-ways, needs)) (λ c. search needs) (λ c. search (item-ways, needs)))

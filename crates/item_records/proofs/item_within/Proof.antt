@@ -4,12 +4,4 @@ use Rattle.item_records.proofs.item_within.Statement.{statement}
 use Rattle.item_records.proofs.item_within.Tie as tie
 
 pub item-within-spec : {M : Type 1} → statement M
-item-within-spec =
-    tie.close
-    (tie.spec
-    (λ c κs. search needs)
-    (λ c κs. search needs)
-    (λ c. cc)
-    (λ c. search needs)
-    (λ c κs. search needs)
-    (λ c. cc))
+item-within-spec = tie.close (tie.spec (λ c κs. search needs) (λ c κs. search needs) (λ c. cc) (λ c. search needs) (λ c κs. search needs) (λ c. cc))

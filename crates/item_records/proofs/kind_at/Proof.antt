@@ -5,12 +5,5 @@ use Rattle.item_records.proofs.kind_at.Statement.{statement}
 use Rattle.item_records.proofs.kind_at.Tie as tie
 
 pub kind-at-spec : {M : Type 1} → statement M
-kind-at-spec =
-    tie.close
-    (tie.spec
-    (λ c. search needs)
-    (λ c κs. search needs)
-    (λ c κs. search needs)
-    (λ c. search needs)
-    (λ c. search (good-kind, needs))
-    (λ c. search (bad-kind, needs)))
+kind-at-spec = tie.close (tie.spec (λ c. search needs) (λ c κs. search needs) (λ c κs. search needs) (λ c. search needs)
+    (λ c. search (good-kind, needs)) (λ c. search (bad-kind, needs)))

@@ -5,11 +5,5 @@ use Rattle.item_records.proofs.kind_of.Statement.{statement}
 use Rattle.item_records.proofs.kind_of.Tie as tie
 
 pub kind-of-spec : {M : Type 1} → statement M
-kind-of-spec =
-    tie.close
-    (tie.spec
-    (λ c. search (kind-ways, needs))
-    (λ c. search (kind-ways, needs))
-    (λ c. search (kind-ways, needs))
-    (λ c κs. search needs)
-    (λ c. search (kind-ways, needs)))
+kind-of-spec = tie.close (tie.spec (λ c. search (kind-ways, needs)) (λ c. search (kind-ways, needs)) (λ c. search (kind-ways, needs))
+    (λ c κs. search needs) (λ c. search (kind-ways, needs)))

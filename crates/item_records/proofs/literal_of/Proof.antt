@@ -8,10 +8,7 @@ use Rattle.item_records.proofs.literal_of.Statement.{statement}
 use Rattle.item_records.proofs.literal_of.Tie as tie
 
 pub literal-of-spec : {M : Type 1} → statement M
-literal-of-spec =
-    tie.close
-    (tie.spec
-    (λ c. hit (list (c .before .args .arg)) (Simple (c .before .args .arg)) 0 (c .match .keys1))
+literal-of-spec = tie.close (tie.spec (λ c. hit (list (c .before .args .arg)) (Simple (c .before .args .arg)) 0 (c .match .keys1))
     (λ c. hit (list (c .before .args .arg)) (Simple (c .before .args .arg)) 1 (c .match .keys2))
     (λ c. hit (list (c .before .args .arg)) (Simple (c .before .args .arg)) 2 (c .match .keys3))
     (λ c. hit (list (c .before .args .arg)) (Simple (c .before .args .arg)) 3 (c .match .keys4))

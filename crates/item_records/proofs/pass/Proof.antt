@@ -5,11 +5,5 @@ use Rattle.item_records.proofs.pass.Statement.{statement}
 use Rattle.item_records.proofs.pass.Tie as tie
 
 pub pass-spec : {M : Type 1} → statement M
-pass-spec =
-    tie.close
-    (tie.spec
-    (λ c κs. search needs)
-    (λ c κs. search needs)
-    (λ c κs. search needs)
-    (λ c. search (target-ways, needs))
+pass-spec = tie.close (tie.spec (λ c κs. search needs) (λ c κs. search needs) (λ c κs. search needs) (λ c. search (target-ways, needs))
     (λ c. search (target-ways, needs)))

@@ -5,11 +5,5 @@ use Rattle.item_records.proofs.record_of.Statement.{statement}
 use Rattle.item_records.proofs.record_of.Tie as tie
 
 pub record-of-spec : {M : Type 1} → statement M
-record-of-spec =
-    tie.close
-    (tie.spec
-    (λ c κs. search needs)
-    (λ c κs. search needs)
-    (λ c κs. search needs)
-    (λ c κs. search needs)
+record-of-spec = tie.close (tie.spec (λ c κs. search needs) (λ c κs. search needs) (λ c κs. search needs) (λ c κs. search needs)
     (λ c. search (the-record, needs)))

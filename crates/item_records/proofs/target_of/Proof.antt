@@ -5,10 +5,5 @@ use Rattle.item_records.proofs.target_of.Statement.{statement}
 use Rattle.item_records.proofs.target_of.Tie as tie
 
 pub target-of-spec : {M : Type 1} → statement M
-target-of-spec =
-    tie.close
-    (tie.spec
-    (λ c. search (target-ways, needs))
-    (λ c. search (target-ways, needs))
-    (λ c. search needs)
+target-of-spec = tie.close (tie.spec (λ c. search (target-ways, needs)) (λ c. search (target-ways, needs)) (λ c. search needs)
     (λ c. search (target-ways, needs)))

@@ -14,16 +14,5 @@ abbrev μ-loop : tie.MeasureT-loop
 μ-loop entries k targets₀ j₀ targets j = suc k - j
 
 pub targets-to-spec : {M : Type 1} → statement M
-targets-to-spec =
-    tie.close
-    (tie.spec
-    Inv-loop
-    μ-loop
-    (λ c. search needs)
-    (λ c. search needs)
-    (λ c. search needs)
-    (λ c κs. search needs)
-    (λ c. search needs)
-    (λ c. search needs)
-    (λ c. search (passed-one, needs))
-    (λ c. search (passed-to, needs)))
+targets-to-spec = tie.close (tie.spec Inv-loop μ-loop (λ c. search needs) (λ c. search needs) (λ c. search needs) (λ c κs. search needs)
+    (λ c. search needs) (λ c. search needs) (λ c. search (passed-one, needs)) (λ c. search (passed-to, needs)))

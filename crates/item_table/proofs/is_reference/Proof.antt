@@ -5,10 +5,5 @@ use Rattle.item_table.proofs.is_reference.Statement.{statement}
 use Rattle.item_table.proofs.is_reference.Tie as tie
 
 pub is-reference-spec : {M : Type 1} → statement M
-is-reference-spec =
-    tie.close
-    (tie.spec
-    (λ c. search (reference-ways, needs))
-    (λ c. search (reference-ways, needs))
-    (λ c κs. search needs)
+is-reference-spec = tie.close (tie.spec (λ c. search (reference-ways, needs)) (λ c. search (reference-ways, needs)) (λ c κs. search needs)
     (λ c. search (reference-ways, needs)))

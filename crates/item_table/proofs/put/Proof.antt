@@ -6,13 +6,5 @@ use Rattle.item_table.proofs.put.Statement.{statement}
 use Rattle.item_table.proofs.put.Tie as tie
 
 pub put-spec : {M : Type 1} → statement M
-put-spec =
-    tie.close
-    (tie.spec
-    (λ c κs. search needs)
-    (λ c κs. search needs)
-    (λ c. search needs)
-    (λ c. search needs)
-    (λ c. search needs)
-    (λ c. rw (← c .before .head-by .ensures, ← c .pack .ensures))
-    (λ c. sym (set-out _ _ _ (c .if1 .left))))
+put-spec = tie.close (tie.spec (λ c κs. search needs) (λ c κs. search needs) (λ c. search needs) (λ c. search needs) (λ c. search needs)
+    (λ c. rw (← c .before .head-by .ensures, ← c .pack .ensures)) (λ c. sym (set-out _ _ _ (c .if1 .left))))

@@ -6,12 +6,5 @@ use Rattle.item_table.proofs.put_plain.Statement.{statement}
 use Rattle.item_table.proofs.put_plain.Tie as tie
 
 pub put-plain-spec : {M : Type 1} → statement M
-put-plain-spec =
-    tie.close
-    (tie.spec
-    (λ c κs. search needs)
-    (λ c. search needs)
-    (λ c. search needs)
-    (λ c. search needs)
-    (λ c. cc)
+put-plain-spec = tie.close (tie.spec (λ c κs. search needs) (λ c. search needs) (λ c. search needs) (λ c. search needs) (λ c. cc)
     (λ c. sym (set-out _ _ _ (c .if1 .left))))

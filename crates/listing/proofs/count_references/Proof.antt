@@ -16,19 +16,6 @@ abbrev μ-loop : tie.MeasureT-loop
 μ-loop s count entries listed₀ k₀ listed k = count - k
 
 pub count-references-spec : {M : Type 1} → statement M
-count-references-spec =
-    tie.close
-    (tie.spec
-    Inv-loop
-    μ-loop
-    (λ c. search (counts, needs))
-    (λ c. search (counts, needs))
-    (λ c. search (counts, needs))
-    (λ c κs. search (counts, needs))
-    (λ c. search (counts, needs))
-    (λ c. search (counts, needs))
-    (λ c. search (counts, needs))
-    (λ c. search (counts, needs))
-    (λ c. search (counts, needs))
-    (λ c. search (counts, needs))
-    (λ c. search (counts, needs)))
+count-references-spec = tie.close (tie.spec Inv-loop μ-loop (λ c. search (counts, needs)) (λ c. search (counts, needs)) (λ c. search (counts, needs))
+    (λ c κs. search (counts, needs)) (λ c. search (counts, needs)) (λ c. search (counts, needs)) (λ c. search (counts, needs))
+    (λ c. search (counts, needs)) (λ c. search (counts, needs)) (λ c. search (counts, needs)) (λ c. search (counts, needs)))

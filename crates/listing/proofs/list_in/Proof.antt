@@ -6,15 +6,5 @@ use Rattle.listing.proofs.list_in.Statement.{statement}
 use Rattle.listing.proofs.list_in.Tie as tie
 
 pub list-in-spec : {M : Type 1} → statement M
-list-in-spec =
-    tie.close
-    (tie.spec
-    (λ c κs. search needs)
-    (λ c. search needs)
-    (λ c. search needs)
-    (λ c κs. search (tabled, needs))
-    (λ c. search needs)
-    (λ c. search (outcomes, needs))
-    (λ c. search needs)
-    (λ c. search needs)
-    (λ c. search (outcomes, needs)))
+list-in-spec = tie.close (tie.spec (λ c κs. search needs) (λ c. search needs) (λ c. search needs) (λ c κs. search (tabled, needs)) (λ c. search needs)
+    (λ c. search (outcomes, needs)) (λ c. search needs) (λ c. search needs) (λ c. search (outcomes, needs)))

@@ -5,16 +5,6 @@ use Rattle.listing.proofs.list_table.Statement.{statement}
 use Rattle.listing.proofs.list_table.Tie as tie
 
 pub list-table-spec : {M : Type 1} → statement M
-list-table-spec =
-    tie.close
-    (tie.spec
-    (λ c κs. search (rooms, needs))
-    (λ c. search (rooms, needs))
-    (λ c. search (rooms, needs))
-    (λ c κs. search (rooms, needs))
-    (λ c. search (rooms, needs))
-    (λ c κs. search (rooms, needs))
-    (λ c. search (rooms, needs))
-    (λ c. search (rooms, needs))
-    (λ c. search (rooms, needs))
-    (λ c. search (rooms, needs)))
+list-table-spec = tie.close (tie.spec (λ c κs. search (rooms, needs)) (λ c. search (rooms, needs)) (λ c. search (rooms, needs))
+    (λ c κs. search (rooms, needs)) (λ c. search (rooms, needs)) (λ c κs. search (rooms, needs)) (λ c. search (rooms, needs))
+    (λ c. search (rooms, needs)) (λ c. search (rooms, needs)) (λ c. search (rooms, needs)))

@@ -12,23 +12,7 @@ abbrev μ-loop : tie.MeasureT-loop
 μ-loop s count entries out₀ at₀ k₀ out at k = count - k
 
 pub write-entries-spec : {M : Type 1} → statement M
-write-entries-spec =
-    tie.close
-    (tie.spec
-    Inv-loop
-    μ-loop
-    (λ c. search (writes, needs))
-    (λ c. search (writes, needs))
-    (λ c. search (writes, needs))
-    (λ c κs. search (writes, needs))
-    (λ c. search (writes, needs))
-    (λ c. search (writes, needs))
-    (λ c. search (writes, needs))
-    (λ c. search (writes, needs))
-    (λ c. search (writes, needs))
-    (λ c κs. search (writes, needs))
-    (λ c. search (writes, needs))
-    (λ c. search (writes, needs))
-    (λ c. search (writes, needs))
-    (λ c. search (writes, needs))
-    (λ c. search (writes, needs)))
+write-entries-spec = tie.close (tie.spec Inv-loop μ-loop (λ c. search (writes, needs)) (λ c. search (writes, needs)) (λ c. search (writes, needs))
+    (λ c κs. search (writes, needs)) (λ c. search (writes, needs)) (λ c. search (writes, needs)) (λ c. search (writes, needs))
+    (λ c. search (writes, needs)) (λ c. search (writes, needs)) (λ c κs. search (writes, needs)) (λ c. search (writes, needs))
+    (λ c. search (writes, needs)) (λ c. search (writes, needs)) (λ c. search (writes, needs)) (λ c. search (writes, needs)))

@@ -6,16 +6,7 @@ use Rattle.month.proofs.add_file.Statement.{statement}
 use Rattle.month.proofs.add_file.Tie as tie
 
 pub add-file-spec : {M : Type 1} → statement M
-add-file-spec =
-    tie.close
-    (tie.spec
-    (λ c κs. search (files, needs))
-    (λ c. search (files, needs))
-    (λ c. search (files, needs))
+add-file-spec = tie.close (tie.spec (λ c κs. search (files, needs)) (λ c. search (files, needs)) (λ c. search (files, needs))
     (λ c κs. ((search needs, search needs, search needs, search needs, search (sized-few, needs), search (sized-long, needs)), search needs))
-    (λ c. search (files, needs))
-    (λ c. search (files, needs))
-    (λ c. search (files, needs))
-    (λ c. search (files, needs))
-    (λ c. search (files, needs))
+    (λ c. search (files, needs)) (λ c. search (files, needs)) (λ c. search (files, needs)) (λ c. search (files, needs)) (λ c. search (files, needs))
     (λ c. search (files, needs)))

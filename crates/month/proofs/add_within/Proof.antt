@@ -5,12 +5,5 @@ use Rattle.month.proofs.add_within.Statement.{statement}
 use Rattle.month.proofs.add_within.Tie as tie
 
 pub add-within-spec : {M : Type 1} → statement M
-add-within-spec =
-    tie.close
-    (tie.spec
-    (λ c. search (within, needs))
-    (λ c. search (within, needs))
-    (λ c κs. search (within, needs))
-    (λ c κs. search (within, needs))
-    (λ c. search (within, needs))
-    (λ c. search (within, needs)))
+add-within-spec = tie.close (tie.spec (λ c. search (within, needs)) (λ c. search (within, needs)) (λ c κs. search (within, needs))
+    (λ c κs. search (within, needs)) (λ c. search (within, needs)) (λ c. search (within, needs)))

@@ -14,20 +14,7 @@ abbrev μ-loop : tie.MeasureT-loop
 μ-loop from at into₀ to many i₀ into i = many - i
 
 pub copy-spec : {M : Type 1} → statement M
-copy-spec =
-    tie.close
-    (tie.spec
-    Inv-loop
-    μ-loop
-    (λ c. search (copies, needs))
-    (λ c. search (copies, needs))
-    (λ c. search (copies, needs))
-    (λ c. search (copies, needs))
-    (λ c. search (copies, needs))
-    (λ c. search (copies, needs))
-    (λ c. search (copies, needs))
-    (λ c. search (copies, needs))
-    (λ c. search (copies, needs))
-    (λ c. search (copies, needs))
-    (λ c. search (copies, needs))
+copy-spec = tie.close (tie.spec Inv-loop μ-loop (λ c. search (copies, needs)) (λ c. search (copies, needs)) (λ c. search (copies, needs))
+    (λ c. search (copies, needs)) (λ c. search (copies, needs)) (λ c. search (copies, needs)) (λ c. search (copies, needs))
+    (λ c. search (copies, needs)) (λ c. search (copies, needs)) (λ c. search (copies, needs)) (λ c. search (copies, needs))
     (λ c. search (copies, needs)))

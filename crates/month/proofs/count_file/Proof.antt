@@ -36,25 +36,11 @@ again c =
     )
 
 pub count-file-spec : {M : Type 1} → statement M
-count-file-spec =
-    tie.close
-    (tie.spec
-    Inv-loop
-    μ-loop
-    (λ c κs. search (files, counted-on, needs))
-    (λ c. search (files, counted-on, needs))
-    (λ c κs. search (files, counted-on, needs))
-    (λ c κs. search (files, counted-on, needs))
-    (λ c. search (files, counted-on, needs))
-    (λ c. search (files, counted-on, needs))
-    (λ c. search (files, counted-on, needs))
-    (λ c. search (files, counted-on, needs))
-    (λ c. search (files, counted-on, needs))
-    refused
+count-file-spec = tie.close (tie.spec Inv-loop μ-loop (λ c κs. search (files, counted-on, needs)) (λ c. search (files, counted-on, needs))
+    (λ c κs. search (files, counted-on, needs)) (λ c κs. search (files, counted-on, needs)) (λ c. search (files, counted-on, needs))
+    (λ c. search (files, counted-on, needs)) (λ c. search (files, counted-on, needs)) (λ c. search (files, counted-on, needs))
+    (λ c. search (files, counted-on, needs)) refused
     (λ c. let turn = c .before .before .before .before .before .before .before .before .before .before .before .before .before .before in omega (arith, turn .loop-test .taken, turn .before .before .before .before .before .before .before .before .before .before .before .before .before .before .before .before .pre))
     (λ c. let turn = c .before .before .before .before .before .before .before .before .before .before .before .before .before .before in omega (arith, turn .loop-test .taken))
-    again
-    (λ c. search (files, counted-on, needs))
-    (λ c. search (files, counted-on, needs))
-    (λ c. search (files, counted-on, needs))
+    again (λ c. search (files, counted-on, needs)) (λ c. search (files, counted-on, needs)) (λ c. search (files, counted-on, needs))
     (λ c. search (files, counted-on, needs)))

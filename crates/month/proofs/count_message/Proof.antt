@@ -6,16 +6,7 @@ use Rattle.month.proofs.count_message.Statement.{statement}
 use Rattle.month.proofs.count_message.Tie as tie
 
 pub count-message-spec : {M : Type 1} → statement M
-count-message-spec =
-    tie.close
-    (tie.spec
-    (λ c κs. search (messages, tabled, needs))
-    (λ c. search (messages, tabled, needs))
-    (λ c. search (messages, tabled, needs))
-    (λ c κs. search (messages, tabled, needs))
-    (λ c. search (messages, tabled, needs))
-    (λ c. search (messages, tabled, needs))
-    (λ c. search (messages, tabled, needs))
-    (λ c. search (messages, tabled, needs))
-    (λ c. search (messages, tabled, needs))
-    (λ c. search (messages, tabled, needs)))
+count-message-spec = tie.close (tie.spec (λ c κs. search (messages, tabled, needs)) (λ c. search (messages, tabled, needs))
+    (λ c. search (messages, tabled, needs)) (λ c κs. search (messages, tabled, needs)) (λ c. search (messages, tabled, needs))
+    (λ c. search (messages, tabled, needs)) (λ c. search (messages, tabled, needs)) (λ c. search (messages, tabled, needs))
+    (λ c. search (messages, tabled, needs)) (λ c. search (messages, tabled, needs)))

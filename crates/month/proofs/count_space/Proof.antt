@@ -5,21 +5,7 @@ use Rattle.month.proofs.count_space.Statement.{statement}
 use Rattle.month.proofs.count_space.Tie as tie
 
 pub count-space-spec : {M : Type 1} → statement M
-count-space-spec =
-    tie.close
-    (tie.spec
-    (λ c. search (counts, needs))
-    (λ c κs. search (counts, needs))
-    (λ c κs. search (counts, needs))
-    (λ c κs. search (counts, needs))
-    (λ c. search (counts, needs))
-    (λ c κs. search (counts, needs))
-    (λ c κs. search (counts, needs))
-    (λ c. search (counts, needs))
-    (λ c κs. search (counts, needs))
-    (λ c κs. search (counts, needs))
-    (λ c. search (counts, needs))
-    (λ c. search (counts, needs))
-    (λ c. search (counts, needs))
-    (λ c. search (counts, needs))
-    (λ c. search (counts, needs)))
+count-space-spec = tie.close (tie.spec (λ c. search (counts, needs)) (λ c κs. search (counts, needs)) (λ c κs. search (counts, needs))
+    (λ c κs. search (counts, needs)) (λ c. search (counts, needs)) (λ c κs. search (counts, needs)) (λ c κs. search (counts, needs))
+    (λ c. search (counts, needs)) (λ c κs. search (counts, needs)) (λ c κs. search (counts, needs)) (λ c. search (counts, needs))
+    (λ c. search (counts, needs)) (λ c. search (counts, needs)) (λ c. search (counts, needs)) (λ c. search (counts, needs)))

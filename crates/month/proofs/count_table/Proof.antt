@@ -14,24 +14,8 @@ abbrev μ-loop : tie.MeasureT-loop
 μ-loop s count entries published own places₀ amounts₀ tally₀ k₀ places amounts tally k = count - k
 
 pub count-table-spec : {M : Type 1} → statement M
-count-table-spec =
-    tie.close
-    (tie.spec
-    Inv-loop
-    μ-loop
-    (λ c. search (spacings, needs))
-    (λ c. search (spacings, needs))
-    (λ c. search (spacings, needs))
-    (λ c κs. search (spacings, needs))
-    (λ c. search (spacings, needs))
-    (λ c. search (spacings, needs))
-    (λ c. search (spacings, needs))
-    (λ c. search (spacings, needs))
-    (λ c. search (spacings, needs))
-    (λ c κs. search (spacings, needs))
-    (λ c κs. search (spacings, needs))
-    (λ c. search (spacings, needs))
-    (λ c. search (spacings, needs))
-    (λ c. search (spacings, needs))
-    (λ c. search (spacings, needs))
+count-table-spec = tie.close (tie.spec Inv-loop μ-loop (λ c. search (spacings, needs)) (λ c. search (spacings, needs)) (λ c. search (spacings, needs))
+    (λ c κs. search (spacings, needs)) (λ c. search (spacings, needs)) (λ c. search (spacings, needs)) (λ c. search (spacings, needs))
+    (λ c. search (spacings, needs)) (λ c. search (spacings, needs)) (λ c κs. search (spacings, needs)) (λ c κs. search (spacings, needs))
+    (λ c. search (spacings, needs)) (λ c. search (spacings, needs)) (λ c. search (spacings, needs)) (λ c. search (spacings, needs))
     (λ c. search (spacings, needs)))

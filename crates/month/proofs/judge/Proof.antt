@@ -5,12 +5,5 @@ use Rattle.month.proofs.judge.Statement.{statement}
 use Rattle.month.proofs.judge.Tie as tie
 
 pub judge-spec : {M : Type 1} → statement M
-judge-spec =
-    tie.close
-    (tie.spec
-    (λ c. search (judges, needs))
-    (λ c κs. search (judges, needs))
-    (λ c. search (judges, needs))
-    (λ c κs. search (judges, needs))
-    (λ c. search (judges, needs))
-    (λ c. search (judges, needs)))
+judge-spec = tie.close (tie.spec (λ c. search (judges, needs)) (λ c κs. search (judges, needs)) (λ c. search (judges, needs))
+    (λ c κs. search (judges, needs)) (λ c. search (judges, needs)) (λ c. search (judges, needs)))

@@ -14,16 +14,6 @@ abbrev μ-loop : tie.MeasureT-loop
 μ-loop amounts lines i₀ i = lines - i
 
 pub lines-small-spec : {M : Type 1} → statement M
-lines-small-spec =
-    tie.close
-    (tie.spec
-    Inv-loop
-    μ-loop
-    (λ c. search (checks, needs))
-    (λ c. search (checks, needs))
-    (λ c. search (checks, needs))
-    (λ c. search (checks, needs))
-    (λ c. search (checks, needs))
-    (λ c. search (checks, needs))
-    (λ c. search (checks, needs))
+lines-small-spec = tie.close (tie.spec Inv-loop μ-loop (λ c. search (checks, needs)) (λ c. search (checks, needs)) (λ c. search (checks, needs))
+    (λ c. search (checks, needs)) (λ c. search (checks, needs)) (λ c. search (checks, needs)) (λ c. search (checks, needs))
     (λ c. search (checks, needs)))

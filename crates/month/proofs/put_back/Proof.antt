@@ -5,11 +5,5 @@ use Rattle.month.proofs.put_back.Statement.{statement}
 use Rattle.month.proofs.put_back.Tie as tie
 
 pub put-back-spec : {M : Type 1} → statement M
-put-back-spec =
-    tie.close
-    (tie.spec
-    (λ c κs. search (put-back-is, needs))
-    (λ c κs. search (put-back-is, needs))
-    (λ c κs. search (put-back-is, needs))
-    (λ c. search (put-back-is, needs))
-    (λ c. search (put-back-is, needs)))
+put-back-spec = tie.close (tie.spec (λ c κs. search (put-back-is, needs)) (λ c κs. search (put-back-is, needs)) (λ c κs. search (put-back-is, needs))
+    (λ c. search (put-back-is, needs)) (λ c. search (put-back-is, needs)))

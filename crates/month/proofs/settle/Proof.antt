@@ -5,13 +5,5 @@ use Rattle.month.proofs.settle.Statement.{statement}
 use Rattle.month.proofs.settle.Tie as tie
 
 pub settle-spec : {M : Type 1} → statement M
-settle-spec =
-    tie.close
-    (tie.spec
-    (λ c κs. search (settles, needs))
-    (λ c. search (settles, needs))
-    (λ c. search (settles, needs))
-    (λ c κs. search (settles, needs))
-    (λ c. search (settles, needs))
-    (λ c. search (settles, needs))
-    (λ c. search (settles, needs)))
+settle-spec = tie.close (tie.spec (λ c κs. search (settles, needs)) (λ c. search (settles, needs)) (λ c. search (settles, needs))
+    (λ c κs. search (settles, needs)) (λ c. search (settles, needs)) (λ c. search (settles, needs)) (λ c. search (settles, needs)))

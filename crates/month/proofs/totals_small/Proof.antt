@@ -5,11 +5,5 @@ use Rattle.month.proofs.totals_small.Statement.{statement}
 use Rattle.month.proofs.totals_small.Tie as tie
 
 pub totals-small-spec : {M : Type 1} → statement M
-totals-small-spec =
-    tie.close
-    (tie.spec
-    (λ c. search (smalls, needs))
-    (λ c. search (smalls, needs))
-    (λ c. search (smalls, needs))
-    (λ c. search (smalls, needs))
-    (λ c. search (smalls, needs)))
+totals-small-spec = tie.close (tie.spec (λ c. search (smalls, needs)) (λ c. search (smalls, needs)) (λ c. search (smalls, needs))
+    (λ c. search (smalls, needs)) (λ c. search (smalls, needs)))

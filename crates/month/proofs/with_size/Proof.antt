@@ -5,10 +5,5 @@ use Rattle.month.proofs.with_size.Statement.{statement}
 use Rattle.month.proofs.with_size.Tie as tie
 
 pub with-size-spec : {M : Type 1} → statement M
-with-size-spec =
-    tie.close
-    (tie.spec
-    (λ c κs. search (counts, needs))
-    (λ c κs. search (counts, needs))
-    (λ c κs. search (counts, needs))
+with-size-spec = tie.close (tie.spec (λ c κs. search (counts, needs)) (λ c κs. search (counts, needs)) (λ c κs. search (counts, needs))
     (λ c. search (counts, needs)))

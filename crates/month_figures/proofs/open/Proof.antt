@@ -5,11 +5,5 @@ use Rattle.month_figures.proofs.open.Statement.{statement}
 use Rattle.month_figures.proofs.open.Tie as tie
 
 pub open-spec : {M : Type 1} → statement M
-open-spec =
-    tie.close
-    (tie.spec
-    (λ c. search (opens, needs))
-    (λ c. search (opens, needs))
-    (λ c κs. search (opens, needs))
-    (λ c. search (opens, needs))
+open-spec = tie.close (tie.spec (λ c. search (opens, needs)) (λ c. search (opens, needs)) (λ c κs. search (opens, needs)) (λ c. search (opens, needs))
     (λ c. search (opens, needs)))

@@ -14,15 +14,5 @@ abbrev μ-loop : tie.MeasureT-loop
 μ-loop state lines out₀ at p₀ i₀ out p i = lines - i
 
 pub put-lines-spec : {M : Type 1} → statement M
-put-lines-spec =
-    tie.close
-    (tie.spec
-    Inv-loop
-    μ-loop
-    (λ c. search (puts, needs))
-    (λ c κs. search (puts, needs))
-    (λ c. search (puts, needs))
-    (λ c. search (puts, needs))
-    (λ c. search (puts, needs))
-    (λ c. search (puts, needs))
-    (λ c. search (puts, needs)))
+put-lines-spec = tie.close (tie.spec Inv-loop μ-loop (λ c. search (puts, needs)) (λ c κs. search (puts, needs)) (λ c. search (puts, needs))
+    (λ c. search (puts, needs)) (λ c. search (puts, needs)) (λ c. search (puts, needs)) (λ c. search (puts, needs)))

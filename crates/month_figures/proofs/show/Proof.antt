@@ -12,16 +12,6 @@ written c =
     show-done _ _ (omega arith) (counted .least .ensures) (omega arith) (put .put-figures .ensures)
 
 pub show-spec : {M : Type 1} → statement M
-show-spec =
-    tie.close
-    (tie.spec
-    (λ c. search (shows, needs))
-    (λ c. search (shows, needs))
-    (λ c. search (shows, needs))
-    (λ c κs. search (shows, needs))
-    (λ c. search (shows, needs))
-    (λ c. search (shows, needs))
-    (λ c. search (shows, needs))
-    (λ c κs. search (shows, needs))
-    (λ c. search (shows, needs))
-    written)
+show-spec = tie.close (tie.spec (λ c. search (shows, needs)) (λ c. search (shows, needs)) (λ c. search (shows, needs)) (λ c κs. search (shows, needs))
+    (λ c. search (shows, needs)) (λ c. search (shows, needs)) (λ c. search (shows, needs)) (λ c κs. search (shows, needs))
+    (λ c. search (shows, needs)) written)

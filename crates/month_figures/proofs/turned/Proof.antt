@@ -5,9 +5,4 @@ use Rattle.month_figures.proofs.turned.Statement.{statement}
 use Rattle.month_figures.proofs.turned.Tie as tie
 
 pub turned-spec : {M : Type 1} → statement M
-turned-spec =
-    tie.close
-    (tie.spec
-    (λ c. search (turns, needs))
-    (λ c. search (turns, needs))
-    (λ c. search (turns, needs)))
+turned-spec = tie.close (tie.spec (λ c. search (turns, needs)) (λ c. search (turns, needs)) (λ c. search (turns, needs)))

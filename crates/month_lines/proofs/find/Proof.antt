@@ -27,19 +27,5 @@ returns : tie.Need-returns Inv-loop μ-loop
 returns c = let l = c .before .loop in (omega arith, met _ _ _ (l .inv .2) (omega arith) (omega arith))
 
 pub find-spec : {M : Type 1} → statement M
-find-spec =
-    tie.close
-    (tie.spec
-    Inv-loop
-    μ-loop
-    (λ c. (search needs, search needs, splits-none _ _ _))
-    (λ c. search needs)
-    (λ c. search needs)
-    (λ c. search needs)
-    (λ c. search needs)
-    (λ c. search needs)
-    (λ c. search needs)
-    low-again
-    (λ c. search needs)
-    high-again
-    returns)
+find-spec = tie.close (tie.spec Inv-loop μ-loop (λ c. (search needs, search needs, splits-none _ _ _)) (λ c. search needs) (λ c. search needs)
+    (λ c. search needs) (λ c. search needs) (λ c. search needs) (λ c. search needs) low-again (λ c. search needs) high-again returns)

@@ -16,20 +16,7 @@ abbrev μ-loop : tie.MeasureT-loop
 μ-loop words₀ lines at word carried₀ i₀ words carried i = lines - i
 
 pub insert-spec : {M : Type 1} → statement M
-insert-spec =
-    tie.close
-    (tie.spec
-    Inv-loop
-    μ-loop
-    (λ c. search (shifts, needs))
-    (λ c. search (shifts, needs))
-    (λ c. search (shifts, needs))
-    (λ c. search (shifts, needs))
-    (λ c. search (shifts, needs))
-    (λ c. search (shifts, needs))
-    (λ c. search (shifts, needs))
-    (λ c. search (shifts, needs))
-    (λ c. search (shifts, needs))
-    (λ c. search (shifts, needs))
-    (λ c. search (shifts, needs))
+insert-spec = tie.close (tie.spec Inv-loop μ-loop (λ c. search (shifts, needs)) (λ c. search (shifts, needs)) (λ c. search (shifts, needs))
+    (λ c. search (shifts, needs)) (λ c. search (shifts, needs)) (λ c. search (shifts, needs)) (λ c. search (shifts, needs))
+    (λ c. search (shifts, needs)) (λ c. search (shifts, needs)) (λ c. search (shifts, needs)) (λ c. search (shifts, needs))
     (λ c. search (shifts, needs)))

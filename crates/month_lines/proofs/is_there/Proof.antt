@@ -5,10 +5,5 @@ use Rattle.month_lines.proofs.is_there.Statement.{statement}
 use Rattle.month_lines.proofs.is_there.Tie as tie
 
 pub is-there-spec : {M : Type 1} → statement M
-is-there-spec =
-    tie.close
-    (tie.spec
-    (λ c. search (tests, needs))
-    (λ c. search (tests, needs))
-    (λ c. search (tests, needs))
+is-there-spec = tie.close (tie.spec (λ c. search (tests, needs)) (λ c. search (tests, needs)) (λ c. search (tests, needs))
     (λ c. search (tests, needs)))

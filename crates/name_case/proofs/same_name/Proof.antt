@@ -15,18 +15,6 @@ abbrev μ-loop : tie.MeasureT-loop
 μ-loop a b i₀ i = length a - i
 
 pub same-name-spec : {M : Type 1} → statement M
-same-name-spec =
-    tie.close
-    (tie.spec
-    Inv-loop
-    μ-loop
-    (λ c. search (case-ways, needs))
-    (λ c. search (case-ways, needs))
-    (λ c. search needs)
-    (λ c. search needs)
-    (λ c κs. search needs)
-    (λ c. search (case-ways, needs))
-    (λ c. search needs)
-    (λ c. search needs)
-    (λ c. search (case-ways, needs))
-    (λ c. search (case-ways, needs)))
+same-name-spec = tie.close (tie.spec Inv-loop μ-loop (λ c. search (case-ways, needs)) (λ c. search (case-ways, needs)) (λ c. search needs)
+    (λ c. search needs) (λ c κs. search needs) (λ c. search (case-ways, needs)) (λ c. search needs) (λ c. search needs)
+    (λ c. search (case-ways, needs)) (λ c. search (case-ways, needs)))

@@ -13,29 +13,9 @@ abbrev μ-loop : tie.MeasureT-loop
 μ-loop list name p₀ p = length list - p
 
 pub find-in-spec : {M : Type 1} → statement M
-find-in-spec =
-    tie.close
-    (tie.spec
-    Inv-loop
-    μ-loop
-    (λ c. search (search-ways, needs))
-    (λ c κs. search (search-ways, needs))
-    (λ c. search (search-ways, needs))
-    (λ c. search (search-ways, needs))
-    (λ c. search (search-ways, needs))
-    (λ c. search (search-ways, needs))
-    (λ c. search (search-ways, needs))
-    (λ c. search (search-ways, needs))
-    (λ c. search (search-ways, needs))
-    (λ c κs. search (search-ways, needs))
-    (λ c. search (search-ways, needs))
-    (λ c. search (search-ways, needs))
-    (λ c. search (search-ways, needs))
-    (λ c. search (search-ways, needs))
-    (λ c. search (search-ways, needs))
-    (λ c. search (search-ways, needs))
-    (λ c. search (search-ways, needs))
-    (λ c. search (search-ways, needs))
-    (λ c. search (search-ways, needs))
-    (λ c. search (search-ways, needs))
-    (λ c. search (search-ways, needs)))
+find-in-spec = tie.close (tie.spec Inv-loop μ-loop (λ c. search (search-ways, needs)) (λ c κs. search (search-ways, needs))
+    (λ c. search (search-ways, needs)) (λ c. search (search-ways, needs)) (λ c. search (search-ways, needs)) (λ c. search (search-ways, needs))
+    (λ c. search (search-ways, needs)) (λ c. search (search-ways, needs)) (λ c. search (search-ways, needs)) (λ c κs. search (search-ways, needs))
+    (λ c. search (search-ways, needs)) (λ c. search (search-ways, needs)) (λ c. search (search-ways, needs)) (λ c. search (search-ways, needs))
+    (λ c. search (search-ways, needs)) (λ c. search (search-ways, needs)) (λ c. search (search-ways, needs)) (λ c. search (search-ways, needs))
+    (λ c. search (search-ways, needs)) (λ c. search (search-ways, needs)) (λ c. search (search-ways, needs)))

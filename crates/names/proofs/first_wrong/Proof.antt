@@ -13,20 +13,7 @@ abbrev μ-loop : tie.MeasureT-loop
 μ-loop list p₀ p = length list - p
 
 pub first-wrong-spec : {M : Type 1} → statement M
-first-wrong-spec =
-    tie.close
-    (tie.spec
-    Inv-loop
-    μ-loop
-    (λ c. search (check-ways, needs))
-    (λ c κs. search (check-ways, needs))
-    (λ c. search (check-ways, needs))
-    (λ c. search (check-ways, needs))
-    (λ c. search (check-ways, needs))
-    (λ c. search (check-ways, needs))
-    (λ c κs. search (check-ways, needs))
-    (λ c. search (check-ways, needs))
-    (λ c. search (check-ways, needs))
-    (λ c. search (check-ways, needs))
-    (λ c. search (check-ways, needs))
-    (λ c. search (check-ways, needs)))
+first-wrong-spec = tie.close (tie.spec Inv-loop μ-loop (λ c. search (check-ways, needs)) (λ c κs. search (check-ways, needs))
+    (λ c. search (check-ways, needs)) (λ c. search (check-ways, needs)) (λ c. search (check-ways, needs)) (λ c. search (check-ways, needs))
+    (λ c κs. search (check-ways, needs)) (λ c. search (check-ways, needs)) (λ c. search (check-ways, needs)) (λ c. search (check-ways, needs))
+    (λ c. search (check-ways, needs)) (λ c. search (check-ways, needs)))

@@ -5,15 +5,5 @@ use Rattle.names.proofs.renumber.Statement.{statement}
 use Rattle.names.proofs.renumber.Tie as tie
 
 pub renumber-spec : {M : Type 1} → statement M
-renumber-spec =
-    tie.close
-    (tie.spec
-    (λ c. search needs)
-    (λ c. search needs)
-    (λ c κs. search needs)
-    (λ c. search needs)
-    (λ c κs. search needs)
-    (λ c. search needs)
-    (λ c. search needs)
-    (λ c. search (translations, needs))
-    (λ c. search needs))
+renumber-spec = tie.close (tie.spec (λ c. search needs) (λ c. search needs) (λ c κs. search needs) (λ c. search needs) (λ c κs. search needs)
+    (λ c. search needs) (λ c. search needs) (λ c. search (translations, needs)) (λ c. search needs))

@@ -5,17 +5,6 @@ use Rattle.names.proofs.stands_for.Statement.{statement}
 use Rattle.names.proofs.stands_for.Tie as tie
 
 pub stands-for-spec : {M : Type 1} → statement M
-stands-for-spec =
-    tie.close
-    (tie.spec
-    (λ c. search needs)
-    (λ c. search needs)
-    (λ c κs. search needs)
-    (λ c κs. search needs)
-    (λ c. search needs)
-    (λ c. search needs)
-    (λ c. search needs)
-    (λ c. search (stands, needs))
-    (λ c. search (stands, needs))
-    (λ c. search (stands, needs))
+stands-for-spec = tie.close (tie.spec (λ c. search needs) (λ c. search needs) (λ c κs. search needs) (λ c κs. search needs) (λ c. search needs)
+    (λ c. search needs) (λ c. search needs) (λ c. search (stands, needs)) (λ c. search (stands, needs)) (λ c. search (stands, needs))
     (λ c. search needs))

@@ -12,17 +12,6 @@ abbrev μ-loop : tie.MeasureT-loop
 μ-loop published own message room₀ many n i₀ room i = n - i
 
 pub translate-entries-spec : {M : Type 1} → statement M
-translate-entries-spec =
-    tie.close
-    (tie.spec
-    Inv-loop
-    μ-loop
-    (λ c κs. search (translations, needs))
-    (λ c. search (translations, needs))
-    (λ c. search (translations, needs))
-    (λ c κs. search (translations, needs))
-    (λ c. search (translations, needs))
-    (λ c. search (translations, needs))
-    (λ c. search (translations, needs))
-    (λ c. search (translations, needs))
-    (λ c. search (translations, needs)))
+translate-entries-spec = tie.close (tie.spec Inv-loop μ-loop (λ c κs. search (translations, needs)) (λ c. search (translations, needs))
+    (λ c. search (translations, needs)) (λ c κs. search (translations, needs)) (λ c. search (translations, needs)) (λ c. search (translations, needs))
+    (λ c. search (translations, needs)) (λ c. search (translations, needs)) (λ c. search (translations, needs)))

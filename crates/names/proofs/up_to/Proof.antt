@@ -14,16 +14,5 @@ abbrev μ-loop : tie.MeasureT-loop
 μ-loop t from stop i₀ i = length t - i
 
 pub up-to-spec : {M : Type 1} → statement M
-up-to-spec =
-    tie.close
-    (tie.spec
-    Inv-loop
-    μ-loop
-    (λ c. search (runs, needs))
-    (λ c. search (runs, needs))
-    (λ c κs. search (runs, needs))
-    (λ c. search (runs, needs))
-    (λ c. search (runs, needs))
-    (λ c. search (runs, needs))
-    (λ c. search (runs, needs))
-    (λ c. search (runs, needs)))
+up-to-spec = tie.close (tie.spec Inv-loop μ-loop (λ c. search (runs, needs)) (λ c. search (runs, needs)) (λ c κs. search (runs, needs))
+    (λ c. search (runs, needs)) (λ c. search (runs, needs)) (λ c. search (runs, needs)) (λ c. search (runs, needs)) (λ c. search (runs, needs)))

@@ -5,16 +5,5 @@ use Rattle.print.proofs.container.Statement.{statement}
 use Rattle.print.proofs.container.Tie as tie
 
 pub container-spec : {M : Type 1} → statement M
-container-spec =
-    tie.close
-    (tie.spec
-    (λ c. search needs)
-    (λ c. search needs)
-    (λ c κs. search needs)
-    (λ c. search needs)
-    (λ c. search needs)
-    (λ c κs. search needs)
-    (λ c. search needs)
-    (λ c. search (matching, needs))
-    (λ c. search needs)
-    (λ c. search (matching, needs)))
+container-spec = tie.close (tie.spec (λ c. search needs) (λ c. search needs) (λ c κs. search needs) (λ c. search needs) (λ c. search needs)
+    (λ c κs. search needs) (λ c. search needs) (λ c. search (matching, needs)) (λ c. search needs) (λ c. search (matching, needs)))

@@ -11,12 +11,4 @@ returns c =
     put-hex _ _ (d .result) (d .last .1 .1 .0) (omega arith) (c .before .before .put-all .ensures) (d .ensures .1 .0) (d .ensures .1 .1)
 
 pub hex-spec : {M : Type 1} → statement M
-hex-spec =
-    tie.close
-    (tie.spec
-    (λ c κs. search needs)
-    (λ c. search needs)
-    (λ c. search needs)
-    (λ c κs. search needs)
-    (λ c. search needs)
-    returns)
+hex-spec = tie.close (tie.spec (λ c κs. search needs) (λ c. search needs) (λ c. search needs) (λ c κs. search needs) (λ c. search needs) returns)

@@ -5,11 +5,5 @@ use Rattle.print.proofs.item_line.Statement.{statement}
 use Rattle.print.proofs.item_line.Tie as tie
 
 pub item-line-spec : {M : Type 1} → statement M
-item-line-spec =
-    tie.close
-    (tie.spec
-    (λ c κs. search (lines, needs))
-    (λ c κs. search (lines, needs))
-    (λ c κs. search (lines, needs))
-    (λ c. search (lines, needs))
-    (λ c. search (lines, needs)))
+item-line-spec = tie.close (tie.spec (λ c κs. search (lines, needs)) (λ c κs. search (lines, needs)) (λ c κs. search (lines, needs))
+    (λ c. search (lines, needs)) (λ c. search (lines, needs)))

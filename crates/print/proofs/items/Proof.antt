@@ -17,20 +17,6 @@ abbrev μ-loop : tie.MeasureT-loop
 μ-loop out₀ at s entries indent p₀ k₀ targets₀ out p k targets = length entries - k
 
 pub items-spec : {M : Type 1} → statement M
-items-spec =
-    tie.close
-    (tie.spec
-    Inv-loop
-    μ-loop
-    (λ c. search (lines, needs))
-    (λ c. search (lines, needs))
-    (λ c. search (lines, needs))
-    (λ c κs. search (lines, needs))
-    (λ c. search (lines, needs))
-    (λ c. search (lines, needs))
-    (λ c κs. search (lines, needs))
-    (λ c. search (lines, needs))
-    (λ c. search (lines, needs))
-    (λ c. search (lines, needs))
-    (λ c. search (lines, needs))
-    (λ c. search (lines, needs)))
+items-spec = tie.close (tie.spec Inv-loop μ-loop (λ c. search (lines, needs)) (λ c. search (lines, needs)) (λ c. search (lines, needs))
+    (λ c κs. search (lines, needs)) (λ c. search (lines, needs)) (λ c. search (lines, needs)) (λ c κs. search (lines, needs))
+    (λ c. search (lines, needs)) (λ c. search (lines, needs)) (λ c. search (lines, needs)) (λ c. search (lines, needs)) (λ c. search (lines, needs)))

@@ -14,15 +14,5 @@ abbrev μ-loop : tie.MeasureT-loop
 μ-loop out₀ at text times p₀ i₀ out p i = times - i
 
 pub repeat-spec : {M : Type 1} → statement M
-repeat-spec =
-    tie.close
-    (tie.spec
-    Inv-loop
-    μ-loop
-    (λ c. search (putting, needs))
-    (λ c κs. search needs)
-    (λ c. search (putting, needs))
-    (λ c. search (putting, needs))
-    (λ c. search (putting, needs))
-    (λ c. search (putting, needs))
-    (λ c. search (putting, needs)))
+repeat-spec = tie.close (tie.spec Inv-loop μ-loop (λ c. search (putting, needs)) (λ c κs. search needs) (λ c. search (putting, needs))
+    (λ c. search (putting, needs)) (λ c. search (putting, needs)) (λ c. search (putting, needs)) (λ c. search (putting, needs)))

@@ -5,26 +5,7 @@ use Rattle.print.proofs.simple.Statement.{statement}
 use Rattle.print.proofs.simple.Tie as tie
 
 pub simple-spec : {M : Type 1} → statement M
-simple-spec =
-    tie.close
-    (tie.spec
-    (λ c. search needs)
-    (λ c κs. search needs)
-    (λ c. search needs)
-    (λ c κs. search needs)
-    (λ c. search needs)
-    (λ c κs. search needs)
-    (λ c. search needs)
-    (λ c κs. search needs)
-    (λ c. search needs)
-    (λ c κs. search needs)
-    (λ c. search needs)
-    (λ c. search (matching, needs))
-    (λ c. search needs)
-    (λ c. search (matching, needs))
-    (λ c. search needs)
-    (λ c. search (matching, needs))
-    (λ c. search needs)
-    (λ c. search (matching, needs))
-    (λ c. search needs)
-    (λ c. search (matching, needs)))
+simple-spec = tie.close (tie.spec (λ c. search needs) (λ c κs. search needs) (λ c. search needs) (λ c κs. search needs) (λ c. search needs)
+    (λ c κs. search needs) (λ c. search needs) (λ c κs. search needs) (λ c. search needs) (λ c κs. search needs) (λ c. search needs)
+    (λ c. search (matching, needs)) (λ c. search needs) (λ c. search (matching, needs)) (λ c. search needs) (λ c. search (matching, needs))
+    (λ c. search needs) (λ c. search (matching, needs)) (λ c. search needs) (λ c. search (matching, needs)))

@@ -5,8 +5,4 @@ use Rattle.reader.proofs.is_empty.Statement.{statement}
 use Rattle.reader.proofs.is_empty.Tie as tie
 
 pub is-empty-spec : {M : Type 1} → statement M
-is-empty-spec =
-    tie.close
-    (tie.spec
-    (λ c. search (owns, needs))
-    (λ c. search (owns, needs)))
+is-empty-spec = tie.close (tie.spec (λ c. search (owns, needs)) (λ c. search (owns, needs)))

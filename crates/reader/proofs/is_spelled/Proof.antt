@@ -6,15 +6,6 @@ use Rattle.reader.proofs.is_spelled.Statement.{statement}
 use Rattle.reader.proofs.is_spelled.Tie as tie
 
 pub is-spelled-spec : {M : Type 1} → statement M
-is-spelled-spec =
-    tie.close
-    (tie.spec
-    (λ c κs. search needs)
-    (λ c κs. search needs)
-    (λ c κs. search needs)
-    (λ c κs. search needs)
-    (λ c κs. search needs)
-    (λ c. search (spelled-by, needs))
-    (λ c. search (spelled-by, needs))
-    (λ c. search (spelled-by, needs))
+is-spelled-spec = tie.close (tie.spec (λ c κs. search needs) (λ c κs. search needs) (λ c κs. search needs) (λ c κs. search needs)
+    (λ c κs. search needs) (λ c. search (spelled-by, needs)) (λ c. search (spelled-by, needs)) (λ c. search (spelled-by, needs))
     (λ c. search (spelled-else, needs)))

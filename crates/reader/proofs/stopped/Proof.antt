@@ -5,10 +5,4 @@ use Rattle.reader.proofs.stopped.Statement.{statement}
 use Rattle.reader.proofs.stopped.Tie as tie
 
 pub stopped-spec : {M : Type 1} → statement M
-stopped-spec =
-    tie.close
-    (tie.spec
-    (λ c. search needs)
-    (λ c. search needs)
-    (λ c. search (handed, needs))
-    (λ c. search needs))
+stopped-spec = tie.close (tie.spec (λ c. search needs) (λ c. search needs) (λ c. search (handed, needs)) (λ c. search needs))

@@ -19,18 +19,7 @@ abbrev μ-loop : tie.MeasureT-loop
 μ-loop s at count items containers table₀ p₀ c₀ table p c = length s - p
 
 pub walk-sets-spec : {M : Type 1} → statement M
-walk-sets-spec =
-    tie.close
-    (tie.spec
-    Inv-loop
-    μ-loop
-    (λ c. (sets-begin _ _ _ _ _ _, search needs, search needs, search needs))
-    (λ c κs. search needs)
-    (λ c. search needs)
-    (λ c. search needs)
-    (λ c. search needs)
-    (λ c. search (sets-halt, needs))
-    (λ c. search (falls-to, read-past, bounds, needs))
-    (λ c. (search (sets-again, needs), search (bounds, needs), search (bounds, needs), search needs))
-    (λ c. search needs)
+walk-sets-spec = tie.close (tie.spec Inv-loop μ-loop (λ c. (sets-begin _ _ _ _ _ _, search needs, search needs, search needs)) (λ c κs. search needs)
+    (λ c. search needs) (λ c. search needs) (λ c. search needs) (λ c. search (sets-halt, needs)) (λ c. search (falls-to, read-past, bounds, needs))
+    (λ c. (search (sets-again, needs), search (bounds, needs), search (bounds, needs), search needs)) (λ c. search needs)
     (λ c. search (sets-done, needs)))

@@ -5,8 +5,4 @@ use Rattle.reader.proofs.wrong_version.Statement.{statement}
 use Rattle.reader.proofs.wrong_version.Tie as tie
 
 pub wrong-version-spec : {M : Type 1} → statement M
-wrong-version-spec =
-    tie.close
-    (tie.spec
-    (λ c. search (owns, needs))
-    (λ c. search (owns, needs)))
+wrong-version-spec = tie.close (tie.spec (λ c. search (owns, needs)) (λ c. search (owns, needs)))

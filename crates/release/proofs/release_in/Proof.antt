@@ -6,21 +6,7 @@ use Rattle.release.proofs.release_in.Statement.{statement}
 use Rattle.release.proofs.release_in.Tie as tie
 
 pub release-in-spec : {M : Type 1} → statement M
-release-in-spec =
-    tie.close
-    (tie.spec
-    (λ c κs. search (outcomes, needs))
-    (λ c. search (outcomes, needs))
-    (λ c. search (outcomes, needs))
-    (λ c κs. search (outcomes, needs))
-    (λ c. search (outcomes, needs))
-    (λ c. search (outcomes, needs))
-    (λ c. search (outcomes, needs))
-    (λ c. search (outcomes, needs))
-    (λ c κs. search (outcomes, tabled, needs))
-    (λ c. search (outcomes, needs))
-    (λ c. search (outcomes, needs))
-    (λ c. search (outcomes, needs))
-    (λ c. search (outcomes, needs))
-    (λ c. search (outcomes, needs))
-    (λ c. search (outcomes, needs)))
+release-in-spec = tie.close (tie.spec (λ c κs. search (outcomes, needs)) (λ c. search (outcomes, needs)) (λ c. search (outcomes, needs))
+    (λ c κs. search (outcomes, needs)) (λ c. search (outcomes, needs)) (λ c. search (outcomes, needs)) (λ c. search (outcomes, needs))
+    (λ c. search (outcomes, needs)) (λ c κs. search (outcomes, tabled, needs)) (λ c. search (outcomes, needs)) (λ c. search (outcomes, needs))
+    (λ c. search (outcomes, needs)) (λ c. search (outcomes, needs)) (λ c. search (outcomes, needs)) (λ c. search (outcomes, needs)))

@@ -68,36 +68,10 @@ returns-2 c =
     (⊎-elim (λ w. absurd (omega arith)) (λ w. absurd (omega arith))) (c .before .before .entries-test .came)
 
 pub release-table-spec : {M : Type 1} → statement M
-release-table-spec =
-    tie.close
-    (tie.spec
-    Inv-rows
-    μ-rows
-    Inv-entries
-    μ-entries
-    (λ c. search (searches, needs))
-    (λ c. search (searches, needs))
-    shared-slice-read-reference-at
-    (λ c κs. search (searches, needs))
-    (λ c. search (searches, needs))
-    (λ c. search (searches, needs))
-    (λ c. search (searches, needs))
-    (λ c. search (searches, needs))
-    (λ c. search (searches, needs))
-    (λ c κs. search (searches, needs))
-    (λ c κs. search (searches, needs))
-    (λ c κs. search (searches, needs))
-    rows-holds
-    (λ c. search (searches, needs))
-    (λ c κs. search (searches, needs))
-    (λ c κs. search (searches, needs))
-    add-at
-    (λ c. search (searches, needs))
-    rows-again
-    (λ c. search (searches, needs))
-    (λ c. search (searches, needs))
-    (λ c. search (searches, needs))
-    entries-again-2
-    returns
-    (λ c κs. search (searches, needs))
-    returns-2)
+release-table-spec = tie.close (tie.spec Inv-rows μ-rows Inv-entries μ-entries (λ c. search (searches, needs)) (λ c. search (searches, needs))
+    shared-slice-read-reference-at (λ c κs. search (searches, needs)) (λ c. search (searches, needs)) (λ c. search (searches, needs))
+    (λ c. search (searches, needs)) (λ c. search (searches, needs)) (λ c. search (searches, needs)) (λ c κs. search (searches, needs))
+    (λ c κs. search (searches, needs)) (λ c κs. search (searches, needs)) rows-holds (λ c. search (searches, needs))
+    (λ c κs. search (searches, needs)) (λ c κs. search (searches, needs)) add-at (λ c. search (searches, needs)) rows-again
+    (λ c. search (searches, needs)) (λ c. search (searches, needs)) (λ c. search (searches, needs)) entries-again-2 returns
+    (λ c κs. search (searches, needs)) returns-2)

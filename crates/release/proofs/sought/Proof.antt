@@ -4,13 +4,4 @@ use Rattle.release.proofs.sought.Statement.{statement}
 use Rattle.release.proofs.sought.Tie as tie
 
 pub sought-spec : {M : Type 1} → statement M
-sought-spec =
-    tie.close
-    (tie.spec
-    (λ c κs. search needs)
-    (λ c. search needs)
-    (λ c. search needs)
-    (λ c. search needs)
-    (λ c. cc)
-    (λ c. cc)
-    (λ c. cc))
+sought-spec = tie.close (tie.spec (λ c κs. search needs) (λ c. search needs) (λ c. search needs) (λ c. search needs) (λ c. cc) (λ c. cc) (λ c. cc))

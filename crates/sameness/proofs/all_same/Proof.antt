@@ -12,19 +12,6 @@ abbrev μ-loop : tie.MeasureT-loop
 μ-loop a b count xs ys k₀ k = count - k
 
 pub all-same-spec : {M : Type 1} → statement M
-all-same-spec =
-    tie.close
-    (tie.spec
-    Inv-loop
-    μ-loop
-    (λ c. search (goings, needs))
-    (λ c. search (goings, needs))
-    (λ c. search (goings, needs))
-    (λ c. search (goings, needs))
-    (λ c. search (goings, needs))
-    (λ c κs. search (goings, needs))
-    (λ c. search (goings, needs))
-    (λ c. search (goings, needs))
-    (λ c. search (goings, needs))
-    (λ c. search (goings, needs))
-    (λ c. search (goings, needs)))
+all-same-spec = tie.close (tie.spec Inv-loop μ-loop (λ c. search (goings, needs)) (λ c. search (goings, needs)) (λ c. search (goings, needs))
+    (λ c. search (goings, needs)) (λ c. search (goings, needs)) (λ c κs. search (goings, needs)) (λ c. search (goings, needs))
+    (λ c. search (goings, needs)) (λ c. search (goings, needs)) (λ c. search (goings, needs)) (λ c. search (goings, needs)))

@@ -6,15 +6,7 @@ use Rattle.sameness.proofs.same_in.Statement.{statement}
 use Rattle.sameness.proofs.same_in.Tie as tie
 
 pub same-in-spec : {M : Type 1} → statement M
-same-in-spec =
-    tie.close
-    (tie.spec
-    (λ c κs. search (outcomes, tabled, needs))
-    (λ c. search (outcomes, tabled, needs))
-    (λ c. search (outcomes, tabled, needs))
-    (λ c κs. search (outcomes, tabled, needs))
-    (λ c. search (outcomes, tabled, needs))
-    (λ c. search (outcomes, tabled, needs))
-    (λ c. search (outcomes, tabled, needs))
-    (λ c. search (outcomes, tabled, needs))
+same-in-spec = tie.close (tie.spec (λ c κs. search (outcomes, tabled, needs)) (λ c. search (outcomes, tabled, needs))
+    (λ c. search (outcomes, tabled, needs)) (λ c κs. search (outcomes, tabled, needs)) (λ c. search (outcomes, tabled, needs))
+    (λ c. search (outcomes, tabled, needs)) (λ c. search (outcomes, tabled, needs)) (λ c. search (outcomes, tabled, needs))
     (λ c. search (outcomes, tabled, needs)))

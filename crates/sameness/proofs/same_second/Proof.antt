@@ -5,18 +5,7 @@ use Rattle.sameness.proofs.same_second.Statement.{statement}
 use Rattle.sameness.proofs.same_second.Tie as tie
 
 pub same-second-spec : {M : Type 1} → statement M
-same-second-spec =
-    tie.close
-    (tie.spec
-    (λ c κs. search (outcomes, needs))
-    (λ c. search (outcomes, needs))
-    (λ c. search (outcomes, needs))
-    (λ c. search (outcomes, needs))
-    (λ c. search (outcomes, needs))
-    (λ c κs. (search needs, search (tabled-too, needs)))
-    (λ c. search (outcomes, needs))
-    (λ c. search (outcomes, needs))
-    (λ c. search (outcomes, needs))
-    (λ c. search (outcomes, needs))
-    (λ c. search (outcomes, needs))
-    (λ c. search (outcomes, needs)))
+same-second-spec = tie.close (tie.spec (λ c κs. search (outcomes, needs)) (λ c. search (outcomes, needs)) (λ c. search (outcomes, needs))
+    (λ c. search (outcomes, needs)) (λ c. search (outcomes, needs)) (λ c κs. (search needs, search (tabled-too, needs)))
+    (λ c. search (outcomes, needs)) (λ c. search (outcomes, needs)) (λ c. search (outcomes, needs)) (λ c. search (outcomes, needs))
+    (λ c. search (outcomes, needs)) (λ c. search (outcomes, needs)))

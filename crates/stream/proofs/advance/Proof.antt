@@ -25,25 +25,8 @@ loop-again c =
     (settled .settle .ensures .0) (settled .settle .ensures .1)
 
 pub advance-spec : {M : Type 1} → statement M
-advance-spec =
-    tie.close
-    (tie.spec
-    Inv-loop
-    μ-loop
-    (λ c. search (turns, needs))
-    (λ c. search (shown, needs))
-    (λ c. search (turns, needs))
-    (λ c κs. search (shown, needs))
-    (λ c κs. search (shown, needs))
-    (λ c. search (shown, needs))
-    (λ c. search (shown, needs))
-    (λ c κs. search (shown, needs))
-    (λ c. search (shown, needs))
-    (λ c. search (turns, needs))
-    (λ c κs. search (shown, needs))
-    (λ c. search (shown, needs))
-    (λ c. search (shown, needs))
-    loop-again
-    (λ c. search (shown, needs))
-    (λ c. search (shown, needs))
+advance-spec = tie.close (tie.spec Inv-loop μ-loop (λ c. search (turns, needs)) (λ c. search (shown, needs)) (λ c. search (turns, needs))
+    (λ c κs. search (shown, needs)) (λ c κs. search (shown, needs)) (λ c. search (shown, needs)) (λ c. search (shown, needs))
+    (λ c κs. search (shown, needs)) (λ c. search (shown, needs)) (λ c. search (turns, needs)) (λ c κs. search (shown, needs))
+    (λ c. search (shown, needs)) (λ c. search (shown, needs)) loop-again (λ c. search (shown, needs)) (λ c. search (shown, needs))
     (λ c. search (turns, needs)))

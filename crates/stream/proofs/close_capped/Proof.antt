@@ -5,13 +5,6 @@ use Rattle.stream.proofs.close_capped.Statement.{statement}
 use Rattle.stream.proofs.close_capped.Tie as tie
 
 pub close-capped-spec : {M : Type 1} → statement M
-close-capped-spec =
-    tie.close
-    (tie.spec
-    (λ c κs. search needs)
-    (λ c. search (closing-ways, enough-words, enough-room, caps, needs))
-    (λ c κs. search (closing-ways, enough-words, enough-room, caps, needs))
-    (λ c κs. search (closing-ways, enough-words, enough-room, caps, needs))
-    (λ c. search needs)
-    (λ c. search needs)
-    (λ c. search (closing-ways, enough-words, enough-room, caps, needs)))
+close-capped-spec = tie.close (tie.spec (λ c κs. search needs) (λ c. search (closing-ways, enough-words, enough-room, caps, needs))
+    (λ c κs. search (closing-ways, enough-words, enough-room, caps, needs)) (λ c κs. search (closing-ways, enough-words, enough-room, caps, needs))
+    (λ c. search needs) (λ c. search needs) (λ c. search (closing-ways, enough-words, enough-room, caps, needs)))

@@ -5,15 +5,5 @@ use Rattle.stream.proofs.enter.Statement.{statement}
 use Rattle.stream.proofs.enter.Tie as tie
 
 pub enter-spec : {M : Type 1} → statement M
-enter-spec =
-    tie.close
-    (tie.spec
-    (λ c κs. search needs)
-    (λ c. search needs)
-    (λ c. search needs)
-    (λ c. search needs)
-    (λ c κs. search (level-free, needs))
-    (λ c. search needs)
-    (λ c. search (leaves, needs))
-    (λ c. search needs)
-    (λ c. search (leaves, needs)))
+enter-spec = tie.close (tie.spec (λ c κs. search needs) (λ c. search needs) (λ c. search needs) (λ c. search needs)
+    (λ c κs. search (level-free, needs)) (λ c. search needs) (λ c. search (leaves, needs)) (λ c. search needs) (λ c. search (leaves, needs)))

@@ -5,17 +5,5 @@ use Rattle.stream.proofs.leave.Statement.{statement}
 use Rattle.stream.proofs.leave.Tie as tie
 
 pub leave-spec : {M : Type 1} → statement M
-leave-spec =
-    tie.close
-    (tie.spec
-    (λ c. search (leaves, needs))
-    (λ c κs. search needs)
-    (λ c. search needs)
-    (λ c. search needs)
-    (λ c. search needs)
-    (λ c κs. search needs)
-    (λ c. search needs)
-    (λ c κs. search needs)
-    (λ c. search (leaves, needs))
-    (λ c. search needs)
-    (λ c. search (leaves, needs)))
+leave-spec = tie.close (tie.spec (λ c. search (leaves, needs)) (λ c κs. search needs) (λ c. search needs) (λ c. search needs) (λ c. search needs)
+    (λ c κs. search needs) (λ c. search needs) (λ c κs. search needs) (λ c. search (leaves, needs)) (λ c. search needs) (λ c. search (leaves, needs)))

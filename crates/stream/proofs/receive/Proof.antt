@@ -5,17 +5,5 @@ use Rattle.stream.proofs.receive.Statement.{statement}
 use Rattle.stream.proofs.receive.Tie as tie
 
 pub receive-spec : {M : Type 1} → statement M
-receive-spec =
-    tie.close
-    (tie.spec
-    (λ c. search needs)
-    (λ c. search (received, needs))
-    (λ c κs. search needs)
-    (λ c. search needs)
-    (λ c. search needs)
-    (λ c. search needs)
-    (λ c. search needs)
-    (λ c κs. search needs)
-    (λ c. search needs)
-    (λ c. search needs)
-    (λ c. search needs))
+receive-spec = tie.close (tie.spec (λ c. search needs) (λ c. search (received, needs)) (λ c κs. search needs) (λ c. search needs) (λ c. search needs)
+    (λ c. search needs) (λ c. search needs) (λ c κs. search needs) (λ c. search needs) (λ c. search needs) (λ c. search needs))

@@ -5,14 +5,5 @@ use Rattle.stream.proofs.string_until.Statement.{statement}
 use Rattle.stream.proofs.string_until.Tie as tie
 
 pub string-until-spec : {M : Type 1} → statement M
-string-until-spec =
-    tie.close
-    (tie.spec
-    (λ c κs. search needs)
-    (λ c. search needs)
-    (λ c κs. search needs)
-    (λ c. search (until-fits, needs))
-    (λ c. search needs)
-    (λ c. search needs)
-    (λ c. search (leaves, needs))
-    (λ c. search (leaves, needs)))
+string-until-spec = tie.close (tie.spec (λ c κs. search needs) (λ c. search needs) (λ c κs. search needs) (λ c. search (until-fits, needs))
+    (λ c. search needs) (λ c. search needs) (λ c. search (leaves, needs)) (λ c. search (leaves, needs)))

@@ -7,18 +7,6 @@ use Rattle.stream.proofs.walk.Statement.{statement}
 use Rattle.stream.proofs.walk.Tie as tie
 
 pub walk-spec : {M : Type 1} → statement M
-walk-spec =
-    tie.close
-    (tie.spec
-    (λ c κs. search needs)
-    (λ c. search needs)
-    (λ c κs. search needs)
-    (λ c. search needs)
-    (λ c. search needs)
-    (λ c. simp length-set (omega arith))
-    (λ c. simp length-set (omega arith))
-    (λ c. simp length-set (omega arith))
-    (λ c. search needs)
-    (λ c. search (outcomes, needs))
-    (λ c. search needs)
-    (λ c. search (outcomes, needs)))
+walk-spec = tie.close (tie.spec (λ c κs. search needs) (λ c. search needs) (λ c κs. search needs) (λ c. search needs) (λ c. search needs)
+    (λ c. simp length-set (omega arith)) (λ c. simp length-set (omega arith)) (λ c. simp length-set (omega arith)) (λ c. search needs)
+    (λ c. search (outcomes, needs)) (λ c. search needs) (λ c. search (outcomes, needs)))

@@ -12,23 +12,7 @@ abbrev μ-loop : tie.MeasureT-loop
 μ-loop s count entries number passed₀ inner₀ k₀ passed inner k = count - k
 
 pub find-spec : {M : Type 1} → statement M
-find-spec =
-    tie.close
-    (tie.spec
-    Inv-loop
-    μ-loop
-    (λ c. search (seekings, needs))
-    (λ c. search (seekings, needs))
-    (λ c. search (seekings, needs))
-    (λ c κs. search (seekings, needs))
-    (λ c κs. search (seekings, needs))
-    (λ c. search (seekings, needs))
-    (λ c. search (seekings, needs))
-    (λ c. search (seekings, needs))
-    (λ c. search (seekings, needs))
-    (λ c. search (seekings, needs))
-    (λ c κs. search (seekings, needs))
-    (λ c. search (seekings, needs))
-    (λ c. search (seekings, needs))
-    (λ c. search (seekings, needs))
-    (λ c. search (seekings, needs)))
+find-spec = tie.close (tie.spec Inv-loop μ-loop (λ c. search (seekings, needs)) (λ c. search (seekings, needs)) (λ c. search (seekings, needs))
+    (λ c κs. search (seekings, needs)) (λ c κs. search (seekings, needs)) (λ c. search (seekings, needs)) (λ c. search (seekings, needs))
+    (λ c. search (seekings, needs)) (λ c. search (seekings, needs)) (λ c. search (seekings, needs)) (λ c κs. search (seekings, needs))
+    (λ c. search (seekings, needs)) (λ c. search (seekings, needs)) (λ c. search (seekings, needs)) (λ c. search (seekings, needs)))

@@ -26,17 +26,5 @@ loop-again c =
     (search needs, behind-next (start .pre .0) (loop .loop .inv .1) (turn .loop-test .taken) (c .before .before .item-of .ensures) (c .if1 .left))
 
 pub item-behind-spec : {M : Type 1} → statement M
-item-behind-spec =
-    tie.close
-    (tie.spec
-    Inv-loop
-    μ-loop
-    (λ c. search (behinds, needs))
-    (λ c. search (behinds, needs))
-    (λ c. search (behinds, needs))
-    (λ c κs. search (behinds, needs))
-    returns
-    (λ c. search (behinds, needs))
-    (λ c. search (behinds, needs))
-    loop-again
-    (λ c. search (behinds, needs)))
+item-behind-spec = tie.close (tie.spec Inv-loop μ-loop (λ c. search (behinds, needs)) (λ c. search (behinds, needs)) (λ c. search (behinds, needs))
+    (λ c κs. search (behinds, needs)) returns (λ c. search (behinds, needs)) (λ c. search (behinds, needs)) loop-again (λ c. search (behinds, needs)))

@@ -5,25 +5,8 @@ use Rattle.strike.proofs.strike_found.Statement.{statement}
 use Rattle.strike.proofs.strike_found.Tie as tie
 
 pub strike-found-spec : {M : Type 1} → statement M
-strike-found-spec =
-    tie.close
-    (tie.spec
-    (λ c κs. search (strikings, needs))
-    (λ c. search (strikings, needs))
-    (λ c. search (strikings, needs))
-    (λ c. search (strikings, needs))
-    (λ c. search (strikings, needs))
-    (λ c κs. search (strikings, needs))
-    (λ c. search (strikings, needs))
-    (λ c. search (strikings, needs))
-    (λ c. search (strikings, needs))
-    (λ c. search (strikings, needs))
-    (λ c. search (strikings, needs))
-    (λ c. search (strikings, needs))
-    (λ c κs. search (strikings, needs))
-    (λ c. search (strikings, needs))
-    (λ c κs. search (strikings, needs))
-    (λ c. search (strikings, needs))
-    (λ c. search (strikings, needs))
-    (λ c. search (strikings, needs))
-    (λ c. search (strikings, needs)))
+strike-found-spec = tie.close (tie.spec (λ c κs. search (strikings, needs)) (λ c. search (strikings, needs)) (λ c. search (strikings, needs))
+    (λ c. search (strikings, needs)) (λ c. search (strikings, needs)) (λ c κs. search (strikings, needs)) (λ c. search (strikings, needs))
+    (λ c. search (strikings, needs)) (λ c. search (strikings, needs)) (λ c. search (strikings, needs)) (λ c. search (strikings, needs))
+    (λ c. search (strikings, needs)) (λ c κs. search (strikings, needs)) (λ c. search (strikings, needs)) (λ c κs. search (strikings, needs))
+    (λ c. search (strikings, needs)) (λ c. search (strikings, needs)) (λ c. search (strikings, needs)) (λ c. search (strikings, needs)))

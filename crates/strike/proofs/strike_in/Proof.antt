@@ -6,15 +6,7 @@ use Rattle.strike.proofs.strike_in.Statement.{statement}
 use Rattle.strike.proofs.strike_in.Tie as tie
 
 pub strike-in-spec : {M : Type 1} → statement M
-strike-in-spec =
-    tie.close
-    (tie.spec
-    (λ c κs. search (outcomes, tabled, needs))
-    (λ c. search (outcomes, tabled, needs))
-    (λ c. search (outcomes, tabled, needs))
-    (λ c κs. search (outcomes, tabled, needs))
-    (λ c. search (outcomes, tabled, needs))
-    (λ c. search (outcomes, tabled, needs))
-    (λ c. search (outcomes, tabled, needs))
-    (λ c. search (outcomes, tabled, needs))
+strike-in-spec = tie.close (tie.spec (λ c κs. search (outcomes, tabled, needs)) (λ c. search (outcomes, tabled, needs))
+    (λ c. search (outcomes, tabled, needs)) (λ c κs. search (outcomes, tabled, needs)) (λ c. search (outcomes, tabled, needs))
+    (λ c. search (outcomes, tabled, needs)) (λ c. search (outcomes, tabled, needs)) (λ c. search (outcomes, tabled, needs))
     (λ c. search (outcomes, tabled, needs)))

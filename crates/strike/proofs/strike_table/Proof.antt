@@ -5,13 +5,5 @@ use Rattle.strike.proofs.strike_table.Statement.{statement}
 use Rattle.strike.proofs.strike_table.Tie as tie
 
 pub strike-table-spec : {M : Type 1} → statement M
-strike-table-spec =
-    tie.close
-    (tie.spec
-    (λ c κs. search (tables, needs))
-    (λ c. search (tables, needs))
-    (λ c. search (tables, needs))
-    (λ c κs. search (tables, needs))
-    (λ c. search (tables, needs))
-    (λ c. search (tables, needs))
-    (λ c. search (tables, needs)))
+strike-table-spec = tie.close (tie.spec (λ c κs. search (tables, needs)) (λ c. search (tables, needs)) (λ c. search (tables, needs))
+    (λ c κs. search (tables, needs)) (λ c. search (tables, needs)) (λ c. search (tables, needs)) (λ c. search (tables, needs)))

@@ -4,9 +4,4 @@ use Rattle.surfbodkin.proofs.surfbodkin_check_names.Statement.{statemen
 use Rattle.surfbodkin.proofs.surfbodkin_check_names.Tie as tie
 
 pub surfbodkin-check-names-spec : {M : Type 1} → statement M
-surfbodkin-check-names-spec =
-    tie.close
-    (tie.spec
-    (λ c κs. search needs)
-    (λ c κs. search needs)
-    (λ c. cc))
+surfbodkin-check-names-spec = tie.close (tie.spec (λ c κs. search needs) (λ c κs. search needs) (λ c. cc))

@@ -4,9 +4,4 @@ use Rattle.surfbodkin.proofs.surfbodkin_check_table.Statement.{statemen
 use Rattle.surfbodkin.proofs.surfbodkin_check_table.Tie as tie
 
 pub surfbodkin-check-table-spec : {M : Type 1} → statement M
-surfbodkin-check-table-spec =
-    tie.close
-    (tie.spec
-    (λ c κs. search needs)
-    (λ c κs. search needs)
-    (λ c. cc))
+surfbodkin-check-table-spec = tie.close (tie.spec (λ c κs. search needs) (λ c κs. search needs) (λ c. cc))

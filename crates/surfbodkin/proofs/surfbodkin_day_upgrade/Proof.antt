@@ -4,10 +4,4 @@ use Rattle.surfbodkin.proofs.surfbodkin_day_upgrade.Statement.{statemen
 use Rattle.surfbodkin.proofs.surfbodkin_day_upgrade.Tie as tie
 
 pub surfbodkin-day-upgrade-spec : {M : Type 1} → statement M
-surfbodkin-day-upgrade-spec =
-    tie.close
-    (tie.spec
-    (λ c κs. search needs)
-    (λ c κs. search needs)
-    (λ c. search needs)
-    (λ c. (cc, cc)))
+surfbodkin-day-upgrade-spec = tie.close (tie.spec (λ c κs. search needs) (λ c κs. search needs) (λ c. search needs) (λ c. (cc, cc)))

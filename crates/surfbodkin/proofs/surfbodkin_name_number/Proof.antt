@@ -4,10 +4,4 @@ use Rattle.surfbodkin.proofs.surfbodkin_name_number.Statement.{statemen
 use Rattle.surfbodkin.proofs.surfbodkin_name_number.Tie as tie
 
 pub surfbodkin-name-number-spec : {M : Type 1} → statement M
-surfbodkin-name-number-spec =
-    tie.close
-    (tie.spec
-    (λ c κs. search needs)
-    (λ c κs. search needs)
-    (λ c κs. search needs)
-    (λ c. (cc, cc)))
+surfbodkin-name-number-spec = tie.close (tie.spec (λ c κs. search needs) (λ c κs. search needs) (λ c κs. search needs) (λ c. (cc, cc)))

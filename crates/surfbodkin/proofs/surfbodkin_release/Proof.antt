@@ -20,10 +20,4 @@ returns c =
     )
 
 pub surfbodkin-release-spec : {M : Type 1} → statement M
-surfbodkin-release-spec =
-    tie.close
-    (tie.spec
-    (λ c κs. search needs)
-    (λ c κs. search needs)
-    (λ c κs. search needs)
-    returns)
+surfbodkin-release-spec = tie.close (tie.spec (λ c κs. search needs) (λ c κs. search needs) (λ c κs. search needs) returns)

@@ -4,9 +4,4 @@ use Rattle.surfbodkin.proofs.surfbodkin_same.Statement.{statement}
 use Rattle.surfbodkin.proofs.surfbodkin_same.Tie as tie
 
 pub surfbodkin-same-spec : {M : Type 1} → statement M
-surfbodkin-same-spec =
-    tie.close
-    (tie.spec
-    (λ c κs. search needs)
-    (λ c κs. search needs)
-    (λ c. cc))
+surfbodkin-same-spec = tie.close (tie.spec (λ c κs. search needs) (λ c κs. search needs) (λ c. cc))

@@ -4,10 +4,4 @@ use Rattle.surfbodkin.proofs.surfbodkin_strike.Statement.{statement}
 use Rattle.surfbodkin.proofs.surfbodkin_strike.Tie as tie
 
 pub surfbodkin-strike-spec : {M : Type 1} → statement M
-surfbodkin-strike-spec =
-    tie.close
-    (tie.spec
-    (λ c κs. search needs)
-    (λ c κs. search needs)
-    (λ c. search needs)
-    (λ c. (cc, cc)))
+surfbodkin-strike-spec = tie.close (tie.spec (λ c κs. search needs) (λ c κs. search needs) (λ c. search needs) (λ c. (cc, cc)))

@@ -4,10 +4,4 @@ use Rattle.surfbodkin.proofs.surfbodkin_why.Statement.{statement}
 use Rattle.surfbodkin.proofs.surfbodkin_why.Tie as tie
 
 pub surfbodkin-why-spec : {M : Type 1} → statement M
-surfbodkin-why-spec =
-    tie.close
-    (tie.spec
-    (λ c κs. search needs)
-    (λ c κs. search needs)
-    (λ c. search needs)
-    (λ c. (cc, cc)))
+surfbodkin-why-spec = tie.close (tie.spec (λ c κs. search needs) (λ c κs. search needs) (λ c. search needs) (λ c. (cc, cc)))

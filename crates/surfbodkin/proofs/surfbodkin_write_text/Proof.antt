@@ -4,10 +4,4 @@ use Rattle.surfbodkin.proofs.surfbodkin_write_text.Statement.{statement
 use Rattle.surfbodkin.proofs.surfbodkin_write_text.Tie as tie
 
 pub surfbodkin-write-text-spec : {M : Type 1} → statement M
-surfbodkin-write-text-spec =
-    tie.close
-    (tie.spec
-    (λ c κs. search needs)
-    (λ c κs. search needs)
-    (λ c. search needs)
-    (λ c. (cc, cc)))
+surfbodkin-write-text-spec = tie.close (tie.spec (λ c κs. search needs) (λ c κs. search needs) (λ c. search needs) (λ c. (cc, cc)))

@@ -5,11 +5,5 @@ use Rattle.text_read.proofs.begin.Statement.{statement}
 use Rattle.text_read.proofs.begin.Tie as tie
 
 pub begin-spec : {M : Type 1} → statement M
-begin-spec =
-    tie.close
-    (tie.spec
-    (λ c. search (walking, needs))
-    (λ c. search needs)
-    (λ c. search (walking, needs))
-    (λ c κs. search needs)
+begin-spec = tie.close (tie.spec (λ c. search (walking, needs)) (λ c. search needs) (λ c. search (walking, needs)) (λ c κs. search needs)
     (λ c. search (walking, needs)))

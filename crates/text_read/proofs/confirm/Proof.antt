@@ -6,19 +6,7 @@ use Rattle.text_read.proofs.confirm.Statement.{statement}
 use Rattle.text_read.proofs.confirm.Tie as tie
 
 pub confirm-spec : {M : Type 1} → statement M
-confirm-spec =
-    tie.close
-    (tie.spec
-    (λ c κs. search needs)
-    (λ c. search needs)
-    (λ c. search needs)
-    (λ c. search needs)
-    (λ c. (search (none-confirmed, needs), search (none-kept, needs)))
-    (λ c. search needs)
-    (λ c. search needs)
-    (λ c. search (in-scratch, needs))
-    (λ c κs. search needs)
-    (λ c κs. search needs)
-    (λ c. search needs)
-    (λ c. search needs)
+confirm-spec = tie.close (tie.spec (λ c κs. search needs) (λ c. search needs) (λ c. search needs) (λ c. search needs)
+    (λ c. (search (none-confirmed, needs), search (none-kept, needs))) (λ c. search needs) (λ c. search needs) (λ c. search (in-scratch, needs))
+    (λ c κs. search needs) (λ c κs. search needs) (λ c. search needs) (λ c. search needs)
     (λ c. (search (text-confirmed, needs), search (confirmed-filled, needs))))

@@ -5,10 +5,5 @@ use Rattle.text_read.proofs.hand_over_if.Statement.{statement}
 use Rattle.text_read.proofs.hand_over_if.Tie as tie
 
 pub hand-over-if-spec : {M : Type 1} → statement M
-hand-over-if-spec =
-    tie.close
-    (tie.spec
-    (λ c κs. search needs)
-    (λ c. search needs)
-    (λ c. (search (text-given, needs), search (text-filled, needs)))
+hand-over-if-spec = tie.close (tie.spec (λ c κs. search needs) (λ c. search needs) (λ c. (search (text-given, needs), search (text-filled, needs)))
     (λ c. search needs))

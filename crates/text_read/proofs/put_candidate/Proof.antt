@@ -5,10 +5,4 @@ use Rattle.text_read.proofs.put_candidate.Statement.{statement}
 use Rattle.text_read.proofs.put_candidate.Tie as tie
 
 pub put-candidate-spec : {M : Type 1} → statement M
-put-candidate-spec =
-    tie.close
-    (tie.spec
-    (λ c κs. search needs)
-    (λ c κs. search needs)
-    (λ c. search needs)
-    (λ c. search (settling, needs)))
+put-candidate-spec = tie.close (tie.spec (λ c κs. search needs) (λ c κs. search needs) (λ c. search needs) (λ c. search (settling, needs)))

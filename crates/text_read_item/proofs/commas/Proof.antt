@@ -13,21 +13,7 @@ abbrev μ-loop : tie.MeasureT-loop
 μ-loop t at e₀ n₀ i₀ e n i = length t - i
 
 pub commas-spec : {M : Type 1} → statement M
-commas-spec =
-    tie.close
-    (tie.spec
-    Inv-loop
-    μ-loop
-    (λ c. search (counting, needs))
-    (λ c. search (counting, needs))
-    (λ c. search (counting, needs))
-    (λ c κs. search (counting, needs))
-    (λ c. search (counting, needs))
-    (λ c. search (counting, needs))
-    (λ c κs. search (counting, needs))
-    (λ c. search (counting, needs))
-    (λ c κs. search (counting, needs))
-    (λ c. search (counting, needs))
-    (λ c. search (counting, needs))
-    (λ c. search (counting, needs))
-    (λ c. search (counting, needs)))
+commas-spec = tie.close (tie.spec Inv-loop μ-loop (λ c. search (counting, needs)) (λ c. search (counting, needs)) (λ c. search (counting, needs))
+    (λ c κs. search (counting, needs)) (λ c. search (counting, needs)) (λ c. search (counting, needs)) (λ c κs. search (counting, needs))
+    (λ c. search (counting, needs)) (λ c κs. search (counting, needs)) (λ c. search (counting, needs)) (λ c. search (counting, needs))
+    (λ c. search (counting, needs)) (λ c. search (counting, needs)))

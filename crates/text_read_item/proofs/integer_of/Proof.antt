@@ -4,19 +4,6 @@ use Rattle.text_read_item.proofs.integer_of.Statement.{statement}
 use Rattle.text_read_item.proofs.integer_of.Tie as tie
 
 pub integer-of-spec : {M : Type 1} → statement M
-integer-of-spec =
-    tie.close
-    (tie.spec
-    (λ c. search needs)
-    (λ c. search needs)
-    (λ c. search needs)
-    (λ c κs. search needs)
-    (λ c κs. search needs)
-    (λ c κs. search needs)
-    (λ c. search (found, needs))
-    (λ c. search needs)
-    (λ c κs. search needs)
-    (λ c. search (found, needs))
-    (λ c κs. search needs)
-    (λ c κs. search needs)
-    (λ c. search (found, needs)))
+integer-of-spec = tie.close (tie.spec (λ c. search needs) (λ c. search needs) (λ c. search needs) (λ c κs. search needs) (λ c κs. search needs)
+    (λ c κs. search needs) (λ c. search (found, needs)) (λ c. search needs) (λ c κs. search needs) (λ c. search (found, needs)) (λ c κs. search needs)
+    (λ c κs. search needs) (λ c. search (found, needs)))

@@ -13,18 +13,6 @@ abbrev μ-loop : tie.MeasureT-loop
 μ-loop u n₀ i₀ n i = length u - i
 
 pub key-of-spec : {M : Type 1} → statement M
-key-of-spec =
-    tie.close
-    (tie.spec
-    Inv-loop
-    μ-loop
-    (λ c. search (counting, needs))
-    (λ c. search (counting, needs))
-    (λ c. search (counting, needs))
-    (λ c κs. search (counting, needs))
-    (λ c. search (counting, needs))
-    (λ c. search (counting, needs))
-    (λ c. search (counting, needs))
-    (λ c. search (counting, needs))
-    (λ c. search (counting, needs))
-    (λ c. search (counting, needs)))
+key-of-spec = tie.close (tie.spec Inv-loop μ-loop (λ c. search (counting, needs)) (λ c. search (counting, needs)) (λ c. search (counting, needs))
+    (λ c κs. search (counting, needs)) (λ c. search (counting, needs)) (λ c. search (counting, needs)) (λ c. search (counting, needs))
+    (λ c. search (counting, needs)) (λ c. search (counting, needs)) (λ c. search (counting, needs)))

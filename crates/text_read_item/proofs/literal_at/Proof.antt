@@ -4,9 +4,4 @@ use Rattle.text_read_item.proofs.literal_at.Statement.{statement}
 use Rattle.text_read_item.proofs.literal_at.Tie as tie
 
 pub literal-at-spec : {M : Type 1} → statement M
-literal-at-spec =
-    tie.close
-    (tie.spec
-    (λ c κs. search needs)
-    (λ c κs. search needs)
-    (λ c. search (placed, needs)))
+literal-at-spec = tie.close (tie.spec (λ c κs. search needs) (λ c κs. search needs) (λ c. search (placed, needs)))

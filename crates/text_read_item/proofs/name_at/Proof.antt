@@ -4,9 +4,4 @@ use Rattle.text_read_item.proofs.name_at.Statement.{statement}
 use Rattle.text_read_item.proofs.name_at.Tie as tie
 
 pub name-at-spec : {M : Type 1} → statement M
-name-at-spec =
-    tie.close
-    (tie.spec
-    (λ c κs. search needs)
-    (λ c κs. search needs)
-    (λ c. search (placed, needs)))
+name-at-spec = tie.close (tie.spec (λ c κs. search needs) (λ c κs. search needs) (λ c. search (placed, needs)))

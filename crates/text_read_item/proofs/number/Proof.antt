@@ -5,14 +5,5 @@ use Rattle.text_read_item.proofs.number.Statement.{statement}
 use Rattle.text_read_item.proofs.number.Tie as tie
 
 pub number-spec : {M : Type 1} → statement M
-number-spec =
-    tie.close
-    (tie.spec
-    (λ c. search (leaves, needs))
-    (λ c. search needs)
-    (λ c. search needs)
-    (λ c κs. search needs)
-    (λ c. search needs)
-    (λ c. search needs)
-    (λ c. search (leaves, needs))
-    (λ c. search (leaves, needs)))
+number-spec = tie.close (tie.spec (λ c. search (leaves, needs)) (λ c. search needs) (λ c. search needs) (λ c κs. search needs) (λ c. search needs)
+    (λ c. search needs) (λ c. search (leaves, needs)) (λ c. search (leaves, needs)))

@@ -4,13 +4,5 @@ use Rattle.text_read_item.proofs.params_at.Statement.{statement}
 use Rattle.text_read_item.proofs.params_at.Tie as tie
 
 pub params-at-spec : {M : Type 1} → statement M
-params-at-spec =
-    tie.close
-    (tie.spec
-    (λ c κs. search needs)
-    (λ c κs. search needs)
-    (λ c κs. search needs)
-    (λ c κs. search needs)
-    (λ c. search (placed, needs))
-    (λ c κs. search needs)
-    (λ c. search (placed, needs)))
+params-at-spec = tie.close (tie.spec (λ c κs. search needs) (λ c κs. search needs) (λ c κs. search needs) (λ c κs. search needs)
+    (λ c. search (placed, needs)) (λ c κs. search needs) (λ c. search (placed, needs)))

@@ -15,18 +15,6 @@ abbrev μ-loop : tie.MeasureT-loop
 μ-loop u out₀ at r₀ i₀ out r i = length u - i
 
 pub put-unescaped-spec : {M : Type 1} → statement M
-put-unescaped-spec =
-    tie.close
-    (tie.spec
-    Inv-loop
-    μ-loop
-    (λ c. search (strings, needs))
-    (λ c κs. search (strings, needs))
-    (λ c. search (strings, needs))
-    (λ c. search (strings, needs))
-    (λ c κs. search (strings, needs))
-    (λ c. search (strings, needs))
-    (λ c. search (strings, needs))
-    (λ c. search (strings, needs))
-    (λ c. search (strings, needs))
-    (λ c. search (strings, needs)))
+put-unescaped-spec = tie.close (tie.spec Inv-loop μ-loop (λ c. search (strings, needs)) (λ c κs. search (strings, needs))
+    (λ c. search (strings, needs)) (λ c. search (strings, needs)) (λ c κs. search (strings, needs)) (λ c. search (strings, needs))
+    (λ c. search (strings, needs)) (λ c. search (strings, needs)) (λ c. search (strings, needs)) (λ c. search (strings, needs)))

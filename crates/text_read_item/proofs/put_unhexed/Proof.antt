@@ -15,17 +15,7 @@ abbrev μ-loop : tie.MeasureT-loop
 μ-loop u out₀ at r₀ i₀ out r i = length u - i
 
 pub put-unhexed-spec : {M : Type 1} → statement M
-put-unhexed-spec =
-    tie.close
-    (tie.spec
-    Inv-loop
-    μ-loop
-    (λ c. search (strings, needs))
-    (λ c. search (strings, needs))
-    (λ c κs. search (strings, needs))
-    (λ c κs. search (strings, needs))
-    (λ c. search (strings, needs))
-    (λ c. search (strings, needs))
+put-unhexed-spec = tie.close (tie.spec Inv-loop μ-loop (λ c. search (strings, needs)) (λ c. search (strings, needs)) (λ c κs. search (strings, needs))
+    (λ c κs. search (strings, needs)) (λ c. search (strings, needs)) (λ c. search (strings, needs))
     (λ c. (unhexed-on (c .before .before .before .before .before .before .before .before .before .args .u .now) (c .before .before .before .before .before .before .loop .i) (c .before .before .before .before .before .before .loop .inv .0) (search needs) (c .before .before .before .hex-at .ensures) (c .before .before .put .ensures), search needs, search needs))
-    (λ c. search (strings, needs))
-    (λ c. search (strings, needs)))
+    (λ c. search (strings, needs)) (λ c. search (strings, needs)))

@@ -29,22 +29,6 @@ unfolding afterBy
 returns-9 c = search (after-one, needs)
 
 pub size-after-spec : {M : Type 1} → statement M
-size-after-spec =
-    tie.close
-    (tie.spec
-    (λ c κs. search needs)
-    (λ c. search needs)
-    (λ c κs. search needs)
-    (λ c. search needs)
-    (λ c κs. search needs)
-    (λ c. search needs)
-    (λ c. search (reading, needs))
-    returns-2
-    (λ c. search (reading, needs))
-    (λ c. search (reading, needs))
-    returns-5
-    returns-6
-    returns-7
-    returns-8
-    returns-9
-    (λ c. search (reading, needs)))
+size-after-spec = tie.close (tie.spec (λ c κs. search needs) (λ c. search needs) (λ c κs. search needs) (λ c. search needs) (λ c κs. search needs)
+    (λ c. search needs) (λ c. search (reading, needs)) returns-2 (λ c. search (reading, needs)) (λ c. search (reading, needs)) returns-5 returns-6
+    returns-7 returns-8 returns-9 (λ c. search (reading, needs)))

@@ -4,12 +4,5 @@ use Rattle.text_read_item.proofs.space_at.Statement.{statement}
 use Rattle.text_read_item.proofs.space_at.Tie as tie
 
 pub space-at-spec : {M : Type 1} → statement M
-space-at-spec =
-    tie.close
-    (tie.spec
-    (λ c κs. search needs)
-    (λ c κs. search needs)
-    (λ c κs. search needs)
-    (λ c. search (placed, needs))
-    (λ c κs. search needs)
-    (λ c. search (placed, needs)))
+space-at-spec = tie.close (tie.spec (λ c κs. search needs) (λ c κs. search needs) (λ c κs. search needs) (λ c. search (placed, needs))
+    (λ c κs. search needs) (λ c. search (placed, needs)))

@@ -4,18 +4,6 @@ use Rattle.text_read_item.proofs.text_of.Statement.{statement}
 use Rattle.text_read_item.proofs.text_of.Tie as tie
 
 pub text-of-spec : {M : Type 1} → statement M
-text-of-spec =
-    tie.close
-    (tie.spec
-    (λ c. search needs)
-    (λ c κs. search needs)
-    (λ c. search (found, needs))
-    (λ c. search needs)
-    (λ c. search needs)
-    (λ c. search needs)
-    (λ c. search needs)
-    (λ c. search needs)
-    (λ c κs. search needs)
-    (λ c. search needs)
-    (λ c. search needs)
+text-of-spec = tie.close (tie.spec (λ c. search needs) (λ c κs. search needs) (λ c. search (found, needs)) (λ c. search needs) (λ c. search needs)
+    (λ c. search needs) (λ c. search needs) (λ c. search needs) (λ c κs. search needs) (λ c. search needs) (λ c. search needs)
     (λ c. search (found, needs)))

@@ -7,26 +7,9 @@ use Rattle.text_read_item.proofs.type_by_key.Tie as tie
 
 pub type-by-key-spec : {M : Type 1} → statement M
 unfolding names keyOf horner
-type-by-key-spec =
-    tie.close
-    (tie.spec
-    (λ c. search (key-by, needs))
-    (λ c. search (key-by, needs))
-    (λ c. search (key-by, needs))
-    (λ c. search (key-by, needs))
-    (λ c. search (key-by, needs))
-    (λ c. search (key-by, needs))
-    (λ c. search (key-by, needs))
-    (λ c. search (key-by, needs))
-    (λ c. search (key-by, needs))
-    (λ c. search (key-by, needs))
-    (λ c. search (key-by, needs))
-    (λ c. search (key-by, needs))
-    (λ c. search (key-by, needs))
-    (λ c. search (key-by, needs))
-    (λ c. search (key-by, needs))
-    (λ c. search (key-by, needs))
-    (λ c. search (key-by, needs))
-    (λ c. search (key-by, needs))
-    (λ c. search (key-by, needs))
+type-by-key-spec = tie.close (tie.spec (λ c. search (key-by, needs)) (λ c. search (key-by, needs)) (λ c. search (key-by, needs))
+    (λ c. search (key-by, needs)) (λ c. search (key-by, needs)) (λ c. search (key-by, needs)) (λ c. search (key-by, needs))
+    (λ c. search (key-by, needs)) (λ c. search (key-by, needs)) (λ c. search (key-by, needs)) (λ c. search (key-by, needs))
+    (λ c. search (key-by, needs)) (λ c. search (key-by, needs)) (λ c. search (key-by, needs)) (λ c. search (key-by, needs))
+    (λ c. search (key-by, needs)) (λ c. search (key-by, needs)) (λ c. search (key-by, needs)) (λ c. search (key-by, needs))
     (λ c. search (key-none, needs)))

@@ -14,16 +14,6 @@ abbrev μ-loop : tie.MeasureT-loop
 μ-loop u n₀ i₀ n i = length u - i
 
 pub unescaped-length-spec : {M : Type 1} → statement M
-unescaped-length-spec =
-    tie.close
-    (tie.spec
-    Inv-loop
-    μ-loop
-    (λ c. search (strings, needs))
-    (λ c κs. search (strings, needs))
-    (λ c. search (strings, needs))
-    (λ c. search (strings, needs))
-    (λ c. search (strings, needs))
-    (λ c. search (strings, needs))
-    (λ c. search (strings, needs))
-    (λ c. search (strings, needs)))
+unescaped-length-spec = tie.close (tie.spec Inv-loop μ-loop (λ c. search (strings, needs)) (λ c κs. search (strings, needs))
+    (λ c. search (strings, needs)) (λ c. search (strings, needs)) (λ c. search (strings, needs)) (λ c. search (strings, needs))
+    (λ c. search (strings, needs)) (λ c. search (strings, needs)))

@@ -4,11 +4,5 @@ use Rattle.text_read_item.proofs.value_at.Statement.{statement}
 use Rattle.text_read_item.proofs.value_at.Tie as tie
 
 pub value-at-spec : {M : Type 1} → statement M
-value-at-spec =
-    tie.close
-    (tie.spec
-    (λ c κs. search needs)
-    (λ c κs. search needs)
-    (λ c. search (placed, needs))
-    (λ c κs. search needs)
+value-at-spec = tie.close (tie.spec (λ c κs. search needs) (λ c κs. search needs) (λ c. search (placed, needs)) (λ c κs. search needs)
     (λ c. search (placed, needs)))

@@ -15,16 +15,6 @@ abbrev μ-loop : tie.MeasureT-loop
 μ-loop t at i₀ i = length t - i
 
 pub word-end-spec : {M : Type 1} → statement M
-word-end-spec =
-    tie.close
-    (tie.spec
-    Inv-loop
-    μ-loop
-    (λ c. search (leaves, needs))
-    (λ c. search (leaves, needs))
-    (λ c κs. search (leaves, needs))
-    (λ c. search (leaves, needs))
-    (λ c. search (leaves, needs))
-    (λ c. search (leaves, needs))
-    (λ c. search (leaves, needs))
+word-end-spec = tie.close (tie.spec Inv-loop μ-loop (λ c. search (leaves, needs)) (λ c. search (leaves, needs)) (λ c κs. search (leaves, needs))
+    (λ c. search (leaves, needs)) (λ c. search (leaves, needs)) (λ c. search (leaves, needs)) (λ c. search (leaves, needs))
     (λ c. search (leaves, needs)))

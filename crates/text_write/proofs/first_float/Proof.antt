@@ -13,26 +13,8 @@ abbrev μ-loop : tie.MeasureT-loop
 μ-loop s p₀ p = length s - p
 
 pub first-float-spec : {M : Type 1} → statement M
-first-float-spec =
-    tie.close
-    (tie.spec
-    Inv-loop
-    μ-loop
-    (λ c. search (forming, needs))
-    (λ c. search (forming, needs))
-    (λ c κs. search (forming, needs))
-    (λ c. search (forming, needs))
-    (λ c. search (forming, needs))
-    (λ c. search (forming, needs))
-    (λ c κs. search (forming, needs))
-    (λ c. search (forming, needs))
-    (λ c. search (forming, needs))
-    (λ c. search (forming, needs))
-    (λ c. search (forming, needs))
-    (λ c κs. search (forming, needs))
-    (λ c. search (forming, needs))
-    (λ c. search (forming, needs))
-    (λ c. search (forming, needs))
-    (λ c. search (forming, needs))
-    (λ c. search (forming, needs))
-    (λ c. search (forming, needs)))
+first-float-spec = tie.close (tie.spec Inv-loop μ-loop (λ c. search (forming, needs)) (λ c. search (forming, needs)) (λ c κs. search (forming, needs))
+    (λ c. search (forming, needs)) (λ c. search (forming, needs)) (λ c. search (forming, needs)) (λ c κs. search (forming, needs))
+    (λ c. search (forming, needs)) (λ c. search (forming, needs)) (λ c. search (forming, needs)) (λ c. search (forming, needs))
+    (λ c κs. search (forming, needs)) (λ c. search (forming, needs)) (λ c. search (forming, needs)) (λ c. search (forming, needs))
+    (λ c. search (forming, needs)) (λ c. search (forming, needs)) (λ c. search (forming, needs)))

@@ -5,12 +5,5 @@ use Rattle.text_write.proofs.write_before.Statement.{statement}
 use Rattle.text_write.proofs.write_before.Tie as tie
 
 pub write-before-spec : {M : Type 1} → statement M
-write-before-spec =
-    tie.close
-    (tie.spec
-    (λ c. search needs)
-    (λ c. search needs)
-    (λ c. search needs)
-    (λ c κs. search needs)
-    (λ c. search needs)
+write-before-spec = tie.close (tie.spec (λ c. search needs) (λ c. search needs) (λ c. search needs) (λ c κs. search needs) (λ c. search needs)
     (λ c. search (writing, needs)))

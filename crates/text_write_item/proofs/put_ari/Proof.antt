@@ -4,13 +4,5 @@ use Rattle.text_write_item.proofs.put_ari.Statement.{statement}
 use Rattle.text_write_item.proofs.put_ari.Tie as tie
 
 pub put-ari-spec : {M : Type 1} → statement M
-put-ari-spec =
-    tie.close
-    (tie.spec
-    (λ c κs. search needs)
-    (λ c. search needs)
-    (λ c. search (ways-through, needs))
-    (λ c. search (ways-through, needs))
-    (λ c κs. search needs)
-    (λ c. search needs)
-    (λ c. search (ways-through, needs)))
+put-ari-spec = tie.close (tie.spec (λ c κs. search needs) (λ c. search needs) (λ c. search (ways-through, needs)) (λ c. search (ways-through, needs))
+    (λ c κs. search needs) (λ c. search needs) (λ c. search (ways-through, needs)))

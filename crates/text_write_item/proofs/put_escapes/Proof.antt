@@ -14,16 +14,5 @@ abbrev μ-loop : tie.MeasureT-loop
 μ-loop out₀ at s r₀ i₀ out r i = length s - i
 
 pub put-escapes-spec : {M : Type 1} → statement M
-put-escapes-spec =
-    tie.close
-    (tie.spec
-    Inv-loop
-    μ-loop
-    (λ c. search (puts, needs))
-    (λ c. search (puts, needs))
-    (λ c κs. search (puts, needs))
-    (λ c. search (puts, needs))
-    (λ c. search (puts, needs))
-    (λ c. search (puts, needs))
-    (λ c. search (puts, needs))
-    (λ c. search (puts, needs)))
+put-escapes-spec = tie.close (tie.spec Inv-loop μ-loop (λ c. search (puts, needs)) (λ c. search (puts, needs)) (λ c κs. search (puts, needs))
+    (λ c. search (puts, needs)) (λ c. search (puts, needs)) (λ c. search (puts, needs)) (λ c. search (puts, needs)) (λ c. search (puts, needs)))

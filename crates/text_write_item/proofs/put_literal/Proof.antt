@@ -4,22 +4,7 @@ use Rattle.text_write_item.proofs.put_literal.Statement.{statement}
 use Rattle.text_write_item.proofs.put_literal.Tie as tie
 
 pub put-literal-spec : {M : Type 1} → statement M
-put-literal-spec =
-    tie.close
-    (tie.spec
-    (λ c κs. search needs)
-    (λ c κs. search needs)
-    (λ c κs. search needs)
-    (λ c κs. search needs)
-    (λ c κs. search needs)
-    (λ c. search needs)
-    (λ c. search (puts, needs))
-    (λ c. search needs)
-    (λ c. search (puts, needs))
-    (λ c. search needs)
-    (λ c. search (puts, needs))
-    (λ c. search needs)
-    (λ c. search (puts, needs))
-    (λ c. search needs)
-    (λ c. search (puts, needs))
+put-literal-spec = tie.close (tie.spec (λ c κs. search needs) (λ c κs. search needs) (λ c κs. search needs) (λ c κs. search needs)
+    (λ c κs. search needs) (λ c. search needs) (λ c. search (puts, needs)) (λ c. search needs) (λ c. search (puts, needs)) (λ c. search needs)
+    (λ c. search (puts, needs)) (λ c. search needs) (λ c. search (puts, needs)) (λ c. search needs) (λ c. search (puts, needs))
     (λ c. search (puts, needs)))

@@ -4,15 +4,5 @@ use Rattle.text_write_item.proofs.put_negative.Statement.{statement}
 use Rattle.text_write_item.proofs.put_negative.Tie as tie
 
 pub put-negative-spec : {M : Type 1} → statement M
-put-negative-spec =
-    tie.close
-    (tie.spec
-    (λ c κs. search needs)
-    (λ c. search needs)
-    (λ c κs. search needs)
-    (λ c. search needs)
-    (λ c. search (puts, needs))
-    (λ c. search needs)
-    (λ c κs. search needs)
-    (λ c. search needs)
-    (λ c. search (puts, needs)))
+put-negative-spec = tie.close (tie.spec (λ c κs. search needs) (λ c. search needs) (λ c κs. search needs) (λ c. search needs)
+    (λ c. search (puts, needs)) (λ c. search needs) (λ c κs. search needs) (λ c. search needs) (λ c. search (puts, needs)))

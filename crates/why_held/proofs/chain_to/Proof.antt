@@ -12,25 +12,7 @@ abbrev μ-loop : tie.MeasureT-loop
 μ-loop s count entries first after links₀ n₀ around₀ before₀ k₀ links n around before k = count - k
 
 pub chain-to-spec : {M : Type 1} → statement M
-chain-to-spec =
-    tie.close
-    (tie.spec
-    Inv-loop
-    μ-loop
-    (λ c. search (goings, needs))
-    (λ c. search needs)
-    (λ c. search needs)
-    (λ c κs. search needs)
-    (λ c. search needs)
-    (λ c κs. search needs)
-    (λ c κs. search needs)
-    (λ c. search (goings, needs))
-    (λ c. search (goings, needs))
-    (λ c. search (goings, needs))
-    (λ c. search needs)
-    (λ c. search (goings, needs))
-    (λ c. search needs)
-    (λ c. search (goings, needs))
-    (λ c. search needs)
-    (λ c. search (goings, needs))
-    (λ c. search (goings, needs)))
+chain-to-spec = tie.close (tie.spec Inv-loop μ-loop (λ c. search (goings, needs)) (λ c. search needs) (λ c. search needs) (λ c κs. search needs)
+    (λ c. search needs) (λ c κs. search needs) (λ c κs. search needs) (λ c. search (goings, needs)) (λ c. search (goings, needs))
+    (λ c. search (goings, needs)) (λ c. search needs) (λ c. search (goings, needs)) (λ c. search needs) (λ c. search (goings, needs))
+    (λ c. search needs) (λ c. search (goings, needs)) (λ c. search (goings, needs)))

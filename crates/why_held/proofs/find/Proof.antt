@@ -12,25 +12,7 @@ abbrev μ-loop : tie.MeasureT-loop
 μ-loop s count entries published own entry left₀ k₀ left k = count - k
 
 pub find-spec : {M : Type 1} → statement M
-find-spec =
-    tie.close
-    (tie.spec
-    Inv-loop
-    μ-loop
-    (λ c. search (findings, needs))
-    (λ c. search needs)
-    (λ c. search needs)
-    (λ c κs. search needs)
-    (λ c. search needs)
-    (λ c. search needs)
-    (λ c. search needs)
-    (λ c. search (findings, needs))
-    (λ c. search needs)
-    (λ c κs. search needs)
-    (λ c κs. search needs)
-    (λ c. search (findings, needs))
-    (λ c. search needs)
-    (λ c. search needs)
-    (λ c. search needs)
-    (λ c. search (findings, needs))
+find-spec = tie.close (tie.spec Inv-loop μ-loop (λ c. search (findings, needs)) (λ c. search needs) (λ c. search needs) (λ c κs. search needs)
+    (λ c. search needs) (λ c. search needs) (λ c. search needs) (λ c. search (findings, needs)) (λ c. search needs) (λ c κs. search needs)
+    (λ c κs. search needs) (λ c. search (findings, needs)) (λ c. search needs) (λ c. search needs) (λ c. search needs) (λ c. search (findings, needs))
     (λ c. search (findings, needs)))

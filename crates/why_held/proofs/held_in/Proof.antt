@@ -6,15 +6,5 @@ use Rattle.why_held.proofs.held_in.Statement.{statement}
 use Rattle.why_held.proofs.held_in.Tie as tie
 
 pub held-in-spec : {M : Type 1} → statement M
-held-in-spec =
-    tie.close
-    (tie.spec
-    (λ c κs. search needs)
-    (λ c. search needs)
-    (λ c κs. search (tabled, needs))
-    (λ c. search needs)
-    (λ c κs. search needs)
-    (λ c. search needs)
-    (λ c. search needs)
-    (λ c. search needs)
-    (λ c. search (not-refused, needs)))
+held-in-spec = tie.close (tie.spec (λ c κs. search needs) (λ c. search needs) (λ c κs. search (tabled, needs)) (λ c. search needs)
+    (λ c κs. search needs) (λ c. search needs) (λ c. search needs) (λ c. search needs) (λ c. search (not-refused, needs)))

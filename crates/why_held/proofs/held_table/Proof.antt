@@ -5,9 +5,4 @@ use Rattle.why_held.proofs.held_table.Statement.{statement}
 use Rattle.why_held.proofs.held_table.Tie as tie
 
 pub held-table-spec : {M : Type 1} → statement M
-held-table-spec =
-    tie.close
-    (tie.spec
-    (λ c κs. search needs)
-    (λ c κs. search (its-ends, needs))
-    (λ c. search (held-is, held-few, needs)))
+held-table-spec = tie.close (tie.spec (λ c κs. search needs) (λ c κs. search (its-ends, needs)) (λ c. search (held-is, held-few, needs)))

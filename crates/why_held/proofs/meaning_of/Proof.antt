@@ -5,10 +5,4 @@ use Rattle.why_held.proofs.meaning_of.Statement.{statement}
 use Rattle.why_held.proofs.meaning_of.Tie as tie
 
 pub meaning-of-spec : {M : Type 1} → statement M
-meaning-of-spec =
-    tie.close
-    (tie.spec
-    (λ c κs. search needs)
-    (λ c κs. search needs)
-    (λ c. search (link-ways, needs))
-    (λ c. search (link-ways, needs)))
+meaning-of-spec = tie.close (tie.spec (λ c κs. search needs) (λ c κs. search needs) (λ c. search (link-ways, needs)) (λ c. search (link-ways, needs)))

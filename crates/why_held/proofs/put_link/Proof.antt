@@ -5,14 +5,5 @@ use Rattle.why_held.proofs.put_link.Statement.{statement}
 use Rattle.why_held.proofs.put_link.Tie as tie
 
 pub put-link-spec : {M : Type 1} → statement M
-put-link-spec =
-    tie.close
-    (tie.spec
-    (λ c. search needs)
-    (λ c κs. search needs)
-    (λ c. search needs)
-    (λ c κs. search needs)
-    (λ c κs. search needs)
-    (λ c κs. search needs)
-    (λ c. search needs)
-    (λ c. search (link-put, needs)))
+put-link-spec = tie.close (tie.spec (λ c. search needs) (λ c κs. search needs) (λ c. search needs) (λ c κs. search needs) (λ c κs. search needs)
+    (λ c κs. search needs) (λ c. search needs) (λ c. search (link-put, needs)))

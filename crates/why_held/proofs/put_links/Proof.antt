@@ -22,17 +22,5 @@ loop-again c =
     (search needs, search needs, one-link-more (a .t2) {i = e .loop .i} _ (e .loop .inv .2) (search needs) (c .before .before .put-link .ensures))
 
 pub put-links-spec : {M : Type 1} → statement M
-put-links-spec =
-    tie.close
-    (tie.spec
-    Inv-loop
-    μ-loop
-    (λ c. search (link-bytes, needs))
-    (λ c. search needs)
-    (λ c. search needs)
-    (λ c κs. search needs)
-    (λ c. search needs)
-    (λ c. search needs)
-    loop-again
-    (λ c. search needs)
-    (λ c. search (link-bytes, needs)))
+put-links-spec = tie.close (tie.spec Inv-loop μ-loop (λ c. search (link-bytes, needs)) (λ c. search needs) (λ c. search needs) (λ c κs. search needs)
+    (λ c. search needs) (λ c. search needs) loop-again (λ c. search needs) (λ c. search (link-bytes, needs)))

@@ -5,16 +5,6 @@ use Rattle.why_held.proofs.write_why.Statement.{statement}
 use Rattle.why_held.proofs.write_why.Tie as tie
 
 pub write-why-spec : {M : Type 1} → statement M
-write-why-spec =
-    tie.close
-    (tie.spec
-    (λ c. search needs)
-    (λ c. search needs)
-    (λ c. search needs)
-    (λ c. search (writings, needs))
-    (λ c. search (writings, needs))
-    (λ c κs. search (writings, needs))
-    (λ c. search needs)
-    (λ c. search (writings, needs))
-    (λ c. search needs)
+write-why-spec = tie.close (tie.spec (λ c. search needs) (λ c. search needs) (λ c. search needs) (λ c. search (writings, needs))
+    (λ c. search (writings, needs)) (λ c κs. search (writings, needs)) (λ c. search needs) (λ c. search (writings, needs)) (λ c. search needs)
     (λ c. search (writings, needs)))
