@@ -11,17 +11,12 @@ use lib.Dec.{ltb, eqb}
 use borrow.Author.Tests.{lt-ltb, le-ltb, le-leb, lt-leb, ne-eqb}
 use Rattle.buffer.specs.Bytes.{all}
 use Rattle.cbor.proofs.Computed.{same, same-true, allFrom, all-at}
+use Rattle.grammar.specs.Words.{nameBits}
 use Rattle.ari.specs.Name.{startsName, continuesName, identifier, namespaceName}
 
--- the bytes of names as bits
-abbrev nameBits : ℕ → ℕ
-nameBits x = cond (ltb x 64) 0x03ff600000000000 0x07fffffe87fffffe
-
-pub low-bits : (x : ℕ) → x < 64 → 0x03ff600000000000 ≡ nameBits x
-low-bits x h = rw (lt-ltb x 64 h)
-
-pub high-bits : (x : ℕ) → 64 ≤ x → 0x07fffffe87fffffe ≡ nameBits x
-high-bits x h = rw (le-ltb x 64 h)
+-- a look-up by the highest two bits
+pub name-word : (n : ℕ) → n < 4 → (x : ℕ) → x / 64 ≡ n → getD (0x03ff600000000000 ∷ 0x07fffffe87fffffe ∷ []) n 0 ≡ nameBits x
+name-word n h x e = rw e
 
 abbrev bit : ℕ → ℕ → Bool
 bit m x = eqb (m / 2 ^ (x % 64) % 2) 1
@@ -30,7 +25,7 @@ starts : allFrom 64 64 (λ x. same (bit 0x07fffffe87fffffe x) (startsName x)) �
 unfolding startsName
 starts = refl
 
-continues : allFrom 128 0 (λ x. same (bit (nameBits x) x) (continuesName x)) ≡ true
+continues : allFrom 256 0 (λ x. same (bit (nameBits x) x) (continuesName x)) ≡ true
 unfolding startsName continuesName
 continues = refl
 
@@ -47,13 +42,8 @@ module _ (b : ℕ) {x : ℕ} (e : (x ≡ b) × (x < 256)) where
   pub a-letter : 64 ≤ x → x ≤ 127 → bit 0x07fffffe87fffffe x ≡ startsName b
   a-letter h g = rw (← e .0) (same-true _ _ (all-at 64 64 (λ x. same (bit 0x07fffffe87fffffe x) (startsName x)) starts x h (omega arith)))
 
-  pub past-names : 127 < x → false ≡ continuesName b
-  unfolding continuesName
-  past-names h =
-      rw (← past-ascii h, le-leb 48 b (omega (arith, e .0)), lt-leb b 57 (omega (arith, e .0)), le-leb 45 b (omega (arith, e .0)), lt-leb b 46 (omega (arith, e .0)))
-
-  pub a-name-byte : x ≤ 127 → {m : ℕ} → m ≡ nameBits x → bit m x ≡ continuesName b
-  a-name-byte h q = rw (← e .0, q) (same-true _ _ (all-at 128 0 (λ x. same (bit (nameBits x) x) (continuesName x)) continues x (omega arith) (omega arith)))
+  pub a-name-byte : {m : ℕ} → m ≡ nameBits x → bit m x ≡ continuesName b
+  a-name-byte q = rw (← e .0, q) (same-true _ _ (all-at 256 0 (λ x. same (bit (nameBits x) x) (continuesName x)) continues x (omega arith) (omega arith)))
 
 -- From `at` on.
 module _ (s : List ℕ) (at : ℕ) where
@@ -106,4 +96,4 @@ module _ {r : Bool} where
   plain [] n e q = absurd (n refl)
   plain (b ∷ bs) n e q = rw (ne-eqb b 33 e, or-false) q
 
-pub ruleset names = (low-bits, high-bits, below-letters, past-ascii, a-letter, past-names, a-name-byte, empty, too-long, no-start, name-ends, no-name, goes-on, no-bytes, marked, plain)
+pub ruleset names = (below-letters, past-ascii, a-letter, a-name-byte, empty, too-long, no-start, name-ends, no-name, goes-on, no-bytes, marked, plain)

@@ -11,7 +11,7 @@ use Rattle.ari.specs.Table.{inside, param, value, done, due, many, referenceLev
 use Rattle.grammar.specs.declared.Next.{Next}
 use Rattle.grammar.specs.declared.Next.the-variants.{Done, Due}
 use Rattle.grammar.specs.Code.{IsSlot, slotOf, slotNumber, nextOf, typeNumber, fitsCode, extraOf, spelledAs, takesReferenceOf, nextCode, insideCode}
-use Rattle.grammar.specs.Words.{field, fitsWord, followedCode, nextWord, inSpans, spans, rangeOf, bitsOf, smallOf, topOf, ifSet, followed, follows, Follow, followMeans, followFor, Word, wordMeans, wordFor, WordOf, manyOf, inAriOf, inArrayOf, inMapOf, Inner, innerMeans, innerFor}
+use Rattle.grammar.specs.Words.{field, fitsWord, followedCode, nextWord, inSpans, spans, rangeOf, bitsOf, smallOf, topOf, ifSet, followed, follows, Follow, followMeans, followFor, Word, wordMeans, wordFor, WordOf, manyOf, inAriOf, inArrayOf, inMapOf, Inner, innerMeans, innerFor, takesNumber, numbersOf, numberBits}
 use Rattle.grammar.proofs.Ranges.{each-at, spans-fit, small-looks, top-looks}
 use Rattle.grammar.proofs.Right.{number-slot, no-kind}
 
@@ -97,6 +97,17 @@ fits-means i w e k a d = d ∙ go (leb k 9) refl
     go false q = sym (no-kind i k a (leb-false k 9 q))
 
 pub ruleset fit-ways = (bad-kind, below-32, from-32)
+
+-- the ways of `takes_number`
+module _ (i : ℕ) {x b : ℕ} (e : (x ≡ b) × (x < 256)) where
+  pub no-number : 55 < x → false ≡ takesNumber i b
+  unfolding takesNumber
+  no-number h = rw (le-ltb b 56 (omega (arith, e .0)))
+
+  pub a-number : x ≤ 55 → (m : ℕ) → numberBits m ≡ numbersOf i → eqb (m / 2 ^ x % 2) 1 ≡ takesNumber i b
+  a-number h m q = rw (← e .0) (each-at 56 (λ (y : ℕ). eqb (m / 2 ^ y % 2) 1) (takesNumber i) q x (omega arith))
+
+pub ruleset number-ways = (no-number, a-number)
 
 -- so many of a slot
 pub no-more : (s n : ℕ) → n ≡ 0 → Done ≡ manyOf s n

@@ -1,4 +1,4 @@
--- Private to src/, and WordOf, fitsWord, nextWord to the reader's: the words that the code keeps for the slots, what their bits mean in the rules' terms. No word stands here: that
+-- Private to src/, and WordOf, fitsWord, nextWord, takesNumber to the reader's: the words that the code keeps for the slots, what their bits mean in the rules' terms. No word stands here: that
 -- each means what its slot's rule says is the contract of the function that has it.
 use Prim.Native.Nat.{ℕ, zero, suc, _+_, _-_, _*_, _/_, _%_, _^_}
 use mathlib.Core.Path.{_≡_}
@@ -11,7 +11,7 @@ use Rattle.cbor.specs.Head.{unsigned}
 use Rattle.ari.specs.Table.{Place, alone, message, inside, param, value, Row, row, max64, max63, max32, max31, types, typeRows, Level, done, due, many, referenceLevel, Rule, rule}
 use Rattle.grammar.specs.declared.Next.{Next}
 use Rattle.grammar.specs.declared.Next.the-variants.{Done, Due}
-use Rattle.grammar.specs.Code.{slotOf, typeNumber, nextOf, extraNumber, spelledAs}
+use Rattle.grammar.specs.Code.{slotOf, typeNumber, nextOf, fitsCode, extraNumber, extraOf, spelledAs}
 
 -- bits of a word
 abbrev pub field : ℕ → ℕ → ℕ → ℕ
@@ -120,6 +120,17 @@ WordOf i w = wordMeans w ≡ wordFor (rule (slotOf i))
 unfoldable pub fitsWord : ℕ → ℕ → ℕ → Bool
 fitsWord w k a = leb k 9 && inSpans a (rangeOf (field w (k * 5) 32))
 
+-- A byte that is the whole head of a number, where a slot with no test of its own takes that number: nothing else is asked of it. Such bytes are below 56.
+unfoldable pub takesNumber : ℕ → ℕ → Bool
+takesNumber i x = ltb x 56 && (ltb (x % 32) 24 && (eqb (extraOf i) 0 && fitsCode i (x / 32) (x % 32)))
+
+abbrev pub numbersOf : ℕ → List Bool
+numbersOf i = each 56 (takesNumber i)
+
+-- those bytes, a bit each
+abbrev pub numberBits : ℕ → List Bool
+numberBits m = each 56 (λ x. eqb (m / 2 ^ x % 2) 1)
+
 abbrev pub followedCode : ℕ → ℕ → ℕ → ℕ → ℕ → ℕ → Next
 followedCode took stay add to a n = cond (ltb (ifSet stay n) took) Done (Due (to + ifSet add (typeNumber a)) (ifSet stay n - took))
 
@@ -163,3 +174,7 @@ innerMeans w = record {
 
 unfoldable pub innerFor : Rule → Inner
 innerFor r = record { inArray = r .inArray; inMap = r .inMap; names = true; takesReference = r .takesReference }
+
+-- the bytes of names, a bit each, by their highest bits: digits, hyphen and full stop; letters and underscore; none
+abbrev pub nameBits : ℕ → ℕ
+nameBits x = getD (0x03ff600000000000 ∷ 0x07fffffe87fffffe ∷ []) (x / 64) 0

@@ -7,10 +7,8 @@
 ghost use mathlib.Core.Path.{_≡_};
 ghost use Rattle.ari.specs.Table.{referenceLevel, rule};
 ghost use Rattle.grammar.specs.Code.{IsSlot, slotOf, nextOf, typeNumber, fitsCode, extraOf, spelledAs, takesReferenceOf, nextCode, insideCode};
-ghost use Rattle.grammar.specs.Words.{field, fitsWord, nextWord, bitsOf, smallOf, topOf, ifSet, manyOf, inAriOf, inArrayOf, inMapOf, wordMeans, wordFor, followMeans, followFor, innerMeans, innerFor};
+ghost use Rattle.grammar.specs.Words.{field, fitsWord, nextWord, bitsOf, smallOf, topOf, ifSet, manyOf, inAriOf, inArrayOf, inMapOf, wordMeans, wordFor, followMeans, followFor, innerMeans, innerFor, takesNumber, numbersOf, numberBits, nameBits};
 ghost use Prim.Native.Nat.{_-_, _%_, _≤_, _<_};
-ghost use mathlib.Core.Bool.{cond};
-ghost use lib.Dec.{ltb};
 ghost use lib.ListN.{length, drop};
 ghost use Rattle.ari.specs.Name.{startsName, continuesName, identifier, namespaceName};
 
@@ -313,6 +311,76 @@ pub fn fits_by(word: u64, kind: u8, arg: u64) -> bool
     arg <= top(range)
 }
 
+// The bytes below 56 that are numbers which a slot without a test of its own takes, a bit each: 0 to 23 unsigned, 32 to 55 negative. Neighbours stand in
+// two arms, as above.
+fn number_bits(slot: u64) -> u64
+    ensures { λ r. ⌜ numberBits r ≡ numbersOf slot ⌝ }
+{
+    match slot {
+        1 | 3 | 9 | 11 | 19 | 23 | 41 | 63 => 0x00ffffff00ffffff, // ARIs, namespaces, times, INT, VAST, TP and TD
+        4 | 10 | 20 | 26 | 32 | 34 | 40 | 54 | 56 | 62 => 0x00ffffff00ffffff,
+        5 => 0x000000000036bff7, // type alone
+        6 => 0x0000000000300000, // type message
+        7 => 0x000000000006bff7, // type inside
+        8 => 0x000000000006fff7, // type param
+        12 => 0x00ffffff00000000, // objectType
+        13 => 0x00ffffff00000000,
+        14 | 22 | 30 | 52 => 0x0000000000ffffff, // objectId, nonces, BYTE, UINT, UVAST
+        15 | 21 | 33 | 35 | 55 | 57 => 0x0000000000ffffff,
+        0
+        | 2
+        | 16
+        | 18
+        | 24
+        | 28
+        | 36
+        | 38
+        | 42
+        | 44
+        | 46
+        | 48
+        | 50
+        | 58
+        | 60
+        | 64
+        | 66
+        | 68
+        | 70 => 0x0000000000000000, // all others
+        17
+        | 25
+        | 27
+        | 29
+        | 31
+        | 37
+        | 39
+        | 43
+        | 45
+        | 47
+        | 49
+        | 51
+        | 53
+        | 59
+        | 61
+        | 65
+        | 67
+        | 69
+        | 71 => 0x0000000000000000,
+        _ => 0x0100000000000000, // no slot: none, in a bit that nobody looks at
+    }
+}
+
+// Whether a byte is such a number.
+pub fn takes_number(slot: u64, b: u8) -> bool
+    ensures { λ r. ⌜ r ≡ takesNumber slot b ⌝ }
+{
+    let x = wide(b);
+    if 55 < x {
+        return false;
+    }
+    let bits = number_bits(slot);
+    (bits >> x) % 2 == 1
+}
+
 // The slot's own test, as NO_TEST and the constants behind it.
 pub fn extra_test(slot: u64) -> u64
     ensures { λ r. ⌜ r ≡ extraOf slot ⌝ }
@@ -504,23 +572,24 @@ fn starts_name(b: u8) -> bool
     (LETTERS >> (x % 64)) % 2 == 1
 }
 
-// The bits of the bytes around this one.
+// The bits of the bytes around this one. With an arm for each number of two bits the look-up needs no bound.
 fn name_bits(x: u64) -> u64
-    ensures { λ r. ⌜ r ≡ cond (ltb x 64) 0x03ff600000000000 0x07fffffe87fffffe ⌝ }
+    requires { ⌜ x < 256 ⌝ }
+    ensures { λ r. ⌜ r ≡ nameBits x ⌝ }
 {
-    if x < 64 {
-        return DIGITS;
+    match x / 64 {
+        0 => DIGITS,
+        1 => LETTERS,
+        2 => 0,
+        3 => 0,
+        _ => 1,
     }
-    LETTERS
 }
 
 pub fn continues_name(b: u8) -> bool
     ensures { λ r. ⌜ r ≡ continuesName b ⌝ }
 {
     let x = wide(b);
-    if 127 < x {
-        return false;
-    }
     let bits = name_bits(x);
     (bits >> (x % 64)) % 2 == 1
 }

@@ -29,7 +29,7 @@ use Rattle.reader.specs.declared.Step.the-variants as step
 use Rattle.reader.specs.declared.Walk.{Walk}
 use Rattle.reader.specs.declared.Walk.the-variants.{Read, Refused}
 use Rattle.reader.specs.Steps.{Bounded, stoppedOf, keySpan}
-use Rattle.reader.specs.Walks.{insideLevel, Walked}
+use Rattle.reader.specs.Walks.{insideLevel, Walked, Opens}
 use Rattle.reader.proofs.Walking.{ended}
 
 module _ (b : List ℕ) (p c items d i : ℕ) {x : Step} (h : Bounded b p c items d i x) {k a q : ℕ} (e : x ≡ Taken k a q) where
@@ -116,15 +116,47 @@ module _ (i k a : ℕ) {x : Next} (e : x ≡ insideCode i k a) where
         → Walked b items (insideLevel (slotOf i) k a) [] (pred d) (suc around) at c w t t′
     opened q {w} {t′} y = rw (← level-is v, q, ← sub-one d, ← add-one around) y
 
+    pub by-level : {w : Walk} {t′ : List ℕ} → Walked b items (levelOf x) [] (pred d) (suc around) at c w t t′
+        → Walked b items (insideLevel (slotOf i) k a) [] (pred d) (suc around) at c w t t′
+    by-level y = rw (← level-is v) y
+
   pub inner-slot : IsSlot i → {j m : ℕ} → x ≡ Due j m → IsSlot j
   inner-slot v q = rw (← e, q) at (inside-right i (record { info = 0; kind = k; arg = a }) v .slotted)
 
   pub opens : (d : ℕ) {j m : ℕ} → x ≡ Due j m → (isContainer k && eqb d 0) ≡ false → 0 < d
   opens d q s = let n : d ≡ 0 → ⊥ = eqb-false d 0 (rw (inside-container i k a (sym q ∙ e)) at s) in omega arith
 
+pub inner-opens : (i k a : ℕ) {x : Next} → x ≡ insideCode i k a → IsSlot i → (d : ℕ) → (isContainer k && eqb d 0) ≡ false → Opens x d
+inner-opens i k a {x} e v d s = go x refl
+  where
+    go : (y : Next) → x ≡ y → Opens y d
+    go Done q = tt
+    go (Due j m) q = (inner-slot i k a e v q, opens i k a e d q s)
+
+-- the same, by what is due alone
+module _ {x : Next} (b : List ℕ) (items d around at c : ℕ) {t : List ℕ} where
+  pub none-due : x ≡ Done → at ≤ length b → c ≤ items → Walked b items (levelOf x) [] (pred d) (suc around) at c (Read at c) t t
+  none-due q h g = rw q (ended b items [] (pred d) (suc around) at c t h g)
+
+  pub level-due : {j m : ℕ} → x ≡ Due j m → {w : Walk} {t′ : List ℕ} → Walked b items (due (slotOf j) m) [] (d - 1) (around + 1) at c w t t′
+      → Walked b items (levelOf x) [] (pred d) (suc around) at c w t t′
+  level-due q y = rw (q, ← sub-one d, ← add-one around) y
+
+module _ (x : Next) (d : ℕ) (h : Opens x d) {j m : ℕ} (q : x ≡ Due j m) where
+  pub opens-slot : IsSlot j
+  opens-slot = (rw q at h) .0
+
+  pub opens-deep : 0 < d
+  opens-deep = (rw q at h) .1
+
+pub ruleset inside-due = (none-due, level-due, opens-slot, opens-deep)
+
 -- the measures and sums of the walk
 pub less-deep : (d t : ℕ) → 0 < d → d * 2 ≡ t → (d - 1) * 2 + 1 < t
 less-deep d t h e = omega arith
+
+pub shallower : (d d₀ t : ℕ) → d ≤ d₀ → d₀ * 2 + 1 ≡ t → d * 2 < t
+shallower d d₀ t h e = omega arith
 
 pub one-in : (d a : ℕ) → 0 < d → d + a < 2 ^ 64 → d - 1 + (a + 1) < 2 ^ 64
 one-in d a h g = omega arith

@@ -108,7 +108,7 @@ unfolding members rule fitsCode nextCode keyOf getHead
 version-read b bs items d e u t put =
     let h = stood b 0 1 0 items e u in
     let inside = ended b items [] (pred d) 1 1 1 t (h .within) (h .spare) in
-    ends b bs items version 0 [] d 0 0 0 t 0 0 0 0 0 0 t (omega arith) (begins b items version 0 d 0 0 0 t) (version-step b items d h) refl inside refl put (omega arith) refl refl refl (h .within) (h .spare)
+    ends b bs items version 0 [] d 0 0 0 t 0 0 0 0 d 0 0 0 t (omega arith) (begins b items version 0 d 0 0 0 t) (version-step b items d h) refl inside refl put (omega arith) refl refl refl (h .within) (h .spare)
 
 module _ (b : List ℕ) (bs : all isByte b ≡ true) (items d p c : ℕ) {r : Bool} (e : r ≡ standsAt b p 130 (items - c)) (u : not r ≡ false)
     (g : d ≡ 0 → ⊥) (t : List ℕ) {w : Walk} {t₁ : List ℕ} (m : WalkedBy false b items (slotOf 6) 0 (d - 1) 1 (p + 1) (c + 1) w t t₁) where
@@ -121,12 +121,12 @@ module _ (b : List ℕ) (bs : all isByte b ≡ true) (items d p c : ℕ) {r : Bo
   pub set-stopped : {n x : ℕ} → w ≡ Refused n x → {z : List ℕ} → Walked b items (due (slotOf 2) 0) [] d 0 p c w t z
   unfolding members rule keyOf getHead
   set-stopped v =
-      breaks b bs items (ari message) 0 [] d 0 p c t 2 0 0 0 p c t (omega arith) (begins b items (ari message) 0 d 0 p c t) (set-step b p c items d there g) refl inside v
+      breaks b bs items (ari message) 0 [] d 0 p c t 2 0 0 0 d 0 p c t (omega arith) (begins b items (ari message) 0 d 0 p c t) (set-step b p c items d there g) refl inside v
 
   pub set-read : {q f : ℕ} → w ≡ Read q f → {z : List ℕ} → z ≡ set t₁ c (packed p q 0 2 0) → Walked b items (due (slotOf 2) 0) [] d 0 p c (Read q f) t z
   unfolding members rule fitsCode nextCode keyOf getHead
   set-read v put =
       let within = (rw v at inside) .held in
-      ends b bs items (ari message) 0 [] d 0 p c t 2 0 0 0 p c t (omega arith) (begins b items (ari message) 0 d 0 p c t) (set-step b p c items d there g) refl inside v put (omega arith) refl refl refl (within .1) (within .2)
+      ends b bs items (ari message) 0 [] d 0 p c t 2 0 0 0 d 0 p c t (omega arith) (begins b items (ari message) 0 d 0 p c t) (set-step b p c items d there g) refl inside v put (omega arith) refl refl refl (within .1) (within .2)
 
 pub ruleset fixed-heads = (stood-in, stood-few, stood-fits, version-read, set-stopped, set-read)

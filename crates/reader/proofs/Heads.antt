@@ -7,8 +7,9 @@ use native.Mathlib.Omega.{arith}
 use lib.ListN.{length, take, drop, length-drop}
 use lib.Seq.{drop-drop, length-take-le}
 use lib.Dec.{ltb, leb, eqb}
-use borrow.Author.Tests.{lt-ltb, le-ltb, le-leb, lt-leb, eq-eqb, ne-eqb, ltb-true, ltb-false, not-true, not-false}
+use borrow.Author.Tests.{lt-ltb, le-ltb, le-leb, lt-leb, eq-eqb, ne-eqb, ltb-true, ltb-false, eqb-true, not-true, not-false}
 use Rattle.buffer.specs.Bytes.{all, isByte, within}
+use Rattle.buffer.proofs.ByteLaws.{and-true, within-true}
 use Rattle.cbor.specs.Head.{Lead, size, Got, bad, got, getHead, stringSize, isContainer, keyOf}
 use Rattle.cbor.specs.declared.Head.{Head}
 use Rattle.cbor.specs.declared.Head.the-variants.{Bad, Good}
@@ -26,7 +27,7 @@ use Rattle.reader.specs.declared.End.{End}
 use Rattle.reader.specs.declared.End.the-variants.{At, Short}
 use Rattle.buffer.specs.Bytes.{part}
 use Rattle.reader.specs.Steps.{stringEnd, keyAt, stepAnswer, stepAt, contentGot, contentAt, ContentShown, Bounded, noHead}
-use Rattle.reader.proofs.Keys.{ordered-kind, key-bytes, same-order, no-key, filled-other}
+use Rattle.reader.proofs.Keys.{ordered-kind, string-version, key-bytes, same-order, version-other, no-key, filled-other}
 
 -- a string's end
 module _ (b : List ℕ) (a q : ℕ) where
@@ -111,7 +112,7 @@ headless e = rw e
 stands : (b : List ℕ) (p k a q : ℕ) → headAt b p ≡ Good k a q → Read b p k a q
 stands b p k a q e = read b p refl e
 
--- the tests 9 to 12
+-- the tests 8 to 12
 module _ (b : List ℕ) (p : ℕ) (s : Slot) (prev : List ℕ) {k a q : ℕ} (e : headAt b p ≡ Good k a q) where
   abbrev l : Lead
   l = stands b p k a q e .lead
@@ -119,9 +120,18 @@ module _ (b : List ℕ) (p : ℕ) (s : Slot) (prev : List ℕ) {k a q : ℕ} (e 
   abbrev str : List ℕ
   str = take (stringSize l) (drop (size l) (drop p b))
 
-  content-is : stepAnswer p (judgeContent s prev l (drop (size l) (drop p b))) ≡ contentAt b p s prev
+  content-is : stepAnswer p (cond (wrongVersion (rule s .extra) (l .arg)) (reader.no 8) (judgeContent s prev l (drop (size l) (drop p b)))) ≡ contentAt b p s prev
   unfolding contentAt contentGot
   content-is = rw (stands b p k a q e .is-got)
+
+  own-version : wrongVersion (rule s .extra) (l .arg) ≡ wrongVersion (rule s .extra) a
+  own-version = rw (stands b p k a q e .arg-is)
+
+  pub is-versioned : {z : Bool} → z ≡ wrongVersion (rule s .extra) a → z ≡ true → Refused 8 p ≡ contentAt b p s prev
+  is-versioned g t = rw (own-version ∙ sym g ∙ t) (refl) ∙ content-is
+
+  version-right : wrongVersion (rule s .extra) a ≡ false → stepAnswer p (judgeContent s prev l (drop (size l) (drop p b))) ≡ contentAt b p s prev
+  version-right n = rw (own-version ∙ n) at content-is
 
   -- what is left behind the head
   rest-is : drop (size l) (drop p b) ≡ drop q b
@@ -131,16 +141,16 @@ module _ (b : List ℕ) (p : ℕ) (s : Slot) (prev : List ℕ) {k a q : ℕ} (e 
   unfolding stringSize
   size-is = rw (stands b p k a q e .kind-is, stands b p k a q e .arg-is)
 
-  pub is-short : {x : End} → x ≡ stringEnd b k a q → x ≡ Short → Refused 9 p ≡ contentAt b p s prev
+  pub is-short : fits k a (rule s .rows) ≡ true → {x : End} → x ≡ stringEnd b k a q → x ≡ Short → Refused 9 p ≡ contentAt b p s prev
   unfolding judgeContent stringEnd
-  is-short {x} g f = go (within 2 3 k) refl (ltb (length b - q) a) refl (sym f ∙ g) ∙ content-is
+  is-short fit {x} g f = go (within 2 3 k) refl (ltb (length b - q) a) refl (sym f ∙ g)
     where
       go : (w : Bool) → within 2 3 k ≡ w → (u : Bool) → ltb (length b - q) a ≡ u → Short ≡ cond w (cond u Short (At (q + a))) (At q)
-          → Refused 9 p ≡ stepAnswer p (judgeContent s prev l (drop (size l) (drop p b)))
+          → Refused 9 p ≡ contentAt b p s prev
       go true ew true eu z =
           let n : length b - q < a = ltb-true (length b - q) a eu in
           let m : length (drop (size l) (drop p b)) ≡ length b - q = ap length rest-is ∙ length-drop q b in
-          rw (lt-ltb (length (drop (size l) (drop p b))) (stringSize l) (rw (size-is, ew, m) n))
+          rw (lt-ltb (length (drop (size l) (drop p b))) (stringSize l) (rw (size-is, ew, m) n)) (refl) ∙ version-right (string-version s k a fit (within-true 2 3 k ew .0))
       go true ew false eu z = absurd (let y : _≡_ {A = ℕ} 0 1 = cc in omega arith)
       go false ew u eu z = absurd (let y : _≡_ {A = ℕ} 0 1 = cc in omega arith)
 
@@ -178,12 +188,14 @@ module _ (b : List ℕ) (p : ℕ) (s : Slot) (prev : List ℕ) {k a q : ℕ} (e 
     spelling-is : (eqb k 3 && not (rule s .spelling (part b q x))) ≡ (eqb (l .kind) 3 && not (rule s .spelling str))
     spelling-is = rw (string-is, stands b p k a q e .kind-is)
 
-    pub is-misspelt : {m : Bool} → m ≡ (eqb k 3 && not (rule s .spelling (part b q x))) → m ≡ true → Refused 10 p ≡ contentAt b p s prev
+    pub is-misspelt : fits k a (rule s .rows) ≡ true → {m : Bool} → m ≡ (eqb k 3 && not (rule s .spelling (part b q x))) → m ≡ true → Refused 10 p ≡ contentAt b p s prev
     unfolding judgeContent
-    is-misspelt c t = rw (not-short, sym spelling-is ∙ sym c ∙ t) (refl) ∙ content-is
+    is-misspelt fit c t =
+        let three : k ≡ 3 = eqb-true k 3 (and-true (eqb k 3) _ (sym c ∙ t) .0) in
+        rw (not-short, sym spelling-is ∙ sym c ∙ t) (refl) ∙ version-right (string-version s k a fit (omega arith))
 
     module _ {m : Bool} (c : m ≡ (eqb k 3 && not (rule s .spelling (part b q x)))) (t : m ≡ false) (bs : all isByte b ≡ true)
-        (fit : fits k a (rule s .rows) ≡ true) where
+        (fit : fits k a (rule s .rows) ≡ true) {o : Bool} (eo : o ≡ wrongVersion (rule s .extra) a) (no : o ≡ false) where
       well-spelt : (eqb (l .kind) 3 && not (rule s .spelling str)) ≡ false
       well-spelt = sym spelling-is ∙ sym c ∙ t
 
@@ -196,7 +208,7 @@ module _ (b : List ℕ) (p : ℕ) (s : Slot) (prev : List ℕ) {k a q : ℕ} (e 
 
       pub is-unordered : {u : Bool} → u ≡ notGreater (rule s .extra) prev (keyOf (part b p x)) → u ≡ true → Refused 11 p ≡ contentAt b p s prev
       unfolding judgeContent
-      is-unordered d v = rw (not-short, well-spelt, sym order-is ∙ sym d ∙ v) (refl) ∙ content-is
+      is-unordered d v = rw (not-short, well-spelt, sym order-is ∙ sym d ∙ v) (refl) ∙ version-right (sym eo ∙ no)
 
       module _ {u : Bool} (d : u ≡ notGreater (rule s .extra) prev (keyOf (part b p x))) (v : u ≡ false) where
         empty-is : isEmpty (rule s .extra) a ≡ isEmpty (rule s .extra) (l .arg)
@@ -204,22 +216,22 @@ module _ (b : List ℕ) (p : ℕ) (s : Slot) (prev : List ℕ) {k a q : ℕ} (e 
 
         pub is-blank : {z : Bool} → z ≡ isEmpty (rule s .extra) a → z ≡ true → Refused 12 p ≡ contentAt b p s prev
         unfolding judgeContent
-        is-blank w j = rw (not-short, well-spelt, sym order-is ∙ sym d ∙ v, sym empty-is ∙ sym w ∙ j) (refl) ∙ content-is
+        is-blank w j = rw (not-short, well-spelt, sym order-is ∙ sym d ∙ v, sym empty-is ∙ sym w ∙ j) (refl) ∙ version-right (sym eo ∙ no)
 
         pub is-taken : {z : Bool} → z ≡ isEmpty (rule s .extra) a → z ≡ false → Taken k a x ≡ contentAt b p s prev
         unfolding judgeContent
         is-taken w j =
             let st = stands b p k a q e in
-            let o : p + (size l + length str) ≡ x
+            let z : p + (size l + length str) ≡ x
             = omega (arith, st .next-is, en .end-is, length-take-le (stringSize l) (drop (size l) (drop p b)) (en .there)) in
-            rw (not-short, well-spelt, sym order-is ∙ sym d ∙ v, sym empty-is ∙ sym w ∙ j, o, st .kind-is, st .arg-is) (refl) ∙ content-is
+            rw (not-short, well-spelt, sym order-is ∙ sym d ∙ v, sym empty-is ∙ sym w ∙ j, z, st .kind-is, st .arg-is) (refl) ∙ version-right (sym eo ∙ no)
 
 -- a slot with no test of its own
 pub is-plain : (b : List ℕ) (p i : ℕ) (prev : List ℕ) {k a q : ℕ} → headAt b p ≡ Good k a q → q ≤ length b → {y : End} → y ≡ stringEnd b k a q
     → {x : ℕ} → y ≡ At x → {m : Bool} → m ≡ (eqb k 3 && not (rule (slotOf i) .spelling (part b q x))) → m ≡ false → all isByte b ≡ true
     → fits k a (rule (slotOf i) .rows) ≡ true → {o : ℕ} → o ≡ extraOf i → o ≡ 0 → Taken k a x ≡ contentAt b p (slotOf i) prev
 is-plain b p i prev {k} {a} {q} e n g {x} f c t bs fit {o} eo z =
-    is-taken b p (slotOf i) prev e n g f c t bs fit (no-key i eo (λ u. omega arith) prev (keyOf (part b p x))) refl (filled-other i eo (λ u. omega arith) a) refl
+    is-taken b p (slotOf i) prev e n g f c t bs fit (version-other i eo (λ u. omega arith) a) refl (no-key i eo (λ u. omega arith) prev (keyOf (part b p x))) refl (filled-other i eo (λ u. omega arith) a) refl
 
 -- the tests 2 to 8
 module _ (b : List ℕ) (p i : ℕ) (prev : List ℕ) (c items d : ℕ) where
@@ -265,21 +277,14 @@ module _ (b : List ℕ) (p i : ℕ) (prev : List ℕ) (c items d : ℕ) where
         unfolding judge
         stop-fits u = rw (spare, deep-is ∙ t, fits-is ∙ not-true y u) (refl) ∙ here-is
 
-        module _ (u : not y ≡ false) {z : Bool} (ez : z ≡ wrongVersion (rule (slotOf i) .extra) a) where
-          version-is : wrongVersion (rule (slotOf i) .extra) (st .lead .arg) ≡ z
-          version-is = rw (st .arg-is) (sym ez)
-
-          pub stop-version : z ≡ true → Refused 8 p ≡ here
+        module _ (u : not y ≡ false) where
+          judge-content : judge (items - c) d (slotOf i) prev (st .lead) (drop (size (st .lead)) (drop p b))
+              ≡ cond (wrongVersion (rule (slotOf i) .extra) (st .lead .arg)) (reader.no 8) (judgeContent (slotOf i) prev (st .lead) (drop (size (st .lead)) (drop p b)))
           unfolding judge
-          stop-version w = rw (spare, deep-is ∙ t, fits-is ∙ not-false y u, version-is ∙ w) (refl) ∙ here-is
+          judge-content = rw (spare, deep-is ∙ t, fits-is ∙ not-false y u)
 
-          judge-content : z ≡ false → judge (items - c) d (slotOf i) prev (st .lead) (drop (size (st .lead)) (drop p b))
-              ≡ judgeContent (slotOf i) prev (st .lead) (drop (size (st .lead)) (drop p b))
-          unfolding judge judgeContent
-          judge-content w = rw (spare, deep-is ∙ t, fits-is ∙ not-false y u, version-is ∙ w)
-
-          pub goes-on : z ≡ false → {r : Step} → r ≡ contentAt b p (slotOf i) prev → r ≡ here
-          goes-on w {r} f = f ∙ sym (content-is b p (slotOf i) prev (sym e ∙ g)) ∙ ap (stepAnswer p) (sym (judge-content w)) ∙ here-is
+          pub goes-on : {r : Step} → r ≡ contentAt b p (slotOf i) prev → r ≡ here
+          goes-on {r} f = f ∙ sym (content-is b p (slotOf i) prev (sym e ∙ g)) ∙ ap (stepAnswer p) (sym judge-content) ∙ here-is
 
 -- the key before, by its ends
 pub key-at : (b : List ℕ) (f t : ℕ) → f ≤ t → t ≤ length b → keyAt b f t ≡ part b f t
@@ -335,6 +340,6 @@ content-bounded b p c items d i k a q h n t kk u (Refused r x) f = tt
 
 pub ruleset head-shown = (good-head, fit-shown, unread)
 
-pub ruleset head-ways = (stop-head, stop-items, stop-deep, stop-fits, stop-version, goes-on)
+pub ruleset head-ways = (stop-head, stop-items, stop-deep, stop-fits, goes-on)
 
-pub ruleset content-ways = (is-short, is-misspelt, is-unordered, is-blank, is-taken, is-plain, end-in, end-on, end-past, fits-slot)
+pub ruleset content-ways = (is-short, is-misspelt, is-versioned, is-unordered, is-blank, is-taken, is-plain, end-in, end-on, end-past, fits-slot)

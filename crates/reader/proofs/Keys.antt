@@ -14,7 +14,7 @@ use Rattle.cbor.specs.Byte.{below}
 use Rattle.cbor.specs.Utf8.{utf8}
 use Rattle.ari.specs.Name.{identifier, namespaceName}
 use Rattle.cbor.specs.Head.{Lead, size, leadBytes, shortBytes, isContainer, Got, got, getHead, stringSize, keyOf}
-use Rattle.buffer.proofs.ByteLaws.{and-true, or-true, all-take, all-drop}
+use Rattle.buffer.proofs.ByteLaws.{and-true, or-true, or-nil, all-take, all-drop}
 use Rattle.cbor.proofs.HeadLaws.{length-lead, getHead-back, getHead-forth}
 use Rattle.cbor.proofs.OrderWays.{key-got}
 use Rattle.ari.specs.Table.{Place, Slot, version, ari, type, value, namespace, objectNamespace, objectType, objectId, params, key, entry, nonce, setTime, target, report, reportTime, reportSource, ExtraTest, none, one, rising, filled, Rule, rule, fits, max64, max63}
@@ -111,6 +111,27 @@ ordered-kind target k a o e = absurd (unordered o refl)
 ordered-kind report k a o e = absurd (unordered o refl)
 ordered-kind reportTime k a o e = absurd (unordered o refl)
 ordered-kind reportSource k a o e = absurd (unordered o refl)
+
+-- only the version asks for 1, and it is no string
+pub string-version : (s : Slot) (k a : ℕ) → fits k a (rule s .rows) ≡ true → 2 ≤ k → wrongVersion (rule s .extra) a ≡ false
+unfolding rule
+string-version version k a e h = absurd (let z : k ≡ 0 = eqb-true k 0 (and-true (eqb k 0) (within 0 max64 a) (or-nil (eqb k 0 && within 0 max64 a) e) .0) in omega arith)
+string-version (ari w) k a e h = refl
+string-version (type w) k a e h = refl
+string-version (value t w) k a e h = refl
+string-version namespace k a e h = refl
+string-version (objectNamespace p) k a e h = refl
+string-version (objectType p) k a e h = refl
+string-version (objectId p) k a e h = refl
+string-version params k a e h = refl
+string-version (key w) k a e h = refl
+string-version (entry w) k a e h = refl
+string-version (nonce t) k a e h = refl
+string-version setTime k a e h = refl
+string-version target k a e h = refl
+string-version report k a e h = refl
+string-version reportTime k a e h = refl
+string-version reportSource k a e h = refl
 
 -- a key is ordered by its head and its string, as they stand in the input
 pub key-bytes : (b : List ℕ) (p : ℕ) (l : Lead) → all isByte b ≡ true → getHead (drop p b) ≡ got l → l .kind ≤ 5

@@ -9,3 +9,5 @@ pub mod Fixed
 pub mod Kept
 pub mod Alone
 pub mod Plain
+pub mod Quick
+pub mod Last

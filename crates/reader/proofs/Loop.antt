@@ -40,12 +40,12 @@ unfolding members
 inside-is s l = refl
 
 -- What is due at p after the key before leads on: whatever ends it from here ends the whole from where the level began.
-pub record Leads (b : List ℕ) (items : ℕ) (s₀ : Slot) (n₀ : ℕ) (prev₀ : List ℕ) (d around p₀ c₀ : ℕ) (t₀ : List ℕ) (s : Slot) (n : ℕ) (prev : List ℕ) (p c : ℕ)
-    (t : List ℕ) : Type 0 where
-  pub then : {v : Walk} {z : List ℕ} → Walked b items (due s n) prev d around p c v t z → Walked b items (due s₀ n₀) prev₀ d around p₀ c₀ v t₀ z
+pub record Leads (b : List ℕ) (items : ℕ) (s₀ : Slot) (n₀ : ℕ) (prev₀ : List ℕ) (d₀ around₀ p₀ c₀ : ℕ) (t₀ : List ℕ) (s : Slot) (n : ℕ) (prev : List ℕ)
+    (d around p c : ℕ) (t : List ℕ) : Type 0 where
+  pub then : {v : Walk} {z : List ℕ} → Walked b items (due s n) prev d around p c v t z → Walked b items (due s₀ n₀) prev₀ d₀ around₀ p₀ c₀ v t₀ z
 
 -- where a level begins there is no key before
-pub begins : (b : List ℕ) (items : ℕ) (s : Slot) (n d around p c : ℕ) (t : List ℕ) → Leads b items s n [] d around p c t s n (keyOf (part b 0 0)) p c t
+pub begins : (b : List ℕ) (items : ℕ) (s : Slot) (n d around p c : ℕ) (t : List ℕ) → Leads b items s n [] d around p c t s n (keyOf (part b 0 0)) d around p c t
 unfolding keyOf getHead
 begins b items s n d around p c t = record { then = λ w. w }
 
@@ -66,12 +66,12 @@ key-span b one f t p q kb e = refl
 key-span b rising f t p q kb e = e refl
 key-span b filled f t p q kb e = refl
 
-module _ (b : List ℕ) (bs : all isByte b ≡ true) (items : ℕ) (s₀ : Slot) (n₀ : ℕ) (prev₀ : List ℕ) (d around p₀ c₀ : ℕ) (t₀ : List ℕ)
-    (i n f t p c : ℕ) (tab : List ℕ) (v : IsSlot i)
-    (lead : Leads b items s₀ n₀ prev₀ d around p₀ c₀ t₀ (slotOf i) n (keyOf (part b f t)) p c tab)
+module _ (b : List ℕ) (bs : all isByte b ≡ true) (items : ℕ) (s₀ : Slot) (n₀ : ℕ) (prev₀ : List ℕ) (d₀ around₀ p₀ c₀ : ℕ) (t₀ : List ℕ)
+    (i n f t d around p c : ℕ) (tab : List ℕ) (v : IsSlot i)
+    (lead : Leads b items s₀ n₀ prev₀ d₀ around₀ p₀ c₀ t₀ (slotOf i) n (keyOf (part b f t)) d around p c tab)
     {x : Step} (e : x ≡ stepAt b p (slotOf i) (keyOf (part b f t)) (items - c) d) where
   -- the head is refused
-  pub halts : {r y : ℕ} → x ≡ step.Refused r y → {w : Walk} → w ≡ stoppedOf x → {z : List ℕ} → Walked b items (due s₀ n₀) prev₀ d around p₀ c₀ w t₀ z
+  pub halts : {r y : ℕ} → x ≡ step.Refused r y → {w : Walk} → w ≡ stoppedOf x → {z : List ℕ} → Walked b items (due s₀ n₀) prev₀ d₀ around₀ p₀ c₀ w t₀ z
   halts {r} {y} q {w} g {z} =
       rw (g, q) (lead .then (stopped b items (slotOf i) n (keyOf (part b f t)) d around p c r y tab z (sym e ∙ q)))
 
@@ -90,14 +90,14 @@ module _ (b : List ℕ) (bs : all isByte b ≡ true) (items : ℕ) (s₀ : Slot)
         omega (arith, ap length (tk .passed .string), length-take-le (stringSize (tk .lead)) r (tk .passed .there), tk .after-is))
 
     -- a member is refused
-    pub breaks : {r y : ℕ} → w ≡ Refused r y → {z : List ℕ} → Walked b items (due s₀ n₀) prev₀ d around p₀ c₀ w t₀ z
+    pub breaks : {r y : ℕ} → w ≡ Refused r y → {z : List ℕ} → Walked b items (due s₀ n₀) prev₀ d₀ around₀ p₀ c₀ w t₀ z
     breaks {r} {y} g {z} =
         rw g (lead .then (broken b bs items (slotOf i) n (keyOf (part b f t)) d around p c k a q₀ tk (rw g at walked)))
 
     module _ {q₁ e₁ : ℕ} (g : w ≡ Read q₁ e₁) {tab₂ : List ℕ} (put : tab₂ ≡ set tab₁ c (packed p q₁ around i (headBy i k a (q₀ - p)))) where
       -- what follows the item ends the level
       item : {u : Walk} {z : List ℕ} → Walked b items (rule (slotOf i) .next (tk .lead .arg) n) (prevAfter (slotOf i) (keyOf (part b f t)) (tk .lead) (tk .str)) d around q₁ e₁ u tab₂ z
-          → Walked b items (due s₀ n₀) prev₀ d around p₀ c₀ u t₀ z
+          → Walked b items (due s₀ n₀) prev₀ d₀ around₀ p₀ c₀ u t₀ z
       item y =
           lead .then (onward b bs items (slotOf i) n (keyOf (part b f t)) d around p c k a q₀ tk (rw g at walked) (put ∙ rw (number-slot i v, head-is)) y)
 
@@ -105,7 +105,7 @@ module _ (b : List ℕ) (bs : all isByte b ≡ true) (items : ℕ) (s₀ : Slot)
         next-is : levelOf nx ≡ rule (slotOf i) .next (tk .lead .arg) n
         next-is = rw (nn, tk .arg-is) (next-right i k a n v kk fit .level)
 
-        pub ends : nx ≡ Done → q₁ ≤ length b → e₁ ≤ items → Walked b items (due s₀ n₀) prev₀ d around p₀ c₀ (Read q₁ e₁) t₀ tab₂
+        pub ends : nx ≡ Done → q₁ ≤ length b → e₁ ≤ items → Walked b items (due s₀ n₀) prev₀ d₀ around₀ p₀ c₀ (Read q₁ e₁) t₀ tab₂
         ends z h h′ =
             item (rw (← next-is, z) (ended b items _ d around q₁ e₁ tab₂ h h′))
 
@@ -113,7 +113,7 @@ module _ (b : List ℕ) (bs : all isByte b ≡ true) (items : ℕ) (s₀ : Slot)
         next-slotted z = let s = next-right i k a n v kk fit .slotted in rw (← nn, z) at s
 
         pub again : {j m′ : ℕ} → nx ≡ Due j m′ → {f′ t′ : ℕ} → f′ ≡ keySpan (rule (slotOf i) .extra) f p → t′ ≡ keySpan (rule (slotOf i) .extra) t q₀
-            → Leads b items s₀ n₀ prev₀ d around p₀ c₀ t₀ (slotOf j) m′ (keyOf (part b f′ t′)) q₁ e₁ tab₂
+            → Leads b items s₀ n₀ prev₀ d₀ around₀ p₀ c₀ t₀ (slotOf j) m′ (keyOf (part b f′ t′)) d around q₁ e₁ tab₂
         again {j} {m′} z {f′} {t′} ef et =
             let kp : rule (slotOf i) .extra ≡ rising → keyBytes (tk .lead) (tk .str) ≡ keyOf (part b p q₀) = λ o.
             key-part b bs (items - c) (slotOf i) (keyOf (part b f t)) d p k a q₀ tk (ordered-kind (slotOf i) (tk .lead .kind) (tk .lead .arg) o (tk .passed .fitting)) in
@@ -122,14 +122,14 @@ module _ (b : List ℕ) (bs : all isByte b ≡ true) (items : ℕ) (s₀ : Slot)
             record { then = λ y. item (rw (← next-is, z, pv) y) }
 
 -- A walk over the first head alone is in its first turn.
-pub record First (alone : Bool) (s₀ p₀ c₀ f t s p c : ℕ) : Type 0 where
-  pub first : alone ≡ true → (s ≡ s₀) × (p ≡ p₀) × (c ≡ c₀) × (f ≡ 0) × (t ≡ 0)
+pub record First (alone : Bool) (s₀ d₀ p₀ c₀ f t s d p c : ℕ) : Type 0 where
+  pub first : alone ≡ true → (s ≡ s₀) × (p ≡ p₀) × (c ≡ c₀) × (f ≡ 0) × (t ≡ 0) × (d ≡ d₀)
 
-pub first-turn : (alone : Bool) (s p c : ℕ) → First alone s p c 0 0 s p c
-first-turn alone s p c = record { first = λ e. (refl, refl, refl, refl, refl) }
+pub first-turn : (alone : Bool) (s d p c : ℕ) → First alone s d p c 0 0 s d p c
+first-turn alone s d p c = record { first = λ e. (refl, refl, refl, refl, refl, refl) }
 
-pub later-turn : (alone : Bool) (s₀ p₀ c₀ f t s p c : ℕ) → alone ≡ false → First alone s₀ p₀ c₀ f t s p c
-later-turn alone s₀ p₀ c₀ f t s p c e = record { first = λ g. absurd (true≢false (sym g ∙ e)) }
+pub later-turn : {alone : Bool} → alone ≡ false → {s₀ d₀ p₀ c₀ f t s d p c : ℕ} → First alone s₀ d₀ p₀ c₀ f t s d p c
+later-turn e = record { first = λ g. absurd (true≢false (sym g ∙ e)) }
 
 -- a level that is walked
 pub levelled : {b : List ℕ} {items : ℕ} {s : Slot} {n d around p c : ℕ} {w : Walk} {t t′ : List ℕ} → WalkedBy false b items s n d around p c w t t′
@@ -140,22 +140,22 @@ pub on-level : {alone : Bool} → alone ≡ false → {b : List ℕ} {items : �
     → Walked b items (due s n) [] d around p c w t t′ → WalkedBy alone b items s n d around p c w t t′
 on-level e v = record { level = λ _. v; head = λ g. absurd (true≢false (sym g ∙ e)) }
 
-module _ {alone : Bool} (b : List ℕ) (items i₀ n₀ d around p₀ c₀ : ℕ) (t₀ : List ℕ) {i f t p c : ℕ} (first : First alone i₀ p₀ c₀ f t i p c)
+module _ {alone : Bool} (b : List ℕ) (items i₀ n₀ d₀ around p₀ c₀ : ℕ) (t₀ : List ℕ) {i f t d p c : ℕ} (first : First alone i₀ d₀ p₀ c₀ f t i d p c)
     {x : Step} (e : x ≡ stepAt b p (slotOf i) (keyOf (part b f t)) (items - c) d) where
-  here : alone ≡ true → x ≡ stepAt b p₀ (slotOf i₀) [] (items - c₀) d
+  here : alone ≡ true → x ≡ stepAt b p₀ (slotOf i₀) [] (items - c₀) d₀
   unfolding keyOf getHead
-  here g = let (y₁, y₂, y₃, y₄, y₅) = first .first g in rw (y₁, y₂, y₃, y₄, y₅) at e
+  here g = let (y₁, y₂, y₃, y₄, y₅, y₆) = first .first g in rw (y₁, y₂, y₃, y₄, y₅, y₆) at e
 
   -- the head is taken, and nothing else is asked
-  pub head-alone : alone ≡ true → {k a q : ℕ} → x ≡ Taken k a q → {z : List ℕ} → WalkedBy alone b items (slotOf i₀) n₀ d around p₀ c₀ (Read q (c + 1)) t₀ z
+  pub head-alone : alone ≡ true → {k a q : ℕ} → x ≡ Taken k a q → {z : List ℕ} → WalkedBy alone b items (slotOf i₀) n₀ d₀ around p₀ c₀ (Read q (c + 1)) t₀ z
   head-alone g {k} {a} {q} u = record {
     level = λ n. absurd (true≢false (sym g ∙ n));
-    head = λ _. let (y₁, y₂, y₃, y₄, y₅) = first .first g in rw (← here g, u, y₃);
+    head = λ _. let y₃ = first .first g .2 in rw (← here g, u, y₃);
   }
 
   -- or refused, alone or not
-  pub stops : {r y : ℕ} → x ≡ step.Refused r y → {w : Walk} → w ≡ stoppedOf x → {z : List ℕ} → Walked b items (due (slotOf i₀) n₀) [] d around p₀ c₀ w t₀ z
-      → WalkedBy alone b items (slotOf i₀) n₀ d around p₀ c₀ w t₀ z
+  pub stops : {r y : ℕ} → x ≡ step.Refused r y → {w : Walk} → w ≡ stoppedOf x → {z : List ℕ} → Walked b items (due (slotOf i₀) n₀) [] d₀ around p₀ c₀ w t₀ z
+      → WalkedBy alone b items (slotOf i₀) n₀ d₀ around p₀ c₀ w t₀ z
   stops u v level = record { level = λ _. level; head = λ g. v ∙ rw (← here g, u) }
 
 pub ruleset turns = (begins, halts, breaks, ends, again, next-slotted)

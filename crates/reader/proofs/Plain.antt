@@ -52,9 +52,9 @@ module _ (i k : ℕ) where
 pub ruleset plain-ways = (plain-below, plain-above)
 
 -- The turn that such a head ends: its level, or what is due next.
-module _ (b : List ℕ) (bs : all isByte b ≡ true) (items : ℕ) (s₀ : Slot) (n₀ : ℕ) (prev₀ : List ℕ) (d around p₀ c₀ : ℕ) (t₀ : List ℕ)
-    (i n f t p c : ℕ) (tab : List ℕ) (v : IsSlot i)
-    (lead : Leads b items s₀ n₀ prev₀ d around p₀ c₀ t₀ (slotOf i) n (keyOf (part b f t)) p c tab)
+module _ (b : List ℕ) (bs : all isByte b ≡ true) (items : ℕ) (s₀ : Slot) (n₀ : ℕ) (prev₀ : List ℕ) (d₀ around₀ p₀ c₀ : ℕ) (t₀ : List ℕ)
+    (i n f t d around p c : ℕ) (tab : List ℕ) (v : IsSlot i)
+    (lead : Leads b items s₀ n₀ prev₀ d₀ around₀ p₀ c₀ t₀ (slotOf i) n (keyOf (part b f t)) d around p c tab)
     {x : Step} (e : x ≡ stepAt b p (slotOf i) (keyOf (part b f t)) (items - c) d) (h : Bounded b p c items d i x) {k a q₀ : ℕ} (q : x ≡ Taken k a q₀)
     {r : Bool} (y : r ≡ (ltb k 4 && eqb (extraOf i) 0)) (u : r ≡ true) {tab₂ : List ℕ} (put : tab₂ ≡ set tab c (packed p q₀ around i 0))
     {nx : Next} (nn : nx ≡ nextCode i a n) where
@@ -64,14 +64,14 @@ module _ (b : List ℕ) (bs : all isByte b ≡ true) (items : ℕ) (s₀ : Slot)
   kept : tab₂ ≡ set tab c (packed p q₀ around i (headBy i k a (q₀ - p)))
   kept = put ∙ rw (leaf-head i k a (q₀ - p) (plain i k y u .0))
 
-  pub plain-ends : nx ≡ Done → Walked b items (due s₀ n₀) prev₀ d around p₀ c₀ (Read q₀ (c + 1)) t₀ tab₂
+  pub plain-ends : nx ≡ Done → Walked b items (due s₀ n₀) prev₀ d₀ around₀ p₀ c₀ (Read q₀ (c + 1)) t₀ tab₂
   plain-ends z =
-      ends b bs items s₀ n₀ prev₀ d around p₀ c₀ t₀ i n f t p c tab v lead e q nothing refl kept (taken-kind b p c items d i h q) (taken-fits b p c items d i h q) nn z (taken-in b p c items d i h q) (taken-more b p c items d i h q)
+      ends b bs items s₀ n₀ prev₀ d₀ around₀ p₀ c₀ t₀ i n f t d around p c tab v lead e q nothing refl kept (taken-kind b p c items d i h q) (taken-fits b p c items d i h q) nn z (taken-in b p c items d i h q) (taken-more b p c items d i h q)
 
   pub plain-slotted : {j m : ℕ} → nx ≡ Due j m → IsSlot j
   plain-slotted z =
-      next-slotted b bs items s₀ n₀ prev₀ d around p₀ c₀ t₀ i n f t p c tab v lead e q nothing refl kept (taken-kind b p c items d i h q) (taken-fits b p c items d i h q) nn z
+      next-slotted b bs items s₀ n₀ prev₀ d₀ around₀ p₀ c₀ t₀ i n f t d around p c tab v lead e q nothing refl kept (taken-kind b p c items d i h q) (taken-fits b p c items d i h q) nn z
 
-  pub plain-again : {j m : ℕ} → nx ≡ Due j m → Leads b items s₀ n₀ prev₀ d around p₀ c₀ t₀ (slotOf j) m (keyOf (part b f t)) q₀ (c + 1) tab₂
+  pub plain-again : {j m : ℕ} → nx ≡ Due j m → Leads b items s₀ n₀ prev₀ d₀ around₀ p₀ c₀ t₀ (slotOf j) m (keyOf (part b f t)) d around q₀ (c + 1) tab₂
   plain-again z =
-      again b bs items s₀ n₀ prev₀ d around p₀ c₀ t₀ i n f t p c tab v lead e q nothing refl kept (taken-kind b p c items d i h q) (taken-fits b p c items d i h q) nn z (plain-span i k y u f p) (plain-span i k y u t q₀)
+      again b bs items s₀ n₀ prev₀ d₀ around₀ p₀ c₀ t₀ i n f t d around p c tab v lead e q nothing refl kept (taken-kind b p c items d i h q) (taken-fits b p c items d i h q) nn z (plain-span i k y u f p) (plain-span i k y u t q₀)

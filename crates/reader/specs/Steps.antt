@@ -11,11 +11,12 @@ use Rattle.cbor.specs.declared.Head.the-variants as cbors
 use Rattle.cbor.specs.Head.{text, Lead, size, Got, bad, got, getHead, stringSize, isContainer}
 use Rattle.ari.specs.Table.{Slot, ExtraTest, none, one, rising, filled, rule}
 use Rattle.cbor.specs.Head.{keyBytes}
-use Rattle.ari.specs.Reader.{notGreater, isEmpty, judgeContent, judgeGot}
+use Rattle.ari.specs.Reader.{wrongVersion, notGreater, isEmpty, judgeContent, judgeGot}
 use Rattle.ari.specs.Reader as reader
 use Rattle.reader.specs.declared.Step.{Step}
 use Rattle.reader.specs.declared.Step.the-variants.{Taken, Refused}
 use Rattle.grammar.specs.Code.{fitsCode}
+use Rattle.grammar.specs.Words.{takesNumber}
 use Rattle.reader.specs.declared.Walk.{Walk}
 use Rattle.reader.specs.declared.Walk.the-variants as walk
 use Rattle.reader.specs.declared.End.{End}
@@ -42,10 +43,10 @@ stepAnswer p (reader.yes l str) = Taken (l .kind) (l .arg) (p + (size l + length
 unfoldable pub stepAt : List ℕ → ℕ → Slot → List ℕ → ℕ → ℕ → Step
 stepAt b p s prev left d = stepAnswer p (judgeGot left d s prev (getHead (drop p b)) (drop p b))
 
--- the tests 9 to 12 alone
+-- the tests 8 to 12 alone
 unfoldable pub contentGot : Slot → List ℕ → Got → List ℕ → reader.Step
 contentGot s prev (bad r) b = reader.no r
-contentGot s prev (got l) b = judgeContent s prev l (drop (size l) b)
+contentGot s prev (got l) b = cond (wrongVersion (rule s .extra) (l .arg)) (reader.no 8) (judgeContent s prev l (drop (size l) b))
 
 unfoldable pub contentAt : List ℕ → ℕ → Slot → List ℕ → Step
 contentAt b p s prev = stepAnswer p (contentGot s prev (getHead (drop p b)) (drop p b))
@@ -56,7 +57,7 @@ Bounded b p c items d i (Taken k a q) =
     (p < q) × (q ≤ length b) × (c < items) × ((isContainer k && eqb d 0) ≡ false) × (k ≤ 9) × (fitsCode i k a ≡ true)
 Bounded b p c items d i (Refused r x) = Unit {0}
 
--- what the tests 9 to 12 leave of a head that passed them
+-- what the tests 8 to 12 leave of a head that passed them
 abbrev pub ContentShown : List ℕ → ℕ → ℕ → ℕ → Step → Type 0
 ContentShown b k a n (Taken k′ a′ q) = (k′ ≡ k) × (a′ ≡ a) × (n ≤ q) × (q ≤ length b)
 ContentShown b k a n (Refused r x) = Unit {0}
@@ -77,3 +78,9 @@ keySpan none old new = old
 keySpan one old new = old
 keySpan rising old new = new
 keySpan filled old new = old
+
+-- a number of one byte stands at p, and the slot takes it with nothing else to be asked
+pub record Quick (b : List ℕ) (p i c items : ℕ) : Type 0 where
+  pub there : p < length b
+  pub few : c < items
+  pub taken : takesNumber i (getD b p 0) ≡ true

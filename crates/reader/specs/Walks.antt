@@ -10,6 +10,9 @@ use Rattle.ari.specs.Table.{Slot, Level, done, due, members}
 use Rattle.ari.specs.Reader.{Dues, end, sets, push, Answer, refuse, accept, run}
 use Rattle.ari.specs.Items.{Items, encode, heads, Spot, spots}
 use Rattle.ari.specs.Due.{Due}
+use Rattle.grammar.specs.declared.Next.{Next}
+use Rattle.grammar.specs.declared.Next.the-variants as next
+use Rattle.grammar.specs.Code.{IsSlot, nextCode}
 use Rattle.item_table.specs.Entries.{entryOf}
 use Rattle.reader.specs.declared.Step.{Step}
 use Rattle.reader.specs.declared.Step.the-variants.{Taken}
@@ -49,6 +52,16 @@ OnRead b items v prev d around p c (Refused r x) t t′ = Unit {0}
 pub record Walked (b : List ℕ) (items : ℕ) (v : Level) (prev : List ℕ) (d around p c : ℕ) (w : Walk) (t t′ : List ℕ) : Type 0 where
   pub runs : (ds : Dues) → run (items - c) (push v prev d ds) p (drop p b) ≡ afterWalk b items w ds
   pub held : OnRead b items v prev d around p c w t t′
+
+-- what is due inside a head can be walked: it names a slot, and a container more may be opened
+abbrev pub Opens : Next → ℕ → Type 0
+Opens next.Done d = Unit {0}
+Opens (next.Due i n) d = IsSlot i × (0 < d)
+
+-- what is due inside a head behind which nothing is due at the slot, where the table has no room for its entry
+abbrev pub LastShown : ℕ → ℕ → ℕ → ℕ → ℕ → Next → Next → Type 0
+LastShown i a n room c inner next.Done = Unit {0}
+LastShown i a n room c inner (next.Due j m) = (inner ≡ next.Due j m) × (nextCode i a n ≡ next.Done) × (room ≤ c)
 
 -- one head, as a walk over it alone
 abbrev pub headWalk : ℕ → Step → Walk

@@ -14,11 +14,11 @@ ghost use Rattle.ari.specs.Table.{rule, due};
 ghost use Rattle.grammar.specs.Code.{fitsCode, extraOf};
 ghost use Rattle.ari.specs.Reader.{wrongVersion, notGreater, isEmpty};
 ghost use Rattle.grammar.specs.Code.{slotOf};
-ghost use Rattle.grammar.specs.Code.{IsSlot, spelledAs, nextCode};
+ghost use Rattle.grammar.specs.Code.{IsSlot, levelOf, spelledAs, nextCode};
 ghost use Rattle.grammar.specs.Words.{WordOf};
 ghost use Rattle.buffer.specs.Bytes.{part};
-ghost use Rattle.reader.specs.Steps.{standsAt, stringEnd, keyAt, stepAt, contentAt, ContentShown, noHead, stoppedOf, Bounded, keySpan};
-ghost use Rattle.reader.specs.Walks.{insideLevel, Walked, headWalk, unwalkedOf, WalkedBy, SetsWalked};
+ghost use Rattle.reader.specs.Steps.{standsAt, stringEnd, keyAt, stepAt, contentAt, ContentShown, noHead, stoppedOf, Bounded, keySpan, Quick};
+ghost use Rattle.reader.specs.Walks.{Walked, headWalk, unwalkedOf, WalkedBy, SetsWalked, Opens, LastShown};
 ghost use Rattle.ari.specs.declared.Input.the-variants.{Single, Message};
 ghost use Rattle.ari.specs.Reader.{read};
 ghost use Rattle.ari.specs.Limits.{gateLimits};
@@ -171,7 +171,18 @@ fn is_empty(slot: u64, extra: u64, arg: u64) -> bool
     false
 }
 
-// The tests 9 to 12. Most slots have no test of their own: 11 and 12 are not theirs.
+// Test 11 where it is the slot's: what asks nothing of keys calls nothing.
+fn is_unordered(s: &[u8], slot: u64, extra: u64, prev: Span, at: usize, end: usize) -> bool
+    requires { ⌜ (extra ≡ extraOf slot) × (prev .from ≤ prev .to) × (prev .to ≤ length (now s)) × (at ≤ end) × (end ≤ length (now s)) ⌝ }
+    ensures { λ r. ⌜ r ≡ notGreater (rule (slotOf slot) .extra) (keyOf (part (now (s .entry)) (prev .from) (prev .to))) (keyOf (part (now (s .entry)) at end)) ⌝ }
+{
+    if extra == grammar::KEY_TEST {
+        return is_not_greater(s, slot, extra, prev, at, end);
+    }
+    false
+}
+
+// The tests 8 to 12. Most slots have no test of their own: 8, 11 and 12 are not theirs. Where 8 is the slot's no string is taken, so 9 and 10 may come first.
 fn judge_content(
     s: &[u8],
     at: usize,
@@ -208,7 +219,13 @@ fn judge_content(
             after: end,
         };
     }
-    if is_not_greater(s, slot, extra, prev, at, end) {
+    if wrong_version(slot, extra, arg) {
+        return Step::Refused {
+            number: 8,
+            place: at,
+        };
+    }
+    if is_unordered(s, slot, extra, prev, at, end) {
         return Step::Refused {
             number: 11,
             place: at,
@@ -295,12 +312,6 @@ fn take_head(
         };
     }
     let extra = extra_at(slot, word);
-    if wrong_version(slot, extra, arg) {
-        return Step::Refused {
-            number: 8,
-            place: at,
-        };
-    }
     judge_content(s, at, slot, word, extra, prev, kind, arg, next)
 }
 
@@ -360,7 +371,53 @@ fn is_plain(slot: u64, word: u64, kind: u8) -> bool
     false
 }
 
-// The members of a head at a slot: a container is opened, and what it holds is walked.
+fn wide(x: u8) -> u64
+    ensures { λ r. ⌜ r ≡ x ⌝ }
+{
+    x as u64
+}
+
+// A number of one byte stands at a place, and the slot, with no test of its own, takes it: most heads are such.
+fn is_quick(s: &[u8], at: usize, slot: u64, count: usize, items: usize) -> bool
+    ensures { λ r. ⌜ (r ≡ true → Quick (now (s .entry)) at slot count items) ⌝ }
+{
+    if s.len() <= at {
+        return false;
+    }
+    if count >= items {
+        return false;
+    }
+    grammar::takes_number(slot, s[at])
+}
+
+// What is inside a container that is the last of its level, where its entry has no room in the table: then nothing is left to do behind it, and the walk
+// goes on inside with no call.
+fn last_inside(
+    slot: u64,
+    word: u64,
+    arg: u64,
+    more: u64,
+    room: usize,
+    count: usize,
+    inner: grammar::Next,
+) -> grammar::Next
+    requires { ⌜ WordOf slot word ⌝ }
+    ensures { λ r. ⌜ LastShown slot arg more room count inner r ⌝ }
+{
+    let grammar::Next::Due { slot: a, more: b } = inner else {
+        return grammar::Next::Done;
+    };
+    if count < room {
+        return grammar::Next::Done;
+    }
+    let n = next_at(slot, word, arg, more);
+    match n {
+        grammar::Next::Done => grammar::Next::Due { slot: a, more: b },
+        grammar::Next::Due { slot: _, more: _ } => grammar::Next::Done,
+    }
+}
+
+// What is due inside a head: nothing, or a level that is walked with a container more around it.
 fn walk_inside(
     s: &[u8],
     at: usize,
@@ -368,19 +425,15 @@ fn walk_inside(
     items: usize,
     depth: usize,
     around: usize,
-    slot: u64,
-    kind: u8,
-    arg: u64,
+    inner: grammar::Next,
     entries: &mut [u64],
 ) -> Walk
-    requires { ⌜ (all isByte (now s) ≡ true) × (depth + around < 2 ^ 64) × IsSlot slot × (at ≤ length (now s)) × (count ≤ items) ⌝ }
-    requires { ⌜ (isContainer kind && eqb depth 0) ≡ false ⌝ }
-    ensures { λ r. ⌜ Walked (now (s .entry)) items (insideLevel (slotOf slot) kind arg) [] (pred depth) (suc around) at count r (now (entries .entry)) (now (entries .exit)) ⌝ }
+    requires { ⌜ (all isByte (now s) ≡ true) × (depth + around < 2 ^ 64) × Opens inner depth × (at ≤ length (now s)) × (count ≤ items) ⌝ }
+    ensures { λ r. ⌜ Walked (now (s .entry)) items (levelOf inner) [] (pred depth) (suc around) at count r (now (entries .entry)) (now (entries .exit)) ⌝ }
 {
-    let inner = grammar::inside(slot, kind, arg);
     match inner {
         grammar::Next::Done => Walk::Read { next: at, count },
-        grammar::Next::Due { slot: a, more: b } => {
+        grammar::Next::Due { slot, more } => {
             walk_level(
                 s,
                 at,
@@ -388,8 +441,8 @@ fn walk_inside(
                 items,
                 depth - 1,
                 around + 1,
-                a,
-                b,
+                slot,
+                more,
                 false,
                 entries,
             )
@@ -397,7 +450,7 @@ fn walk_inside(
     }
 }
 
-// The items of a level from the slot on, leaves in the loop, a call for each container; or its first head alone.
+// The items of a level from the slot on, leaves in the loop, a call for each container but the last of its level; or its first head alone.
 fn walk_level(
     s: &[u8],
     at: usize,
@@ -418,9 +471,32 @@ fn walk_level(
     let mut place = slot;
     let mut left = more;
     let mut prev = Span { from: 0, to: 0 };
+    let mut allowed = depth;
+    let mut opened = around;
     loop {
         let word = grammar::walk_word(place);
-        let t = take_head(s, p, place, word, prev, c, items, depth);
+        if is_quick(s, p, place, c, items) {
+            if alone {
+                return Walk::Read {
+                    next: p + 1,
+                    count: c + 1,
+                };
+            }
+            item_table::put_plain(entries, c, p, p + 1, opened, place);
+            let n = next_at(place, word, wide(s[p]) % 32, left);
+            let grammar::Next::Due { slot: a, more: b } = n else {
+                return Walk::Read {
+                    next: p + 1,
+                    count: c + 1,
+                };
+            };
+            p = p + 1;
+            c = c + 1;
+            place = a;
+            left = b;
+            continue;
+        }
+        let t = take_head(s, p, place, word, prev, c, items, allowed);
         let Step::Taken { kind, arg, after } = t else {
             return stopped(t);
         };
@@ -431,7 +507,7 @@ fn walk_level(
             };
         }
         if is_plain(place, word, kind) {
-            item_table::put_plain(entries, c, p, after, around, place);
+            item_table::put_plain(entries, c, p, after, opened, place);
             let n = next_at(place, word, arg, left);
             let grammar::Next::Due { slot: a, more: b } = n else {
                 return Walk::Read {
@@ -445,22 +521,23 @@ fn walk_level(
             left = b;
             continue;
         }
-        let r = walk_inside(
-            s,
-            after,
-            c + 1,
-            items,
-            depth,
-            around,
-            place,
-            kind,
-            arg,
-            entries,
-        );
+        let inner = grammar::inside(place, kind, arg);
+        let last = last_inside(place, word, arg, left, entries.len(), c, inner);
+        if let grammar::Next::Due { slot: a, more: b } = last {
+            p = after;
+            c = c + 1;
+            place = a;
+            left = b;
+            prev = Span { from: 0, to: 0 };
+            allowed = allowed - 1;
+            opened = opened + 1;
+            continue;
+        }
+        let r = walk_inside(s, after, c + 1, items, allowed, opened, inner, entries);
         let Walk::Read { next: q, count: e } = r else {
             return same_walk(r);
         };
-        item_table::put(entries, c, p, q, around, place, kind, arg, after - p);
+        item_table::put(entries, c, p, q, opened, place, kind, arg, after - p);
         prev = key_by(place, extra_at(place, word), prev, p, after);
         let n = next_at(place, word, arg, left);
         let grammar::Next::Due { slot: a, more: b } = n else {

@@ -5,5 +5,4 @@ use Rattle.grammar.proofs.continues_name.Statement.{statement}
 use Rattle.grammar.proofs.continues_name.Tie as tie
 
 pub continues-name-spec : {M : Type 1} → statement M
-continues-name-spec = tie.close (tie.spec (λ c κs. search needs) (λ c. search (names, needs)) (λ c κs. search needs) (λ c. search needs)
-    (λ c. search (names, needs)))
+continues-name-spec = tie.close (tie.spec (λ c κs. search needs) (λ c κs. search needs) (λ c. search needs) (λ c. search (names, needs)))
