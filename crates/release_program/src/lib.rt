@@ -1,8 +1,10 @@
 // What `gate release` and `gate why` do: a message from standard input, judged under the grant table, the lists of names and the subscriber that the arguments
 // name.
 use input_file::Loaded;
+use release::Released;
 use why_held::Link;
 use why_held::Outcome;
+use why_held::Why;
 
 // What is asked of the message.
 pub enum Asked {
@@ -30,22 +32,14 @@ fn show_no(s: &[u8], k: usize, compared: u64, room: &mut [u8], out: &mut [u8]) {
     }
 }
 
-fn judge<'a>(
-    s: &[u8],
-    grants: &[u8],
-    published: &'a [u8],
-    own: &'a [u8],
-    subscriber: u64,
-    room: &mut [u8],
-    out: &mut [u8],
-) {
-    match release::release_message(s, grants, published, own, subscriber) {
-        release::Released::Yes { compared } => {
+fn show_released(s: &[u8], answer: Released, room: &mut [u8], out: &mut [u8]) {
+    match answer {
+        Released::Yes { compared } => {
             let a = buffer::put_all(out, 0, b"yes\n");
             show_compared(out, a, compared);
         }
-        release::Released::No { entry, compared } => show_no(s, entry, compared, room, out),
-        release::Released::Refused { number, place } => print::refusal(out, number, place),
+        Released::No { entry, compared } => show_no(s, entry, compared, room, out),
+        Released::Refused { number, place } => print::refusal(out, number, place),
     }
 }
 
@@ -377,16 +371,15 @@ fn show_held<'a>(
     );
 }
 
-fn explain<'a>(
+fn show_why<'a>(
     s: &[u8],
-    grants: &[u8],
+    w: Why,
     published: &'a [u8],
     own: &'a [u8],
     subscriber: u64,
     room: &mut [u8],
     out: &mut [u8],
 ) {
-    let w = why_held::why_message(s, grants, published, own, subscriber);
     let outcome = w.outcome;
     match outcome {
         Outcome::Released => {
@@ -401,6 +394,28 @@ fn explain<'a>(
     }
 }
 
+fn judge<'a>(
+    asked: Asked,
+    s: &[u8],
+    grants: &[u8],
+    published: &'a [u8],
+    own: &'a [u8],
+    subscriber: u64,
+) {
+    let mut room = [0u8; listing::ROOM];
+    let mut out = io::buffer();
+    match asked {
+        Asked::Release => {
+            let answer = release::release_message(s, grants, published, own, subscriber);
+            show_released(s, answer, &mut room, &mut out);
+        }
+        Asked::Why => {
+            let w = why_held::why_message(s, grants, published, own, subscriber);
+            show_why(s, w, published, own, subscriber, &mut room, &mut out);
+        }
+    }
+}
+
 // At most one byte past the limit is read.
 fn judge_input<'a>(
     asked: Asked,
@@ -411,28 +426,7 @@ fn judge_input<'a>(
 ) {
     let mut input = [0u8; ari::BYTES + 1];
     let n = io::read_full(0, &mut input);
-    let mut room = [0u8; listing::ROOM];
-    let mut out = io::buffer();
-    match asked {
-        Asked::Release => judge(
-            &input[..n],
-            grants,
-            published,
-            own,
-            subscriber,
-            &mut room,
-            &mut out,
-        ),
-        Asked::Why => explain(
-            &input[..n],
-            grants,
-            published,
-            own,
-            subscriber,
-            &mut room,
-            &mut out,
-        ),
-    }
+    judge(asked, &input[..n], grants, published, own, subscriber);
 }
 
 // The lists that the third and fourth argument name.
