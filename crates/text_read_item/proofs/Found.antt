@@ -167,7 +167,7 @@ module _ (t : List ℕ) (from to : ℕ) (h : from ≤ to) (g : to ≤ length t) 
       }
 
 -- a literal by its first byte
-unfoldable literalBy : ℕ → List ℕ → Headed
+unfoldable pub literalBy : ℕ → List ℕ → Headed
 literalBy x u =
     cond (eqb x 37) (textWord u)
     (cond (eqb x 104) (bytesWord u)
@@ -185,29 +185,8 @@ module _ (t : List ℕ) (from to : ℕ) {x : ℕ} (e : x ≡ firstOf (part t fro
   by : (h : Headed) → literalBy x (part t from to) ≡ h → takenBy h (drop to t) ≡ wordAt literalOf t from to
   by h q = ap (λ (y : Headed). takenBy y (drop to t)) (sym (literal-by (part t from to) ∙ ap (λ (n : ℕ). literalBy n (part t from to)) (sym e) ∙ q))
 
-  pub literal-text : {w : Word} → x ≡ 37 → Found t (wordAt textWord t from to) w → Found t (wordAt literalOf t from to) w
-  unfolding literalBy
-  literal-text h f = found-as f (by (textWord (part t from to)) (rw h))
-
-  pub literal-bytes : {w : Word} → x ≡ 104 → Found t (wordAt bytesWord t from to) w → Found t (wordAt literalOf t from to) w
-  unfolding literalBy
-  literal-bytes h f = found-as f (by (bytesWord (part t from to)) (rw h))
-
-  pub literal-false : {w : Word} → x ≡ 102 → Found t (plainAt t 6 20 to) w → Found t (wordAt literalOf t from to) w
-  unfolding literalBy
-  literal-false h f = found-as f (by (headOf 6 20 []) (rw h))
-
-  pub literal-true : {w : Word} → x ≡ 116 → Found t (plainAt t 6 21 to) w → Found t (wordAt literalOf t from to) w
-  unfolding literalBy
-  literal-true h f = found-as f (by (headOf 6 21 []) (rw h))
-
-  pub literal-null : {w : Word} → x ≡ 110 → Found t (plainAt t 6 22 to) w → Found t (wordAt literalOf t from to) w
-  unfolding literalBy
-  literal-null h f = found-as f (by (headOf 6 22 []) (rw h))
-
-  pub literal-undefined : {w : Word} → x ≡ 117 → Found t (plainAt t 6 23 to) w → Found t (wordAt literalOf t from to) w
-  unfolding literalBy
-  literal-undefined h f = found-as f (by (headOf 6 23 []) (rw h))
+  pub literal-as : {y : ℕ} {w : Word} → x ≡ y → Found t (takenBy (literalBy y (part t from to)) (drop to t)) w → Found t (wordAt literalOf t from to) w
+  literal-as {y} h f = found-as f (by (literalBy y (part t from to)) (rw h))
 
   pub literal-integer : {w : Word} → (x ≡ 37 → ⊥) → (x ≡ 104 → ⊥) → (x ≡ 102 → ⊥) → (x ≡ 116 → ⊥) → (x ≡ 110 → ⊥) → (x ≡ 117 → ⊥) → Found t (wordAt integerOf t from to) w
       → Found t (wordAt literalOf t from to) w
@@ -383,6 +362,6 @@ no-spelling t w k at a b c d e f g h i j p =
 
 pub ruleset found = (small-count, small-simple, plain-found, count-none, count-some, grouped, params-follow, parts-out, parts-end, parts-four, parts-three, referred, negative-none, negative-some, from-zero, text-none, text-some, bytes-none, bytes-some, name-number, name-bare, type-found)
 
-pub ruleset literals = (small-simple, literal-text, literal-bytes, literal-false, literal-true, literal-null, literal-undefined, literal-integer)
+pub ruleset literals = (small-simple, literal-as, literal-integer)
 
 pub ruleset placed = (small-simple, small-count, word-found, absolute-found, space-relative, space-absolute, ari-reference, ari-typed, ari-relative, ari-literal, value-group, value-word, params-map, params-array, no-spelling)

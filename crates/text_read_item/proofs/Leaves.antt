@@ -45,21 +45,8 @@ starts-none t p c h = rw (beyond t p h)
 
 -- the bytes that end a word
 module _ (x : ℕ) where
-  pub ends-open : x ≡ 40 → true ≡ ends x
-  unfolding ends
-  ends-open e = rw e
-
-  pub ends-close : x ≡ 41 → true ≡ ends x
-  unfolding ends
-  ends-close e = rw e
-
-  pub ends-comma : x ≡ 44 → true ≡ ends x
-  unfolding ends
-  ends-comma e = rw e
-
-  pub ends-slash : x ≡ 47 → true ≡ ends x
-  unfolding ends
-  ends-slash e = rw e
+  pub ends-by : {n : ℕ} → x ≡ n → true ≡ ends n → true ≡ ends x
+  ends-by e h = rw e h
 
   pub ends-equal : (x ≡ 40 → ⊥) → (x ≡ 41 → ⊥) → (x ≡ 44 → ⊥) → (x ≡ 47 → ⊥) → eqb x 61 ≡ ends x
   unfolding ends
@@ -381,7 +368,7 @@ module _ (t : List ℕ) (at e n i : ℕ) (a : Counted t at e n i) where
   unfolding commas
   count-ends {c} {o} h (p, p₁) (q, q₁) f = let z = rw (here t i h, ← p, ← q, f, no-commas (drop (i + 1) t)) at (a .is) in omega arith
 
-pub ruleset leaves = (skip-past, skip-end, skip-on, starts-at, starts-none, ends-open, ends-close, ends-comma, ends-slash, ends-equal, run-begins, word-ends, run-out, word-on, first-is, first-none, number-out, number-value, number-bad, unhex-below, unhex-digit, unhex-between, unhex-upper, unhex-gap, unhex-lower, unhex-above, two-digits, escape-bare, escape-cut, escape-whole, escape-in)
+pub ruleset leaves = (skip-past, skip-end, skip-on, starts-at, starts-none, ends-by, ends-equal, run-begins, word-ends, run-out, word-on, first-is, first-none, number-out, number-value, number-bad, unhex-below, unhex-digit, unhex-between, unhex-upper, unhex-gap, unhex-lower, unhex-above, two-digits, escape-bare, escape-cut, escape-whole, escape-in)
 
 pub ruleset strings = (counted-out, counted-cut, counted-on, leads-begin, unescaped-out, unescaped-cut, unescaped-on, unhexed-out, unhexed-on, string-bare, string-escaped, string-hex, escape-in)
 
