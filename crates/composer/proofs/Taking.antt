@@ -73,8 +73,8 @@ one-target a e = ap referenceIn (a .one) ∙ rw e
 one-other : {g : Items} {room : List ℕ} (a : Fronts g room) → isObject (a .lead) ≡ false → referenceIn g ≡ nothing
 one-other a e = ap referenceIn (a .one) ∙ rw e
 
-renamed : {b u : List ℕ} {size : ℕ} (room : List ℕ) → u ≡ b → length b ≡ size → b ++ drop (length b) room ≡ u ++ drop size room
-renamed room p q = rw (p, ← q)
+at-the-front : (b room : List ℕ) → length b ≤ length room → sets room 0 b ≡ b ++ drop (length b) room
+at-the-front b room h = let z : 0 + length b ≡ length b = omega arith in sets-eq b room 0 (omega arith) ∙ ap (λ (i : ℕ). b ++ drop i room) z
 
 module _ (l : Limits) (t : List ℕ) (bytes : (j : ℕ) → Fits w8 (getD t j 0)) (room : List ℕ) {w : Written} (e : w ≡ writtenOf (lent (length room) (readText (capped l) t)))
     {room′ : List ℕ} (f : room′ ≡ roomAfter room (lent (length room) (readText (capped l) t))) where
@@ -159,7 +159,7 @@ module _ (l : Limits) (t : List ℕ) (bytes : (j : ℕ) → Fits w8 (getD t j 0)
             size-is = ap length bs ∙ sz;
             count-is = ap heads (sym (a .one)) ∙ y .is .count ∙ ct;
             fits = omega (arith, h, sz);
-            room-is = c ∙ renamed room bs sz;
+            room-is = c ∙ rw bs (sym (at-the-front b room h));
           };
           sized = room-sized b h c;
         })
@@ -207,7 +207,7 @@ module _ {m : Limits} {t sub : List ℕ} {r : Taken} (room : List ℕ) (at : ℕ
               size-is = z .size-is;
               count-is = z .count-is;
               fits = omega (arith, f, z .size-is);
-              room-is = part-back room at (encode (item (z .lead) (z .str) (z .inside) none)) f (z .room-is ∙ rw (z .size-is));
+              room-is = part-back room at (encode (item (z .lead) (z .str) (z .inside) none)) f (z .room-is ∙ at-the-front (encode (item (z .lead) (z .str) (z .inside) none)) (take (length room - at) (drop at room)) (omega (arith, z .fits, z .size-is)));
             };
             sized = sized-back (y .sized);
           }

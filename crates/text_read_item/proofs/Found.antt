@@ -1,26 +1,25 @@
 -- The ways through the functions of words; the premises are the facts that the code leaves.
-use Prim.Native.Nat.{ℕ, zero, suc, pred, _+_, _-_, _*_, _/_, _^_, _≤_, _<_}
-use Prim.Native.String.{String}
+use Prim.Native.Nat.{ℕ, zero, suc, _+_, _-_, _*_, _/_, _^_, _≤_, _<_}
 use mathlib.Core.Path.{_≡_, refl, sym, _∙_, ap}
-use mathlib.Core.Bool.{Bool, true, false, not, _&&_, cond, true≢false}
-use mathlib.Core.List.{List, [], _∷_, _++_}
+use mathlib.Core.Bool.{Bool, true, false, _&&_, cond, true≢false}
+use mathlib.Core.List.{List, [], _∷_}
 use native.Mathlib.Omega.{arith}
 use native.Mathlib.Nat.{pow-le-pow-right, pow-suc, add-mul, mul-assoc, mul-comm, add-assoc}
 use native.Mathlib.Numerals.{add-one, sub-one}
-use lib.ListN.{length, take, drop, getD, length-take, length-drop}
+use lib.ListN.{length, take, drop, getD, length-drop}
 use lib.Seq.{drop-drop, take-nil, take-take, length-take-le}
 use lib.Dec.{ltb, leb, eqb}
-use borrow.Author.Tests.{lt-ltb, le-ltb, ltb-true, ltb-false, leb-true, eq-eqb, ne-eqb, eqb-true, eqb-false}
+use borrow.Author.Tests.{le-ltb, ltb-false, leb-true, eq-eqb, ne-eqb}
 use Rattle.buffer.specs.Bytes.{be, value, all, isByte, same, part}
-use Rattle.buffer.specs.Runs.{RunTo, front, past}
+use Rattle.buffer.specs.Runs.{RunTo, past}
 use Rattle.buffer.proofs.RunLaws.{here, beyond, part-none}
-use Rattle.buffer.proofs.ByteLaws.{and-true, value-lt, be-value, all-take, all-drop, same-is, same-self}
+use Rattle.buffer.proofs.ByteLaws.{and-true, value-lt, be-value, same-is, same-self}
 use Rattle.ari.specs.Decode.{Headed}
 use Rattle.text.specs.Chars.{ascii}
 use Rattle.text.specs.Text.{Name, name, names}
-use Rattle.text.specs.Parse.{ends, inWord, startsBy, starts, number, any, unescape, unhexes, inner, headOf, stringOf, integerOf, literalOf, startsNumber, nameOf, numberIn, typeNumber, typeOf, commas, count, Taken, takeWord, takeGroup, parts, takeReference, takeAri, takeNothing}
+use Rattle.text.specs.Parse.{ends, inWord, startsBy, starts, number, any, unescape, unhexes, inner, headOf, stringOf, integerOf, literalOf, startsNumber, nameOf, numberIn, typeNumber, typeOf, commas, count, Taken, takeWord, takeGroup, parts, takeReference, takeAri}
 use Rattle.text_read_item.specs.declared.Word.{Word}
-use Rattle.text_read_item.specs.Words.{firstOf, NextTo, strBy, Small, Bounded, Found, plainAt, wordAt, textWord, bytesWord, horner, keyOf, keyIn, takeValue, takeSpace, takeParams, takeSpelled}
+use Rattle.text_read_item.specs.Words.{firstOf, NextTo, Small, Found, plainAt, wordAt, textWord, bytesWord, horner, keyOf, keyIn, takeValue, takeSpace, takeParams, takeSpelled}
 
 abbrev pub word : ℕ → ℕ → ℕ → ℕ → ℕ → ℕ → Word
 word k a f x y n = record { kind = k; arg = a; form = f; from = x; to = y; next = n }

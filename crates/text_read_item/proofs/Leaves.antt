@@ -2,14 +2,14 @@
 use Prim.Native.Nat.{ℕ, zero, suc, _+_, _-_, _*_, _^_, _≤_, _<_}
 use mathlib.Core.Path.{_≡_, refl, sym, _∙_, ap}
 use mathlib.Core.Bool.{Bool, true, false, not, _&&_, _||_, cond, true≢false}
-use mathlib.Core.List.{List, [], _∷_, _++_}
+use mathlib.Core.List.{List, [], _∷_}
 use native.Mathlib.Omega.{arith}
 use native.Mathlib.Nat.{pow-le-pow-right, pow-suc}
 use native.Mathlib.Numerals.{add-one}
-use lib.ListN.{length, take, drop, getD, length-drop}
+use lib.ListN.{length, drop, getD, length-drop}
 use lib.Seq.{drop-drop, drop-length, drop-nil}
 use lib.Dec.{ltb, leb, eqb}
-use borrow.Author.Tests.{lt-ltb, le-ltb, le-leb, lt-leb, ltb-true, ltb-false, eq-eqb, ne-eqb}
+use borrow.Author.Tests.{lt-ltb, le-ltb, le-leb, lt-leb, ltb-true, ltb-false, ne-eqb}
 use Rattle.buffer.specs.Bytes.{within, part}
 use Rattle.buffer.specs.Put.{Put}
 use Rattle.buffer.specs.Runs.{RunTo}
@@ -19,7 +19,7 @@ use Rattle.buffer.specs.Decimal.{unsignedOf}
 use Rattle.buffer.proofs.ByteLaws.{not-true, within-is}
 use Rattle.buffer.proofs.RunLaws.{here, beyond, part-all, Ahead, run-begins, run-ends, run-out, run-on}
 use Rattle.buffer.proofs.Putting.{put-nothing, put-both}
-use Rattle.text.specs.Parse.{ends, inWord, startsBy, starts, number, unhex, any, first, second, unescape, unhexes, startsNumber, opened, commas, count}
+use Rattle.text.specs.Parse.{ends, inWord, startsBy, starts, number, unhex, any, first, unescape, unhexes, startsNumber, opened, commas, count}
 use Rattle.text_read_item.specs.declared.Escape.{Escape}
 use Rattle.text_read_item.specs.Words.{firstOf, NextTo, EscapeAt, strBy, horner, keyOf, commaOf}
 
