@@ -1,5 +1,5 @@
 -- An order built: the front and the targets are the message's bytes; where the room is too short for them, so is the limit. What follows of each for the answer.
-use Prim.Native.Nat.{ℕ, suc, _+_, _-_, _<_, _≤_, _^_}
+use Prim.Native.Nat.{ℕ, _+_, _-_, _<_, _≤_, _^_}
 use mathlib.Core.Path.{_≡_, refl, sym, _∙_, ap}
 use mathlib.Core.Bool.{Bool, true, false, not, cond}
 use mathlib.Core.List.{List, _++_}
@@ -13,8 +13,6 @@ use mir.Val.{Fits}
 use Rattle.buffer.specs.Put.{Put}
 use Rattle.buffer.proofs.Putting.{put-both, put-size}
 use Rattle.buffer.proofs.ByteLaws.{all-bytes}
-use Rattle.cbor.specs.Head.{unsigned, array, leadOf}
-use Rattle.cbor.proofs.HeadLaws.{length-lead}
 use Rattle.ari.specs.Table.{max64}
 use Rattle.ari.specs.declared.Limits.{Limits}
 use Rattle.ari.specs.declared.Input.the-variants.{Message}
@@ -25,7 +23,7 @@ use Rattle.ari.specs.Decode.{decode}
 use Rattle.text.specs.Answer.{refused, lent}
 use Rattle.text_write.specs.declared.Written.{Written}
 use Rattle.text_write.specs.Written.{writtenOf, roomAfter}
-use Rattle.composer.specs.Compose.{Nonce, null, number, string, other, nonceOf, inRange, nonceLead, nonceString, wrong, targets, textsIn, orderOf, finished, composedBy, compose}
+use Rattle.composer.specs.Compose.{Nonce, null, number, string, other, nonceOf, inRange, nonceString, wrong, targets, textsIn, orderOf, finished, composedBy, compose}
 use Rattle.composer.specs.Code.{feeds, InRange, frontBytes, RestIs, gatherAt, TargetsPut, OrderOver, AllBuilt, OrderBuilt, Order}
 use Rattle.composer.specs.declared.Built.{Built}
 use Rattle.composer.specs.declared.Built.the-variants.{Wrong, Over, Whole}
@@ -34,6 +32,7 @@ use Rattle.composer.specs.declared.Rest.the-variants as rest
 use Rattle.composer.proofs.Texts.{clean, many-feeds}
 use Rattle.composer.proofs.Gathering.{Are, gathered-exactly, are-targets, are-many, are-bytes}
 use Rattle.composer.proofs.Order.{order-stands, order-bytes, its-tree}
+use Rattle.composer.proofs.Order.{front-length as first-target}
 
 less-none : (n : ℕ) → n - 0 ≡ n
 less-none n = omega arith
@@ -57,15 +56,7 @@ string-fits kind n s h = go (eqb kind 0) (eqb kind 1) (eqb kind 2)
 -- five heads at least
 pub five-heads : (z : Nonce) (n : ℕ) {room room′ : List ℕ} {q : ℕ} → Put room room′ 0 q (frontBytes z n) → q < length room′ → 5 ≤ q
 five-heads z n p h =
-    let heads : 5 ≤ length (frontBytes z n) = simp length-append (omega (
-      arith,
-      length-lead (leadOf unsigned 1),
-      length-lead (leadOf array 2),
-      length-lead (leadOf unsigned 20),
-      length-lead (leadOf array (suc n)),
-      length-lead (nonceLead z),
-    )) in
-    omega (arith, p .place, put-size p)
+    omega (arith, p .place, put-size p, first-target z n)
 
 module _ (l : Limits) (b : List ℕ) (bytes : (j : ℕ) → Fits w8 (getD b j 0)) (fits : length b < 2 ^ 64) where
   -- the texts are all that is gathered

@@ -20,7 +20,7 @@ use Rattle.ari.specs.Items.{Items, none, item, encode, heads}
 use Rattle.ari.proofs.Decoded.{heads-encode}
 use Rattle.ari.proofs.Join.{join, encode-join, heads-join, join-none}
 use Rattle.composer.specs.Compose.{nothing, reference, referenceIn, referenceBy, referenceOf, Gathered, wrong, targets, withFirst, gather}
-use Rattle.composer.specs.Code.{inText, IsLong, IsTarget, TakesText, IsTargetAt, PutsText, gatherAt, TargetsPut, RestIs}
+use Rattle.composer.specs.Code.{inText, IsLong, IsTarget, TakesText, PutsText, gatherAt, TargetsPut, RestIs}
 use Rattle.composer.specs.declared.Taken.{Taken}
 use Rattle.composer.specs.declared.Taken.the-variants.{Nothing, TooLong, Target}
 use Rattle.composer.specs.declared.Built.the-variants.{Wrong, Over, Whole}
@@ -153,7 +153,7 @@ module _ {m : Limits} {b room₀ room : List ℕ} {at first p k q n : ℕ} (g : 
 
         pub target-put : {size count : ℕ} → w ≡ Target size count → Going m b room₀ room′ at first (e + 1) (k + 1) (q + size) (n + count)
         target-put {size} {count} c =
-            let y : IsTargetAt m (part b p e) room room′ q size count = (rw c at x) .taken in
+            let y : IsTarget m (part b p e) room room′ q size count = (rw c at x) .taken in
             let one : Items = item (y .lead) (y .str) (y .inside) none in
             let z : gatherAt m b p k ≡ withFirst k (reference (y .lead) (y .str) (y .inside)) (gatherAt m b (e + 1) (k + 1)) = text-is ∙ rw (y .is) in
             let i : e < length b = omega (arith, r .inside) in
@@ -175,12 +175,12 @@ module _ {m : Limits} {b room₀ room : List ℕ} {at first p k q n : ℕ} (g : 
         module _ {size count : ℕ} (c : w ≡ Target size count) (f : length room₀ < 2 ^ 64) where
           pub place-fits : Fits w64 (q + size)
           place-fits =
-              let y : IsTargetAt m (part b p e) room room′ q size count = (rw c at x) .taken in
+              let y : IsTarget m (part b p e) room room′ q size count = (rw c at x) .taken in
               record { fits = omega (arith, y .fits, g .sized, f) }
 
           pub count-fits : Fits w64 (n + count)
           count-fits =
-              let y : IsTargetAt m (part b p e) room room′ q size count = (rw c at x) .taken in
+              let y : IsTarget m (part b p e) room room′ q size count = (rw c at x) .taken in
               record { fits = omega (arith, g .few, heads-encode (item (y .lead) (y .str) (y .inside) none), y .count-is, y .size-is, y .fits, g .sized, f) }
 
 pub ruleset going = (going-begins, going-ends, last-unended, no-reference, no-room-left, target-put, place-fits, count-fits)
@@ -237,7 +237,7 @@ module _ {m : Limits} {b room₀ room : List ℕ} {at number p k : ℕ} (g : Onw
 
         pub onward-on : {size count : ℕ} → w ≡ Target size count → Onward m b room₀ room′ at number (e + 1) (k + 1)
         onward-on {size} {count} c =
-            let y : IsTarget m (part b p e) room room′ size count = (rw c at x) .taken in
+            let y : IsTarget m (part b p e) room room′ 0 size count = (rw c at x) .taken in
             let z : gatherAt m b p k ≡ withFirst k (reference (y .lead) (y .str) (y .inside)) (gatherAt m b (e + 1) (k + 1)) = next-is ∙ rw (y .is) in
             let i : e < length b = omega (arith, r .inside) in
             record {

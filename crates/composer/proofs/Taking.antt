@@ -21,6 +21,7 @@ use Rattle.ari.specs.declared.Input.the-variants.{Single}
 use Rattle.ari.specs.Limits.{capped}
 use Rattle.ari.specs.Items.{Items, none, item, encode, heads}
 use Rattle.ari.specs.Rules.{Stands, an-ari}
+use Rattle.ari.specs.Decode.{decode}
 use Rattle.text.specs.Answer.{Output, refused, output, readText, lent, Spelled}
 use Rattle.text.proofs.Round.{read-exactly, read-too-long, read-refusals}
 use Rattle.text_write.specs.declared.Written.{Written}
@@ -72,8 +73,8 @@ one-target a e = ap referenceIn (a .one) ∙ rw e
 one-other : {g : Items} {room : List ℕ} (a : Fronts g room) → isObject (a .lead) ≡ false → referenceIn g ≡ nothing
 one-other a e = ap referenceIn (a .one) ∙ rw e
 
-renamed : {b u : List ℕ} {size : ℕ} (room : List ℕ) → u ≡ b → length b ≡ size → b ++ drop (length b) room ≡ u ++ drop size room
-renamed room p q = rw (p, ← q)
+at-the-front : (b room : List ℕ) → length b ≤ length room → sets room 0 b ≡ b ++ drop (length b) room
+at-the-front b room h = let z : 0 + length b ≡ length b = omega arith in sets-eq b room 0 (omega arith) ∙ ap (λ (i : ℕ). b ++ drop i room) z
 
 module _ (l : Limits) (t : List ℕ) (bytes : (j : ℕ) → Fits w8 (getD t j 0)) (room : List ℕ) {w : Written} (e : w ≡ writtenOf (lent (length room) (readText (capped l) t)))
     {room′ : List ℕ} (f : room′ ≡ roomAfter room (lent (length room) (readText (capped l) t))) where
@@ -103,6 +104,9 @@ module _ (l : Limits) (t : List ℕ) (bytes : (j : ℕ) → Fits w8 (getD t j 0)
   spelled : {b : List ℕ} {n : ℕ} → readText (capped l) t ≡ output b n → Spelled (capped l) t b n
   spelled {b} {n} i = read-exactly (capped l) (all-bytes t bytes) (fit i) b n .0 i .2
 
+  front-of : {b : List ℕ} {n : ℕ} (i : readText (capped l) t ≡ output b n) → Fronts (decode b) (b ++ drop (length b) room)
+  front-of {b} i = let y = spelled i in fronts (drop (length b) room) (y .is .bytes) (y .is .stands)
+
   module _ {r p : ℕ} (g : w ≡ Refused r p) where
     pub ari-too-long : r ≡ 16 → TakesText (capped l) t room room′ TooLong
     ari-too-long q = go ways
@@ -125,46 +129,44 @@ module _ (l : Limits) (t : List ℕ) (bytes : (j : ℕ) → Fits w8 (getD t j 0)
     room-sized : (b : List ℕ) → length b ≤ length room → room′ ≡ b ++ drop (length b) room → length room′ ≡ length room
     room-sized b h c = omega (arith, ap length c, length-append b (drop (length b) room), length-drop (length b) room)
 
-    pub target-taken : x ≡ true → TakesText (capped l) t room room′ (Target size count)
-    unfolding referenceOf
-    target-taken q = go ways
+    -- it was read, and nothing else
+    when-read : {P : Type 0} → ((b : List ℕ) (n : ℕ) → readText (capped l) t ≡ output b n → length b ≤ length room → w ≡ Bytes (length b) n → room′ ≡ b ++ drop (length b) room → P) → P
+    when-read {P} f = go ways
       where
-        go : Ways (capped l) t room w room′ → TakesText (capped l) t room room′ (Target size count)
+        go : Ways (capped l) t room w room′ → P
         go (was-refused r p i a c) = absurd (let z : _≡_ {A = ℕ} 0 1 = cc in omega arith)
         go (was-long b n i h a c) = absurd (let z : _≡_ {A = ℕ} 0 1 = cc in omega arith)
-        go (was-read b n i h v c) =
-            let y = spelled i in
-            let a = fronts (drop (length b) room) (y .is .bytes) (y .is .stands) in
-            let ob : isObject (a .lead) ≡ true = sym (a .object-is) ∙ ap isObjectAt (sym c) ∙ sym o ∙ q in
-            let bs : encode (item (a .lead) (a .str) (a .inside) none) ≡ b = ap encode (sym (a .one)) ∙ y .is .bytes in
-            let sz : length b ≡ size = cc in
-            let ct : n ≡ count = cc in
-            record {
-              taken = record {
-                lead = a .lead;
-                str = a .str;
-                inside = a .inside;
-                is = ap referenceBy i ∙ one-target a ob;
-                size-is = ap length bs ∙ sz;
-                count-is = ap heads (sym (a .one)) ∙ y .is .count ∙ ct;
-                fits = omega (arith, h, sz);
-                room-is = c ∙ renamed room bs sz;
-              };
-              sized = room-sized b h c;
-            }
+        go (was-read b n i h v c) = f b n i h v c
+
+    -- its head is what the room begins with
+    head-is : {b : List ℕ} {n : ℕ} (i : readText (capped l) t ≡ output b n) → room′ ≡ b ++ drop (length b) room → {v : Bool} → x ≡ v → isObject (front-of i .lead) ≡ v
+    head-is i c q = sym (front-of i .object-is) ∙ ap isObjectAt (sym c) ∙ sym o ∙ q
+
+    pub target-taken : x ≡ true → TakesText (capped l) t room room′ (Target size count)
+    unfolding referenceOf
+    target-taken q = when-read (λ b n i h v c.
+        let y = spelled i in
+        let a = front-of i in
+        let bs : encode (item (a .lead) (a .str) (a .inside) none) ≡ b = ap encode (sym (a .one)) ∙ y .is .bytes in
+        let sz : length b ≡ size = cc in
+        let ct : n ≡ count = cc in
+        record {
+          taken = record {
+            lead = a .lead;
+            str = a .str;
+            inside = a .inside;
+            is = ap referenceBy i ∙ one-target a (head-is i c q);
+            size-is = ap length bs ∙ sz;
+            count-is = ap heads (sym (a .one)) ∙ y .is .count ∙ ct;
+            fits = omega (arith, h, sz);
+            room-is = c ∙ rw bs (sym (at-the-front b room h));
+          };
+          sized = room-sized b h c;
+        })
 
     pub no-target : x ≡ false → TakesText (capped l) t room room′ Nothing
     unfolding referenceOf
-    no-target q = go ways
-      where
-        go : Ways (capped l) t room w room′ → TakesText (capped l) t room room′ Nothing
-        go (was-refused r p i a c) = absurd (let z : _≡_ {A = ℕ} 0 1 = cc in omega arith)
-        go (was-long b n i h a c) = absurd (let z : _≡_ {A = ℕ} 0 1 = cc in omega arith)
-        go (was-read b n i h v c) =
-            let y = spelled i in
-            let a = fronts (drop (length b) room) (y .is .bytes) (y .is .stands) in
-            let ob : isObject (a .lead) ≡ false = sym (a .object-is) ∙ ap isObjectAt (sym c) ∙ sym o ∙ q in
-            record { taken = ap referenceBy i ∙ one-other a ob; sized = room-sized b h c }
+    no-target q = when-read (λ b n i h v c. record { taken = ap referenceBy i ∙ one-other (front-of i) (head-is i c q); sized = room-sized b h c })
 
 pub ruleset taking = (ari-too-long, text-refused, target-taken, no-target)
 
@@ -205,7 +207,7 @@ module _ {m : Limits} {t sub : List ℕ} {r : Taken} (room : List ℕ) (at : ℕ
               size-is = z .size-is;
               count-is = z .count-is;
               fits = omega (arith, f, z .size-is);
-              room-is = part-back room at (encode (item (z .lead) (z .str) (z .inside) none)) f (z .room-is ∙ rw (z .size-is));
+              room-is = part-back room at (encode (item (z .lead) (z .str) (z .inside) none)) f (z .room-is ∙ at-the-front (encode (item (z .lead) (z .str) (z .inside) none)) (take (length room - at) (drop at room)) (omega (arith, z .fits, z .size-is)));
             };
             sized = sized-back (y .sized);
           }

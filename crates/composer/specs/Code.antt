@@ -70,27 +70,8 @@ pub record IsLong (m : Limits) (t : List ℕ) (room : ℕ) : Type 0 where
   pub short : length ari ≤ m .bytes
   pub longer : room < length ari
 
-pub record IsTarget (m : Limits) (t room room′ : List ℕ) (size count : ℕ) : Type 0 where
-  pub lead : Lead
-  pub str : List ℕ
-  pub inside : Items
-  pub is : referenceOf m t ≡ reference lead str inside
-  pub size-is : length (encode (item lead str inside none)) ≡ size
-  pub count-is : heads (item lead str inside none) ≡ count
-  pub fits : size ≤ length room
-  pub room-is : room′ ≡ encode (item lead str inside none) ++ drop size room
-
-abbrev pub TakenBy : Limits → List ℕ → List ℕ → List ℕ → Taken → Type 0
-TakenBy m t room room′ Nothing = referenceOf m t ≡ nothing
-TakenBy m t room room′ TooLong = IsLong m t (length room)
-TakenBy m t room room′ (Target size count) = IsTarget m t room room′ size count
-
-pub record TakesText (m : Limits) (t room room′ : List ℕ) (r : Taken) : Type 0 where
-  pub taken : TakenBy m t room room′ r
-  pub sized : length room′ ≡ length room
-
--- the same in a room from a place on
-pub record IsTargetAt (m : Limits) (t room room′ : List ℕ) (at size count : ℕ) : Type 0 where
+-- from a place in the room on
+pub record IsTarget (m : Limits) (t room room′ : List ℕ) (at size count : ℕ) : Type 0 where
   pub lead : Lead
   pub str : List ℕ
   pub inside : Items
@@ -100,10 +81,20 @@ pub record IsTargetAt (m : Limits) (t room room′ : List ℕ) (at size count : 
   pub fits : at + size ≤ length room
   pub room-is : room′ ≡ sets room at (encode (item lead str inside none))
 
+abbrev pub TakenBy : Limits → List ℕ → List ℕ → List ℕ → Taken → Type 0
+TakenBy m t room room′ Nothing = referenceOf m t ≡ nothing
+TakenBy m t room room′ TooLong = IsLong m t (length room)
+TakenBy m t room room′ (Target size count) = IsTarget m t room room′ 0 size count
+
+pub record TakesText (m : Limits) (t room room′ : List ℕ) (r : Taken) : Type 0 where
+  pub taken : TakenBy m t room room′ r
+  pub sized : length room′ ≡ length room
+
+-- the same in a room from a place on
 abbrev pub PutBy : Limits → List ℕ → List ℕ → List ℕ → ℕ → Taken → Type 0
 PutBy m t room room′ at Nothing = referenceOf m t ≡ nothing
 PutBy m t room room′ at TooLong = IsLong m t (length room - at)
-PutBy m t room room′ at (Target size count) = IsTargetAt m t room room′ at size count
+PutBy m t room room′ at (Target size count) = IsTarget m t room room′ at size count
 
 pub record PutsText (m : Limits) (t room room′ : List ℕ) (at : ℕ) (r : Taken) : Type 0 where
   pub taken : PutBy m t room room′ at r

@@ -236,25 +236,24 @@ fn rest_of(limits: Limits, texts: &[u8], at: usize, number: usize, room: &mut [u
     Rest::Right
 }
 
+// A nonce but for the bytes of its string: what it is, and its number.
+struct Lead {
+    kind: u64,
+    number: u64,
+}
+
 // The items in front of the targets.
 const FRONT_ITEMS: usize = 5;
 
 // The order's bytes from front to back, each once. A room that the front fills, or that has no more bytes than there are targets, is too short.
-fn build(
-    limits: Limits,
-    kind: u64,
-    number: u64,
-    nonce: &[u8],
-    texts: &[u8],
-    room: &mut [u8],
-) -> Built
-    ensures { λ r. ⌜ OrderBuilt (capped limits) (nonceOf kind number (now (nonce .entry))) (now (texts .entry)) (now (room .entry)) (now (room .exit)) r ⌝ }
+fn build(limits: Limits, lead: Lead, nonce: &[u8], texts: &[u8], room: &mut [u8]) -> Built
+    ensures { λ r. ⌜ OrderBuilt (capped limits) (nonceOf (lead .kind) (lead .number) (now (nonce .entry))) (now (texts .entry)) (now (room .entry)) (now (room .exit)) r ⌝ }
 {
     let many = count_texts(texts);
     if room.len() <= many {
         return Built::Over { at: 0, number: 0 };
     }
-    let q = put_front(kind, number, nonce, many, room);
+    let q = put_front(lead.kind, lead.number, nonce, many, room);
     if room.len() <= q {
         return Built::Over { at: 0, number: 0 };
     }
@@ -287,20 +286,13 @@ fn finish(limits: Limits, b: &[u8], count: usize, out: &mut [u8]) -> Written
 }
 
 // Through a scratch that holds any message. Of an order that it does not hold, the texts that are left are looked at all the same.
-fn compose_long(
-    limits: Limits,
-    kind: u64,
-    number: u64,
-    nonce: &[u8],
-    texts: &[u8],
-    out: &mut [u8],
-) -> Written
-    requires { ⌜ inRange (nonceOf kind number (now nonce)) ≡ true ⌝ }
-    ensures { λ r. ⌜ r ≡ writtenOf (lent (length (now (out .entry))) (composedBy (capped limits) (nonceOf kind number (now (nonce .entry))) (gatherAt (capped limits) (now (texts .entry)) 0 0))) ⌝ }
-    ensures { λ r. ⌜ now (out .exit) ≡ roomAfter (now (out .entry)) (lent (length (now (out .entry))) (composedBy (capped limits) (nonceOf kind number (now (nonce .entry))) (gatherAt (capped limits) (now (texts .entry)) 0 0))) ⌝ }
+fn compose_long(limits: Limits, lead: Lead, nonce: &[u8], texts: &[u8], out: &mut [u8]) -> Written
+    requires { ⌜ inRange (nonceOf (lead .kind) (lead .number) (now nonce)) ≡ true ⌝ }
+    ensures { λ r. ⌜ r ≡ writtenOf (lent (length (now (out .entry))) (composedBy (capped limits) (nonceOf (lead .kind) (lead .number) (now (nonce .entry))) (gatherAt (capped limits) (now (texts .entry)) 0 0))) ⌝ }
+    ensures { λ r. ⌜ now (out .exit) ≡ roomAfter (now (out .entry)) (lent (length (now (out .entry))) (composedBy (capped limits) (nonceOf (lead .kind) (lead .number) (now (nonce .entry))) (gatherAt (capped limits) (now (texts .entry)) 0 0))) ⌝ }
 {
     let mut scratch = [0u8; ari::BYTES + 1];
-    let w = build(limits, kind, number, nonce, texts, &mut scratch);
+    let w = build(limits, lead, nonce, texts, &mut scratch);
     match w {
         Built::Wrong(k) => refusal(24, k),
         Built::Over { at, number: k } => {
@@ -317,23 +309,16 @@ fn compose_long(
 const SHORT: usize = 128;
 
 // A short order, with little scratch to clear: should it fill that, it is composed as a long one.
-fn compose_short(
-    limits: Limits,
-    kind: u64,
-    number: u64,
-    nonce: &[u8],
-    texts: &[u8],
-    out: &mut [u8],
-) -> Written
-    requires { ⌜ inRange (nonceOf kind number (now nonce)) ≡ true ⌝ }
-    ensures { λ r. ⌜ r ≡ writtenOf (lent (length (now (out .entry))) (composedBy (capped limits) (nonceOf kind number (now (nonce .entry))) (gatherAt (capped limits) (now (texts .entry)) 0 0))) ⌝ }
-    ensures { λ r. ⌜ now (out .exit) ≡ roomAfter (now (out .entry)) (lent (length (now (out .entry))) (composedBy (capped limits) (nonceOf kind number (now (nonce .entry))) (gatherAt (capped limits) (now (texts .entry)) 0 0))) ⌝ }
+fn compose_short(limits: Limits, lead: Lead, nonce: &[u8], texts: &[u8], out: &mut [u8]) -> Written
+    requires { ⌜ inRange (nonceOf (lead .kind) (lead .number) (now nonce)) ≡ true ⌝ }
+    ensures { λ r. ⌜ r ≡ writtenOf (lent (length (now (out .entry))) (composedBy (capped limits) (nonceOf (lead .kind) (lead .number) (now (nonce .entry))) (gatherAt (capped limits) (now (texts .entry)) 0 0))) ⌝ }
+    ensures { λ r. ⌜ now (out .exit) ≡ roomAfter (now (out .entry)) (lent (length (now (out .entry))) (composedBy (capped limits) (nonceOf (lead .kind) (lead .number) (now (nonce .entry))) (gatherAt (capped limits) (now (texts .entry)) 0 0))) ⌝ }
 {
     let mut scratch = [0u8; 2 * SHORT];
-    let w = build(limits, kind, number, nonce, texts, &mut scratch);
+    let w = build(limits, lead, nonce, texts, &mut scratch);
     match w {
         Built::Wrong(k) => refusal(24, k),
-        Built::Over { .. } => compose_long(limits, kind, number, nonce, texts, out),
+        Built::Over { .. } => compose_long(limits, lead, nonce, texts, out),
         Built::Whole { size, count } => finish(limits, &scratch[0..size], count, out),
     }
 }
@@ -353,12 +338,13 @@ pub fn compose_within(
     if !is_nonce(kind, number) {
         return refusal(7, 0);
     }
+    let lead = Lead { kind, number };
     if texts.len() < SHORT {
         if nonce.len() < SHORT {
-            return compose_short(limits, kind, number, nonce, texts, out);
+            return compose_short(limits, lead, nonce, texts, out);
         }
     }
-    compose_long(limits, kind, number, nonce, texts, out)
+    compose_long(limits, lead, nonce, texts, out)
 }
 
 // The same within the gate's own limits.

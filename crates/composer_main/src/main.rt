@@ -156,10 +156,7 @@ fn send(kind: u64, number: u64, nonce: &[u8], texts: &[u8]) {
         text_write::Written::Bytes { length, .. } => {
             print::flush(&room, length);
         }
-        text_write::Written::Refused { number, place } => {
-            let mut line = io::buffer();
-            print::refusal(&mut line, number, place);
-        }
+        text_write::Written::Refused { number, place } => print::send_refusal(number, place),
     }
 }
 

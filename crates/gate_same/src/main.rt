@@ -3,8 +3,7 @@
 
 // The refused file is the first, if it is refused by itself.
 fn show_refused(first: &[u8], number: u8, place: usize) {
-    let mut out = io::buffer();
-    print::refusal(&mut out, number, place);
+    print::send_refusal(number, place);
     match reader::check_single(first) {
         reader::Answer::Accepted(_) => input_file::say_name(2),
         reader::Answer::Refused { .. } => input_file::say_name(1),
@@ -23,34 +22,13 @@ fn show(first: &[u8], second: &[u8]) {
     }
 }
 
-fn load_second(first: &[u8], room: &mut [u8]) {
-    match input_file::load(2, room) {
-        input_file::Loaded::Nothing => {}
-        input_file::Loaded::Bytes(n) => {
-            if n <= room.len() {
-                show(first, &room[0..n]);
-            }
-        }
-    }
-}
-
-fn load_first(room: &mut [u8], other: &mut [u8]) {
-    match input_file::load(1, room) {
-        input_file::Loaded::Nothing => {}
-        input_file::Loaded::Bytes(n) => {
-            if n <= room.len() {
-                load_second(&room[0..n], other);
-            }
-        }
-    }
-}
-
 fn main() {
-    if os::arg_count() != 3 {
-        io::write_all(2, b"usage: gate same FILE FILE\n");
-        return;
-    }
     let mut first = [0u8; ari::BYTES + 1];
     let mut second = [0u8; ari::BYTES + 1];
-    load_first(&mut first, &mut second);
+    let b = input_file::load_both(b"usage: gate same FILE FILE\n", &mut first, &mut second);
+    if b.loaded {
+        let n = b.first;
+        let m = b.second;
+        show(&first[..n], &second[..m]);
+    }
 }

@@ -6,10 +6,7 @@ fn send(answer: strike::Struck, room: &[u8]) {
         strike::Struck::Message { bytes, .. } => {
             print::flush(room, bytes);
         }
-        strike::Struck::Refused { number, place } => {
-            let mut out = io::buffer();
-            print::refusal(&mut out, number, place);
-        }
+        strike::Struck::Refused { number, place } => print::send_refusal(number, place),
     }
 }
 

@@ -9,10 +9,7 @@ fn send(answer: text_write::Written, room: &[u8]) {
         text_write::Written::Bytes { length, .. } => {
             print::flush(room, length);
         }
-        text_write::Written::Refused { number, place } => {
-            let mut out = io::buffer();
-            print::refusal(&mut out, number, place);
-        }
+        text_write::Written::Refused { number, place } => print::send_refusal(number, place),
     }
 }
 

@@ -1,4 +1,5 @@
 pub mod Asking
+pub mod Contracts
 pub mod Deciding
 pub mod Decided
 pub mod Entries
@@ -9,4 +10,5 @@ pub mod Over
 pub mod Same
 pub mod Searched
 pub mod Turn
+pub mod Values
 pub mod Walk

@@ -1,4 +1,5 @@
 // An input from a file that an argument names. What is wrong is said on standard error, after the file's name.
+ghost use Rattle.io.specs.Counts.{Counts};
 
 // So many bytes of the file stand in the room, or what was wrong has been said.
 pub enum Loaded {
@@ -35,6 +36,40 @@ pub fn load(k: usize, room: &mut [u8]) -> Loaded {
     let mut path = io::buffer();
     let n = os::arg(k, &mut path);
     load_path(&path[..n], room)
+}
+
+// So many bytes of two files stand each in its room; where something was wrong, and has been said, none do.
+pub struct Both {
+    pub loaded: bool,
+    pub first: usize,
+    pub second: usize,
+}
+
+const NEITHER: Both = Both {
+    loaded: false,
+    first: 0,
+    second: 0,
+};
+
+// The files that the only two arguments name, each as far as its room goes; with any other number of arguments the usage is said.
+pub fn load_both(usage: &[u8], first: &mut [u8], second: &mut [u8]) -> Both
+    ensures { λ r. ⌜ Counts (r .first) (now (first .exit)) × Counts (r .second) (now (second .exit)) ⌝ }
+{
+    if os::arg_count() != 3 {
+        io::write_all(2, usage);
+        return NEITHER;
+    }
+    let Loaded::Bytes(n) = load(1, first) else {
+        return NEITHER;
+    };
+    let Loaded::Bytes(m) = load(2, second) else {
+        return NEITHER;
+    };
+    Both {
+        loaded: true,
+        first: buffer::least(n, first.len()),
+        second: buffer::least(m, second.len()),
+    }
 }
 
 // The file's name and what is said of it, on standard error.

@@ -22,17 +22,27 @@ use Rattle.day_file.proofs.Ways.{outline-refused, bad-message, day-passes, size
 use Rattle.month_figures.specs.declared.Month.{Month}
 use Rattle.month_figures.specs.declared.Month.the-variants.{Done, Refused}
 use Rattle.month_figures.specs.Figures.{Message, Source, messageWith, messagesOf, Figures, figures}
-use Rattle.month_figures.specs.State.{words}
+use Rattle.month_figures.specs.State.{words, Holds}
 use Rattle.month.specs.declared.Tally.{Tally}
 use Rattle.month.specs.declared.Walked.{Walked}
 use Rattle.month.specs.declared.Walked.the-variants as walked
 use Rattle.month.specs.Adding.{sourceOf, judged, addedBy, addOf, Adds}
-use Rattle.month.specs.Code.{withMessages, Fetches, Settles, CountedBy, CountedOn, MessagesAdded, filedBy, Files}
+use Rattle.month.specs.Code.{withMessages, Fetches, Settles, CountedBy, CountedOn, filedBy, Files}
 use Rattle.month.proofs.Walking.{FileBy, FileWalked}
 use Rattle.month.proofs.Sums.{figures-plus}
 
 refused-not-done : (r p : ℕ) → Refused r p ≡ Done → ⊥
 refused-not-done r p e = let z : _≡_ {A = ℕ} 0 1 = cc in omega arith
+
+-- 22 with the first message that is refused, or what the figures say with all n messages of a file
+abbrev pub unlessRefused : ℕ → ℕ → Month → Month
+unlessRefused k n r = cond (ltb k n) (Refused 22 k) r
+
+pub record MessagesAdded (f : Format) (m : Limits) (b : List ℕ) (n : ℕ) (published own ws : List ℕ) (r : Month) (ws′ : List ℕ) : Type 0 where
+  pub kept : (r ≡ Done → ⊥) → ws′ ≡ ws
+  pub answer : (x : Figures) → Holds ws x
+      → (r ≡ unlessRefused (firstNot (messageStands f m b) 0 n) n (judged (withMessages (map (messageWith published own) (messagesFrom f b 0 n)) x)))
+      × (r ≡ Done → Holds ws′ (withMessages (map (messageWith published own) (messagesFrom f b 0 n)) x))
 
 module _ (f : Format) (m : Limits) (b : List ℕ) (n : ℕ) (published own ws : List ℕ) where
   pub counted-on : {t : Tally} {ps cs : List ℕ} → Fetches ws t ps cs → {w : Walked} {ps′ cs′ : List ℕ} → FileWalked f m b n published own t ps cs w ps′ cs′ → CountedOn f m b n published own ws w ps′ cs′

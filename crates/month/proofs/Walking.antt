@@ -7,10 +7,14 @@ use native.Mathlib.Omega.{arith}
 use native.Mathlib.Numerals.{add-one}
 use lib.ListN.{length, getD}
 use borrow.Author.Tests.{le-leb}
+use mir.Syntax.{w8}
+use mir.Val.{Fits}
+use Rattle.buffer.proofs.ByteLaws.{all-bytes}
 use Rattle.ari.specs.declared.Limits.{Limits}
 use Rattle.ari.specs.declared.Input.the-variants as input
 use Rattle.ari.specs.Listing.{Space, number, name, relative, Entry}
-use Rattle.ari.specs.Reader.{read}
+use Rattle.ari.specs.Reader.{read, accept}
+use Rattle.ari.proofs.Demand.{demand-two}
 use Rattle.item_table.specs.Entries.{Tabled}
 use Rattle.reader.specs.declared.Answer.{Answer}
 use Rattle.reader.specs.declared.Answer.the-variants.{Accepted}
@@ -75,20 +79,18 @@ module _ {m : Limits} {b ws : List ℕ} {n : ℕ} (c : Tabled m input.Message b 
 
 pub ruleset spacings = (spacing-none, spacing-all, spacing-over, spacing-one)
 
--- the items of an accepted message are its heads
-pub accepted-counted : {m : Limits} {b ws : List ℕ} {n : ℕ} → Tabled m input.Message b n ws → (published own : List ℕ) (t : Tally) (ps cs : List ℕ) {u : Tally} → u ≡ sized t (length b) n
-    → {r : Tally} {ps′ cs′ : List ℕ} → Goes u ps cs (withSpaces (map spaceOf (translated published own b))) r ps′ cs′ → Goes t ps cs (withMessage (messageWith published own b)) r ps′ cs′
-accepted-counted {b = b} {n = n} c published own t ps cs g s =
-    record { on = λ x h. rw (c .is .count) (s .on (withSize (length b) n x) (rw g (size-counted t ps cs (length b) n .on x h))) }
-
 -- from the message's answer
 module _ (m : Limits) (b published own : List ℕ) (t : Tally) (ps cs : List ℕ) {a : Answer} (e : a ≡ answerOf (read m input.Message b)) where
   pub message-refused : {r p : ℕ} → a ≡ answers.Refused r p → MessageWalked m b published own t ps cs (walked.Refused 0) ps cs
   message-refused f = record { by = ap isAccepted (refused m input.Message b e f) }
 
-  pub message-counted : {n : ℕ} → a ≡ Accepted n → {r : Tally} {ps′ cs′ : List ℕ} → Goes t ps cs (withMessage (messageWith published own b)) r ps′ cs′
-      → MessageWalked m b published own t ps cs (walked.Counted r) ps′ cs′
-  message-counted f s = record { by = (ap isAccepted (accepted m input.Message b e f), s) }
+  -- the items of an accepted message are its heads
+  pub message-counted : ((j : ℕ) → Fits w8 (getD b j 0)) → {n : ℕ} → a ≡ Accepted n → {u : Tally} → u ≡ sized t (length b) n
+      → {r : Tally} {ps′ cs′ : List ℕ} → Goes u ps cs (withSpaces (map spaceOf (translated published own b))) r ps′ cs′ → MessageWalked m b published own t ps cs (walked.Counted r) ps′ cs′
+  message-counted bytes {n} f g s =
+      let e : read m input.Message b ≡ accept n = accepted m input.Message b e f in
+      let count = demand-two m input.Message b n (all-bytes b bytes) .0 e .count in
+      record { by = (ap isAccepted e, record { on = λ x h. rw count (s .on (withSize (length b) n x) (rw g (size-counted t ps cs (length b) n .on x h))) }) }
 
 pub ruleset messages = (message-refused, message-counted)
 

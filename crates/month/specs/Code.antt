@@ -1,7 +1,7 @@
 -- Private to src/: figures that are counted on, reference by reference, and the words that stand for them meanwhile.
 use Prim.Native.Nat.{ℕ, _+_, _<_, _≤_, min}
 use mathlib.Core.Path.{_≡_}
-use mathlib.Core.Bool.{Bool, true, false, _&&_, cond}
+use mathlib.Core.Bool.{Bool, true, false, _&&_}
 use mathlib.Core.List.{List, [], _∷_, map}
 use lib.ListN.{take}
 use lib.Seq.{sets, paste}
@@ -133,17 +133,7 @@ pub record Settles (ws : List ℕ) (t : Tally) (ps cs : List ℕ) (r : Month) (w
   pub kept : (r ≡ Done → ⊥) → ws′ ≡ ws
   pub answer : (f : Figures) → Held t ps cs f → (r ≡ judged f) × (r ≡ Done → Holds ws′ f)
 
--- 22 with the first message that is refused, or what the figures say with all n messages of a file
-abbrev pub unlessRefused : ℕ → ℕ → Month → Month
-unlessRefused k n r = cond (ltb k n) (Refused 22 k) r
-
-pub record MessagesAdded (f : Format) (m : Limits) (b : List ℕ) (n : ℕ) (published own ws : List ℕ) (r : Month) (ws′ : List ℕ) : Type 0 where
-  pub kept : (r ≡ Done → ⊥) → ws′ ≡ ws
-  pub answer : (x : Figures) → Holds ws x
-      → (r ≡ unlessRefused (firstNot (messageStands f m b) 0 n) n (judged (withMessages (map (messageWith published own) (messagesFrom f b 0 n)) x)))
-      × (r ≡ Done → Holds ws′ (withMessages (map (messageWith published own) (messagesFrom f b 0 n)) x))
-
--- the same for a file whose lists are well-formed
+-- what the figures say with all messages of a file whose lists are well-formed
 abbrev pub filedBy : Day → Figures → Month
 filedBy (day.Refused r p) f = Refused r p
 filedBy (day.Messages n) f = judged f

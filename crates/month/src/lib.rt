@@ -8,12 +8,12 @@ ghost use Rattle.ari.specs.declared.Input.the-variants as input;
 ghost use Rattle.ari.specs.Limits.{gateLimits, capped};
 ghost use Rattle.item_table.specs.Entries.{Tabled};
 ghost use Rattle.names.specs.Translated.{translated};
-ghost use Rattle.month_figures.specs.Figures.{spaceOf, messageWith};
+ghost use Rattle.month_figures.specs.Figures.{spaceOf};
 ghost use Rattle.month_figures.specs.State.{words};
 ghost use mathlib.Core.List.{map};
 ghost use Rattle.day_file.specs.Versions.{formatOf, limitsOf};
 ghost use Rattle.month.specs.Adding.{sourceOf, Adds};
-ghost use Rattle.month.specs.Code.{withCounts, withCode, withSpaces, withMessage, Goes, sized, MessageWalked, tallyIn, tallyWords, Fetches, putBack, totalsSmall, linesSmall, Judges, Settles, CountedOn, MessagesAdded, Files};
+ghost use Rattle.month.specs.Code.{withCounts, withCode, withSpaces, Goes, sized, MessageWalked, tallyIn, tallyWords, Fetches, putBack, totalsSmall, linesSmall, Judges, Settles, CountedOn, Files};
 use ari::Input;
 use ari::Limits;
 use day_file::Day;
@@ -120,36 +120,7 @@ fn count_table<'a>(
     tally
 }
 
-// A message that is accepted.
-fn count_accepted<'a>(
-    s: &[u8],
-    limits: Limits,
-    count: usize,
-    entries: &[u64],
-    published: &'a [u8],
-    own: &'a [u8],
-    places: &mut [u64],
-    amounts: &mut [u64],
-    t: Tally,
-) -> Tally
-    requires { ⌜ Tabled limits input.Message (now s) count (now entries) ⌝ }
-    requires { ⌜ (256 ≤ length (now places)) × (256 ≤ length (now amounts)) ⌝ }
-    ensures { λ r. ⌜ Goes t (now (places .entry)) (now (amounts .entry)) (withMessage (messageWith (now (published .entry)) (now (own .entry)) (now (s .entry)))) r (now (places .exit)) (now (amounts .exit)) ⌝ }
-{
-    let u = with_size(t, s.len(), count);
-    count_table(
-        s,
-        limits,
-        count,
-        entries,
-        published,
-        own,
-        places,
-        amounts,
-        u,
-    )
-}
-
+// A message's size and references, if it is accepted.
 fn count_message<'a>(
     limits: Limits,
     s: &[u8],
@@ -167,7 +138,8 @@ fn count_message<'a>(
     match reader::keep(Input::Message, limits, s, table) {
         Answer::Refused { .. } => Walked::Refused(0),
         Answer::Accepted(count) => {
-            Walked::Counted(count_accepted(
+            let u = with_size(t, s.len(), count);
+            Walked::Counted(count_table(
                 s,
                 limits,
                 count,
@@ -176,7 +148,7 @@ fn count_message<'a>(
                 own,
                 places,
                 amounts,
-                t,
+                u,
             ))
         }
     }
@@ -346,44 +318,7 @@ fn count_file<'a>(
     Walked::Counted(tally)
 }
 
-// The messages of a file whose trailer and table stand. A refusal leaves the state as it is.
-fn add_messages<'a>(
-    format: Format,
-    limits: Limits,
-    state: &mut [u64],
-    file: &[u8],
-    count: usize,
-    published: &'a [u8],
-    own: &'a [u8],
-    places: &mut [u64],
-    amounts: &mut [u64],
-    table: &mut [u64],
-) -> Month
-    requires { ⌜ (limits .items ≤ gateLimits .items) × (gateLimits .items ≤ length (now table)) × (limits .bytes < 65536) × (limits .containers < 256) × (count < 65536) × (8 ≤ length (now file)) ⌝ }
-    requires { ⌜ (words ≤ length (now state)) × (256 ≤ length (now places)) × (256 ≤ length (now amounts)) ⌝ }
-    ensures { λ r. ⌜ MessagesAdded format limits (now (file .entry)) count (now (published .entry)) (now (own .entry)) (now (state .entry)) r (now (state .exit)) ⌝ }
-{
-    match count_file(
-        format,
-        limits,
-        state,
-        file,
-        count,
-        published,
-        own,
-        places,
-        amounts,
-        table,
-    ) {
-        Walked::Refused(k) => Month::Refused {
-            number: 22,
-            place: k,
-        },
-        Walked::Counted(u) => settle(state, u, places, amounts),
-    }
-}
-
-// A file whose lists are well-formed.
+// A file whose lists are well-formed. A refusal leaves the state as it is.
 fn add_file<'a>(
     format: Format,
     limits: Limits,
@@ -401,20 +336,24 @@ fn add_file<'a>(
 {
     match day_file::outline(format, file) {
         Day::Refused { number, place } => Month::Refused { number, place },
-        Day::Messages(count) => {
-            add_messages(
-                format,
-                limits,
-                state,
-                file,
-                count,
-                published,
-                own,
-                places,
-                amounts,
-                table,
-            )
-        }
+        Day::Messages(count) => match count_file(
+            format,
+            limits,
+            state,
+            file,
+            count,
+            published,
+            own,
+            places,
+            amounts,
+            table,
+        ) {
+            Walked::Refused(k) => Month::Refused {
+                number: 22,
+                place: k,
+            },
+            Walked::Counted(u) => settle(state, u, places, amounts),
+        },
     }
 }
 

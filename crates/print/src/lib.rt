@@ -355,3 +355,9 @@ pub fn refusal(out: &mut [u8], number: u8, place: usize) {
     let p = refused(out, 0, number, place);
     flush(out, p);
 }
+
+// The same for a program that lends no buffer.
+pub fn send_refusal(number: u8, place: usize) {
+    let mut out = io::buffer();
+    refusal(&mut out, number, place);
+}

@@ -1,8 +1,10 @@
 // What `gate release` and `gate why` do: a message from standard input, judged under the grant table, the lists of names and the subscriber that the arguments
 // name.
 use input_file::Loaded;
+use release::Released;
 use why_held::Link;
 use why_held::Outcome;
+use why_held::Why;
 
 // What is asked of the message.
 pub enum Asked {
@@ -30,22 +32,14 @@ fn show_no(s: &[u8], k: usize, compared: u64, room: &mut [u8], out: &mut [u8]) {
     }
 }
 
-fn judge<'a>(
-    s: &[u8],
-    grants: &[u8],
-    published: &'a [u8],
-    own: &'a [u8],
-    subscriber: u64,
-    room: &mut [u8],
-    out: &mut [u8],
-) {
-    match release::release_message(s, grants, published, own, subscriber) {
-        release::Released::Yes { compared } => {
+fn show_released(s: &[u8], answer: Released, room: &mut [u8], out: &mut [u8]) {
+    match answer {
+        Released::Yes { compared } => {
             let a = buffer::put_all(out, 0, b"yes\n");
             show_compared(out, a, compared);
         }
-        release::Released::No { entry, compared } => show_no(s, entry, compared, room, out),
-        release::Released::Refused { number, place } => print::refusal(out, number, place),
+        Released::No { entry, compared } => show_no(s, entry, compared, room, out),
+        Released::Refused { number, place } => print::refusal(out, number, place),
     }
 }
 
@@ -265,34 +259,12 @@ fn put_links(
     p
 }
 
-// The reason of a listed entry.
-fn put_entry_reason<'a>(
-    s: &[u8],
-    entry: usize,
-    room: &[u8],
-    published: &'a [u8],
-    own: &'a [u8],
-    subscriber: u64,
-    out: &mut [u8],
-    at: usize,
-) -> usize {
-    if listing::ENTRIES <= entry {
-        return at;
-    }
-    let kind = buffer::load8(room, entry * 24 + 8);
-    let word = buffer::load8(room, entry * 24 + 16);
-    put_reason(out, at, s, kind, word, published, own, subscriber)
-}
-
 // The first line: the entry as its text, and the reason. The last link is the entry itself.
-fn put_held<'a>(
+fn put_held(
     s: &[u8],
     entry: usize,
     l: Link,
-    room: &[u8],
-    published: &'a [u8],
-    own: &'a [u8],
-    subscriber: u64,
+    reason: &[u8],
     text: &mut [u8],
     out: &mut [u8],
 ) -> usize {
@@ -300,7 +272,7 @@ fn put_held<'a>(
     let b = buffer::put_all(out, a, b", ");
     let c = put_reference(s, l.first, l.after, text, out, b);
     let d = buffer::put_all(out, c, b": ");
-    let e = put_entry_reason(s, entry, room, published, own, subscriber, out, d);
+    let e = buffer::put_all(out, d, reason);
     buffer::put(out, e, b'\n')
 }
 
@@ -313,48 +285,24 @@ fn last_link(links: [Link; ari::CONTAINERS], count: usize) -> Link {
 }
 
 // The entry with its reason, and the chain down to it.
-fn show_chain<'a>(
+fn show_chain(
     s: &[u8],
     entries: &[u64],
     entry: usize,
     links: [Link; ari::CONTAINERS],
     count: usize,
-    published: &'a [u8],
-    own: &'a [u8],
-    subscriber: u64,
-    room: &[u8],
+    reason: &[u8],
     out: &mut [u8],
 ) {
     let mut text = [0u8; ari::TEXT];
     let l = last_link(links, count);
-    let a = put_held(
-        s,
-        entry,
-        l,
-        room,
-        published,
-        own,
-        subscriber,
-        &mut text,
-        out,
-    );
+    let a = put_held(s, entry, l, reason, &mut text, out);
     let b = put_links(s, entries, links, count, &mut text, out, a);
     print::flush(out, b);
 }
 
-// A held message is accepted: its listing and its items are there.
-fn show_held<'a>(
-    s: &[u8],
-    entry: usize,
-    links: [Link; ari::CONTAINERS],
-    count: usize,
-    published: &'a [u8],
-    own: &'a [u8],
-    subscriber: u64,
-    room: &mut [u8],
-    out: &mut [u8],
-) {
-    listing::list_message(s, room);
+// A held message is accepted: its items are there.
+fn show_held(s: &[u8], entry: usize, w: Why, count: usize, reason: &[u8], out: &mut [u8]) {
     let mut entries = [0u64; ari::ITEMS];
     let r = reader::keep(ari::Input::Message, ari::LIMITS, s, &mut entries);
     let reader::Answer::Accepted(items) = r else {
@@ -363,30 +311,35 @@ fn show_held<'a>(
     if ari::ITEMS < items {
         return;
     }
-    show_chain(
-        s,
-        &entries[0..items],
-        entry,
-        links,
-        count,
-        published,
-        own,
-        subscriber,
-        room,
-        out,
-    );
+    let links = w.links;
+    show_chain(s, &entries[0..items], entry, links, count, reason, out);
 }
 
-fn explain<'a>(
+// Why the entry is held, by the message's listing. What is not held has no reason.
+fn put_entry_reason<'a>(
     s: &[u8],
-    grants: &[u8],
+    outcome: Outcome,
     published: &'a [u8],
     own: &'a [u8],
     subscriber: u64,
     room: &mut [u8],
-    out: &mut [u8],
-) {
-    let w = why_held::why_message(s, grants, published, own, subscriber);
+    words: &mut [u8],
+) -> usize {
+    let Outcome::Held { entry, .. } = outcome else {
+        return 0;
+    };
+    listing::list_message(s, room);
+    if listing::ENTRIES <= entry {
+        return 0;
+    }
+    let kind = buffer::load8(room, entry * 24 + 8);
+    let word = buffer::load8(room, entry * 24 + 16);
+    put_reason(words, 0, s, kind, word, published, own, subscriber)
+}
+
+// The reason is the first bytes of its words, so many as they are, or as there was room for.
+fn show_why(s: &[u8], w: Why, words: &[u8], size: usize, out: &mut [u8]) {
+    let n = buffer::least(size, words.len());
     let outcome = w.outcome;
     match outcome {
         Outcome::Released => {
@@ -394,9 +347,39 @@ fn explain<'a>(
             print::flush(out, a);
         }
         Outcome::Refused { number, place } => print::refusal(out, number, place),
-        Outcome::Held { entry, links, .. } => {
-            let l = w.links;
-            show_held(s, entry, l, links, published, own, subscriber, room, out);
+        Outcome::Held { entry, links, .. } => show_held(s, entry, w, links, &words[0..n], out),
+    }
+}
+
+fn judge<'a>(
+    asked: Asked,
+    s: &[u8],
+    grants: &[u8],
+    published: &'a [u8],
+    own: &'a [u8],
+    subscriber: u64,
+) {
+    let mut room = [0u8; listing::ROOM];
+    let mut out = io::buffer();
+    match asked {
+        Asked::Release => {
+            let answer = release::release_message(s, grants, published, own, subscriber);
+            show_released(s, answer, &mut room, &mut out);
+        }
+        Asked::Why => {
+            let w = why_held::why_message(s, grants, published, own, subscriber);
+            let outcome = w.outcome;
+            let mut words = io::buffer();
+            let n = put_entry_reason(
+                s,
+                outcome,
+                published,
+                own,
+                subscriber,
+                &mut room,
+                &mut words,
+            );
+            show_why(s, w, &words, n, &mut out);
         }
     }
 }
@@ -411,28 +394,7 @@ fn judge_input<'a>(
 ) {
     let mut input = [0u8; ari::BYTES + 1];
     let n = io::read_full(0, &mut input);
-    let mut room = [0u8; listing::ROOM];
-    let mut out = io::buffer();
-    match asked {
-        Asked::Release => judge(
-            &input[..n],
-            grants,
-            published,
-            own,
-            subscriber,
-            &mut room,
-            &mut out,
-        ),
-        Asked::Why => explain(
-            &input[..n],
-            grants,
-            published,
-            own,
-            subscriber,
-            &mut room,
-            &mut out,
-        ),
-    }
+    judge(asked, &input[..n], grants, published, own, subscriber);
 }
 
 // The lists that the third and fourth argument name.

@@ -1,26 +1,25 @@
 -- The ways through the functions of words; the premises are the facts that the code leaves.
-use Prim.Native.Nat.{ℕ, zero, suc, pred, _+_, _-_, _*_, _/_, _^_, _≤_, _<_}
-use Prim.Native.String.{String}
+use Prim.Native.Nat.{ℕ, zero, suc, _+_, _-_, _*_, _/_, _^_, _≤_, _<_}
 use mathlib.Core.Path.{_≡_, refl, sym, _∙_, ap}
-use mathlib.Core.Bool.{Bool, true, false, not, _&&_, cond, true≢false}
-use mathlib.Core.List.{List, [], _∷_, _++_}
+use mathlib.Core.Bool.{Bool, true, false, _&&_, cond, true≢false}
+use mathlib.Core.List.{List, [], _∷_}
 use native.Mathlib.Omega.{arith}
 use native.Mathlib.Nat.{pow-le-pow-right, pow-suc, add-mul, mul-assoc, mul-comm, add-assoc}
 use native.Mathlib.Numerals.{add-one, sub-one}
-use lib.ListN.{length, take, drop, getD, length-take, length-drop}
+use lib.ListN.{length, take, drop, getD, length-drop}
 use lib.Seq.{drop-drop, take-nil, take-take, length-take-le}
 use lib.Dec.{ltb, leb, eqb}
-use borrow.Author.Tests.{lt-ltb, le-ltb, ltb-true, ltb-false, leb-true, eq-eqb, ne-eqb, eqb-true, eqb-false}
+use borrow.Author.Tests.{le-ltb, ltb-false, leb-true, eq-eqb, ne-eqb}
 use Rattle.buffer.specs.Bytes.{be, value, all, isByte, same, part}
-use Rattle.buffer.specs.Runs.{RunTo, front, past}
+use Rattle.buffer.specs.Runs.{RunTo, past}
 use Rattle.buffer.proofs.RunLaws.{here, beyond, part-none}
-use Rattle.buffer.proofs.ByteLaws.{and-true, value-lt, be-value, all-take, all-drop, same-is, same-self}
+use Rattle.buffer.proofs.ByteLaws.{and-true, value-lt, be-value, same-is, same-self}
 use Rattle.ari.specs.Decode.{Headed}
 use Rattle.text.specs.Chars.{ascii}
 use Rattle.text.specs.Text.{Name, name, names}
-use Rattle.text.specs.Parse.{ends, inWord, startsBy, starts, number, any, unescape, unhexes, inner, headOf, stringOf, integerOf, literalOf, startsNumber, nameOf, numberIn, typeNumber, typeOf, commas, count, Taken, takeWord, takeGroup, parts, takeReference, takeAri, takeNothing}
+use Rattle.text.specs.Parse.{ends, inWord, startsBy, starts, number, any, unescape, unhexes, inner, headOf, stringOf, integerOf, literalOf, startsNumber, nameOf, numberIn, typeNumber, typeOf, commas, count, Taken, takeWord, takeGroup, parts, takeReference, takeAri}
 use Rattle.text_read_item.specs.declared.Word.{Word}
-use Rattle.text_read_item.specs.Words.{firstOf, NextTo, strBy, Small, Bounded, Found, plainAt, wordAt, textWord, bytesWord, horner, keyOf, keyIn, takeValue, takeSpace, takeParams, takeSpelled}
+use Rattle.text_read_item.specs.Words.{firstOf, NextTo, Small, Found, plainAt, wordAt, textWord, bytesWord, horner, keyOf, keyIn, takeValue, takeSpace, takeParams, takeSpelled}
 
 abbrev pub word : ℕ → ℕ → ℕ → ℕ → ℕ → ℕ → Word
 word k a f x y n = record { kind = k; arg = a; form = f; from = x; to = y; next = n }
@@ -167,7 +166,7 @@ module _ (t : List ℕ) (from to : ℕ) (h : from ≤ to) (g : to ≤ length t) 
       }
 
 -- a literal by its first byte
-unfoldable literalBy : ℕ → List ℕ → Headed
+unfoldable pub literalBy : ℕ → List ℕ → Headed
 literalBy x u =
     cond (eqb x 37) (textWord u)
     (cond (eqb x 104) (bytesWord u)
@@ -185,29 +184,8 @@ module _ (t : List ℕ) (from to : ℕ) {x : ℕ} (e : x ≡ firstOf (part t fro
   by : (h : Headed) → literalBy x (part t from to) ≡ h → takenBy h (drop to t) ≡ wordAt literalOf t from to
   by h q = ap (λ (y : Headed). takenBy y (drop to t)) (sym (literal-by (part t from to) ∙ ap (λ (n : ℕ). literalBy n (part t from to)) (sym e) ∙ q))
 
-  pub literal-text : {w : Word} → x ≡ 37 → Found t (wordAt textWord t from to) w → Found t (wordAt literalOf t from to) w
-  unfolding literalBy
-  literal-text h f = found-as f (by (textWord (part t from to)) (rw h))
-
-  pub literal-bytes : {w : Word} → x ≡ 104 → Found t (wordAt bytesWord t from to) w → Found t (wordAt literalOf t from to) w
-  unfolding literalBy
-  literal-bytes h f = found-as f (by (bytesWord (part t from to)) (rw h))
-
-  pub literal-false : {w : Word} → x ≡ 102 → Found t (plainAt t 6 20 to) w → Found t (wordAt literalOf t from to) w
-  unfolding literalBy
-  literal-false h f = found-as f (by (headOf 6 20 []) (rw h))
-
-  pub literal-true : {w : Word} → x ≡ 116 → Found t (plainAt t 6 21 to) w → Found t (wordAt literalOf t from to) w
-  unfolding literalBy
-  literal-true h f = found-as f (by (headOf 6 21 []) (rw h))
-
-  pub literal-null : {w : Word} → x ≡ 110 → Found t (plainAt t 6 22 to) w → Found t (wordAt literalOf t from to) w
-  unfolding literalBy
-  literal-null h f = found-as f (by (headOf 6 22 []) (rw h))
-
-  pub literal-undefined : {w : Word} → x ≡ 117 → Found t (plainAt t 6 23 to) w → Found t (wordAt literalOf t from to) w
-  unfolding literalBy
-  literal-undefined h f = found-as f (by (headOf 6 23 []) (rw h))
+  pub literal-as : {y : ℕ} {w : Word} → x ≡ y → Found t (takenBy (literalBy y (part t from to)) (drop to t)) w → Found t (wordAt literalOf t from to) w
+  literal-as {y} h f = found-as f (by (literalBy y (part t from to)) (rw h))
 
   pub literal-integer : {w : Word} → (x ≡ 37 → ⊥) → (x ≡ 104 → ⊥) → (x ≡ 102 → ⊥) → (x ≡ 116 → ⊥) → (x ≡ 110 → ⊥) → (x ≡ 117 → ⊥) → Found t (wordAt integerOf t from to) w
       → Found t (wordAt literalOf t from to) w
@@ -383,6 +361,6 @@ no-spelling t w k at a b c d e f g h i j p =
 
 pub ruleset found = (small-count, small-simple, plain-found, count-none, count-some, grouped, params-follow, parts-out, parts-end, parts-four, parts-three, referred, negative-none, negative-some, from-zero, text-none, text-some, bytes-none, bytes-some, name-number, name-bare, type-found)
 
-pub ruleset literals = (small-simple, literal-text, literal-bytes, literal-false, literal-true, literal-null, literal-undefined, literal-integer)
+pub ruleset literals = (small-simple, literal-as, literal-integer)
 
 pub ruleset placed = (small-simple, small-count, word-found, absolute-found, space-relative, space-absolute, ari-reference, ari-typed, ari-relative, ari-literal, value-group, value-word, params-map, params-array, no-spelling)

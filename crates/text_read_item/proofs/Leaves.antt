@@ -2,14 +2,14 @@
 use Prim.Native.Nat.{ℕ, zero, suc, _+_, _-_, _*_, _^_, _≤_, _<_}
 use mathlib.Core.Path.{_≡_, refl, sym, _∙_, ap}
 use mathlib.Core.Bool.{Bool, true, false, not, _&&_, _||_, cond, true≢false}
-use mathlib.Core.List.{List, [], _∷_, _++_}
+use mathlib.Core.List.{List, [], _∷_}
 use native.Mathlib.Omega.{arith}
 use native.Mathlib.Nat.{pow-le-pow-right, pow-suc}
 use native.Mathlib.Numerals.{add-one}
-use lib.ListN.{length, take, drop, getD, length-drop}
+use lib.ListN.{length, drop, getD, length-drop}
 use lib.Seq.{drop-drop, drop-length, drop-nil}
 use lib.Dec.{ltb, leb, eqb}
-use borrow.Author.Tests.{lt-ltb, le-ltb, le-leb, lt-leb, ltb-true, ltb-false, eq-eqb, ne-eqb}
+use borrow.Author.Tests.{lt-ltb, le-ltb, le-leb, lt-leb, ltb-true, ltb-false, ne-eqb}
 use Rattle.buffer.specs.Bytes.{within, part}
 use Rattle.buffer.specs.Put.{Put}
 use Rattle.buffer.specs.Runs.{RunTo}
@@ -19,7 +19,7 @@ use Rattle.buffer.specs.Decimal.{unsignedOf}
 use Rattle.buffer.proofs.ByteLaws.{not-true, within-is}
 use Rattle.buffer.proofs.RunLaws.{here, beyond, part-all, Ahead, run-begins, run-ends, run-out, run-on}
 use Rattle.buffer.proofs.Putting.{put-nothing, put-both}
-use Rattle.text.specs.Parse.{ends, inWord, startsBy, starts, number, unhex, any, first, second, unescape, unhexes, startsNumber, opened, commas, count}
+use Rattle.text.specs.Parse.{ends, inWord, startsBy, starts, number, unhex, any, first, unescape, unhexes, startsNumber, opened, commas, count}
 use Rattle.text_read_item.specs.declared.Escape.{Escape}
 use Rattle.text_read_item.specs.Words.{firstOf, NextTo, EscapeAt, strBy, horner, keyOf, commaOf}
 
@@ -45,21 +45,8 @@ starts-none t p c h = rw (beyond t p h)
 
 -- the bytes that end a word
 module _ (x : ℕ) where
-  pub ends-open : x ≡ 40 → true ≡ ends x
-  unfolding ends
-  ends-open e = rw e
-
-  pub ends-close : x ≡ 41 → true ≡ ends x
-  unfolding ends
-  ends-close e = rw e
-
-  pub ends-comma : x ≡ 44 → true ≡ ends x
-  unfolding ends
-  ends-comma e = rw e
-
-  pub ends-slash : x ≡ 47 → true ≡ ends x
-  unfolding ends
-  ends-slash e = rw e
+  pub ends-by : {n : ℕ} → x ≡ n → true ≡ ends n → true ≡ ends x
+  ends-by e h = rw e h
 
   pub ends-equal : (x ≡ 40 → ⊥) → (x ≡ 41 → ⊥) → (x ≡ 44 → ⊥) → (x ≡ 47 → ⊥) → eqb x 61 ≡ ends x
   unfolding ends
@@ -381,7 +368,7 @@ module _ (t : List ℕ) (at e n i : ℕ) (a : Counted t at e n i) where
   unfolding commas
   count-ends {c} {o} h (p, p₁) (q, q₁) f = let z = rw (here t i h, ← p, ← q, f, no-commas (drop (i + 1) t)) at (a .is) in omega arith
 
-pub ruleset leaves = (skip-past, skip-end, skip-on, starts-at, starts-none, ends-open, ends-close, ends-comma, ends-slash, ends-equal, run-begins, word-ends, run-out, word-on, first-is, first-none, number-out, number-value, number-bad, unhex-below, unhex-digit, unhex-between, unhex-upper, unhex-gap, unhex-lower, unhex-above, two-digits, escape-bare, escape-cut, escape-whole, escape-in)
+pub ruleset leaves = (skip-past, skip-end, skip-on, starts-at, starts-none, ends-by, ends-equal, run-begins, word-ends, run-out, word-on, first-is, first-none, number-out, number-value, number-bad, unhex-below, unhex-digit, unhex-between, unhex-upper, unhex-gap, unhex-lower, unhex-above, two-digits, escape-bare, escape-cut, escape-whole, escape-in)
 
 pub ruleset strings = (counted-out, counted-cut, counted-on, leads-begin, unescaped-out, unescaped-cut, unescaped-on, unhexed-out, unhexed-on, string-bare, string-escaped, string-hex, escape-in)
 

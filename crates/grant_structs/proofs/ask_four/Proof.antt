@@ -3,7 +3,7 @@ use Rattle.grant_structs.proofs.Walk.{_≡_, refl, sym, ap, subst, ℕ,
 use Rattle.grant_structs.proofs.Walk.{id⊢, Lft, GName, Share, ftrue, fat, flft, Memory, Routine, Heap, WpFn, Tables, Atoms, Fun, factI, givenOf, tables, tablesOf, Given, ‵, raw, _⊛_, ⋆, _$_, _∵_, !, qed, by, move, drop, use2}
 use Rattle.grant_structs.proofs.Walk.{split, join, rewrite, fsplit, fjoin, frame, done, agg, look, init, forget, stop, from, load, lit, of-opd, addr, and-then, no-more, assigns, land, returns, enter, alloc1, alloc0, params1}
 use Rattle.grant_structs.proofs.Walk.{pass1, pass0, free1, free0, fmOf, owns, Is, uint-vals, uint-tells, bool-lawful, sint-vals, sint-tells, u8, u64, i64, bool, RefT, Room, sliceVal, ShrSlice, slice-vals, shr-slice-tells, only}
-use Rattle.grant_structs.proofs.Walk.{nothing, Contract, Triple, calls-at, Vals, onEntry, Meets, tripleOf, entered, cited, walkOf}
+use Rattle.grant_structs.proofs.Walk.{nothing, Triple, calls-at, Vals, onEntry, Meets, tripleOf, entered, cited, walkOf}
 use denote.Array.{array-tells, array-lawful}
 use denote.Struct.Laws as LL
 use denote.Enum.Laws as EL
@@ -26,6 +26,8 @@ use Rattle.grant_structs.proofs.Grant.Laws as T′
 use Rattle.grant_structs.proofs.Answers as N
 use Rattle.grant_structs.proofs.Answers.Laws as N′
 use Rattle.grant_structs.proofs.Over.{R, slice, slice-of, Own, Bytes, own-word, own-int, copies-rows, use5, answered-κ, answered-κκ}
+use Rattle.grant_structs.proofs.Contracts.{Checks, Granted, Releases}
+use Rattle.grant_structs.proofs.Values.{val-verdict as val-c, val-released as val-r}
 use Rattle.grant_structs.proofs.Leaving.{Gone, leaves, meets-by, of-κ}
 use Rattle.grant_structs.proofs.Lending.{ref}
 use Rattle.grant_structs.proofs.Lent.{AR, vals, mach, lends, ends}
@@ -47,12 +49,6 @@ use Rattle.grant_structs.proofs.ask_four.Statement as stated
 use Rattle.grant_structs.proofs.ask_four.Code as code
 
 -- the machine values of the answers
-abbrev val-c : Verdict → Val
-val-c = EL.val C.the-type C′.the-laws
-
-abbrev val-r : Released → Val
-val-r = EL.val S.the-type S′.the-laws
-
 abbrev val : Answers → Val
 val r = only (LL.vals N.the-type N′.the-laws r)
 
@@ -60,20 +56,11 @@ abbrev Sound : Answers → Type 0
 Sound r = Is N.the-row r (val r ∷ [])
 
 module _ {M : Type 1} (𝓤 : URA M) (H : Heap 𝓤) (A : Atoms 𝓤) (mem : Memory → SProp 𝓤) (run : Routine → Fun 𝓤) where
-  abbrev Checks : Contract 𝓤
-  Checks = tripleOf 𝓤 H A check-grants.signature (check-grants.spec 𝓤 H A mem run)
-
-  abbrev Granted : Contract 𝓤
-  Granted = tripleOf 𝓤 H A granted.signature (granted.spec 𝓤 H A mem run)
-
-  abbrev Releases : Contract 𝓤
-  Releases = tripleOf 𝓤 H A release-grants.signature (release-grants.spec 𝓤 H A mem run)
-
   -- what the proof knows of them
   pub record Known (𝓣 : Tables 𝓤 H) : Type 1 where
-    pub of-check : Triple 𝓤 (𝓣 .C #grant-structs·check-grants) Checks
-    pub of-granted : Triple 𝓤 (𝓣 .C #grant-structs·granted) Granted
-    pub of-release : Triple 𝓤 (𝓣 .C #grant-structs·release-grants) Releases
+    pub of-check : Triple 𝓤 (𝓣 .C #grant-structs·check-grants) (Checks 𝓤 H A mem run)
+    pub of-granted : Triple 𝓤 (𝓣 .C #grant-structs·granted) (Granted 𝓤 H A mem run)
+    pub of-release : Triple 𝓤 (𝓣 .C #grant-structs·release-grants) (Releases 𝓤 H A mem run)
 
 module _ {M : Type 1} (𝓤 : URA M) (H : Heap 𝓤) (A : Atoms 𝓤) (W : Given 𝓤 H A) (mem : Memory → SProp 𝓤) (run : Routine → Fun 𝓤) (κ : Lft) (q : Share) (w : RefT (List ℕ)) (xs : List Grant) (p o : RefT (List ℕ)) (s : ℕ) (z : ℤ)
     (gw : Room u8 (length (w .now))) (ix : Is AR xs (vals xs)) (len : length xs ≡ 4) (gp : Room u8 (length (p .now))) (go : Room u8 (length (o .now))) (gs : s < 2 ^ 64) (gz : mag z < 2 ^ hbits w64) where

@@ -4,7 +4,7 @@ use Rattle.grant_structs.proofs.Walk.{_≡_, refl, sym, _∙_, ap, subs
 use Rattle.grant_structs.proofs.Walk.{vptr, SProp, ent, emp, via, fst∗, id⊢, Lft, GName, Share, ftrue, fat, froom, fdies, flft, Memory, Routine, Heap, Out, Env, afterSeq, afterBlock, afterTurn, atReturn, Wp, WpFn, Tables, Atoms}
 use Rattle.grant_structs.proofs.Walk.{Fun, factI, givenOf, tables, tablesOf, Given, Item, Sq, ‵, raw, _⊛_, ⋆, anyQ, atRet, runs, _$_, _∵_, !, qed, by, move, keep, drop, use0, use2, join, rewrite, fsplit, fjoin, frame, done, whole}
 use Rattle.grant_structs.proofs.Walk.{sub, look-in, look, look-raw, store, init, forget, stop, hop, fld, from, load, lit, of-opd, bin, and-then, no-more, assigns, assigns-last, land, first, blocks, returns, enter, alloc1, alloc0}
-use Rattle.grant_structs.proofs.Walk.{params1, pass1, pass0, free1, free0, exec, Below, again, loops, fmOf, owns, Is, uint-lawful, usize, RefT, Room, sliceVal, ShrSlice, slice-vals, shr-slice-tells, only, nothing, Contract, Triple}
+use Rattle.grant_structs.proofs.Walk.{params1, pass1, pass0, free1, free0, exec, Below, again, loops, fmOf, owns, Is, uint-lawful, usize, RefT, Room, sliceVal, ShrSlice, slice-vals, shr-slice-tells, only, nothing, Triple}
 use Rattle.grant_structs.proofs.Walk.{calls-at, onEntry, Meets, tripleOf, entered, cited, walkOf}
 use mathlib.Core.Bool.{true}
 use types.Run.{true-lit}
@@ -19,6 +19,8 @@ use Rattle.grant_structs.specs.declared.Grant.{Grant}
 use Rattle.grant_structs.specs.Structs.{grantOf, grants, firstRow, rowAt, foundAt}
 use Rattle.grant_structs.proofs.Grant.Laws as T′
 use Rattle.grant_structs.proofs.Over.{R, slice, Own, Shr, at-row, row-typed, own-word, opens-rows, copies-rows, looks-row, shuts-row, answered, answered-κ}
+use Rattle.grant_structs.proofs.Contracts.{Verdicts}
+use Rattle.grant_structs.proofs.Values.{val-verdict as val, Sound-verdict as Sound}
 use Rattle.grant_structs.proofs.Leaving.{Gone, leaves, meets-by, of-κ}
 use Rattle.grant_structs.proofs.Turn.{tests, breaks, Upto, nearer, nearer-wf, is-true, is-false}
 use Rattle.grant_structs.proofs.Searched.{Unseen, row-tells, at-first, alone, paired, all-seen}
@@ -40,23 +42,13 @@ use Rattle.grant_structs.proofs.check_grants.Code.Mir as piece
 abbrev word : Ty
 word = tyInt w64
 
--- a verdict's machine value
-abbrev val : Verdict → Val
-val = EL.val S.the-type S′.the-laws
-
-abbrev Sound : Verdict → Type 0
-Sound c = Is S.the-row c (val c ∷ [])
-
 -- ---- the callee that makes the answer
 module _ {M : Type 1} (𝓤 : URA M) (H : Heap 𝓤) (A : Atoms 𝓤) (mem : Memory → SProp 𝓤) (run : Routine → Fun 𝓤) where
-  abbrev Says : Contract 𝓤
-  Says = tripleOf 𝓤 H A verdict.signature (verdict.spec 𝓤 H A mem run)
-
   module _ (i n : ℕ) where
-    abbrev to-verdict : Says .Ghost
+    abbrev to-verdict : Verdicts 𝓤 H A mem run .Ghost
     to-verdict = ((tt, tt, tt, (i, (n, tt)), (vint w64 i ∷ [], (vint w64 n ∷ [], tt))), tt)
 
-    asked-verdict : Given 𝓤 H A → i < 2 ^ 64 → n < 2 ^ 64 → ent 𝓤 (emp 𝓤) (Says .pre to-verdict)
+    asked-verdict : Given 𝓤 H A → i < 2 ^ 64 → n < 2 ^ 64 → ent 𝓤 (emp 𝓤) (Verdicts 𝓤 H A mem run .pre to-verdict)
     asked-verdict W gi gn = qed W [] ∵ nothing ! $ own-word ! n gn $ fjoin ! $ own-word ! i gi $ fjoin ! $ nothing ! $ join ! $ frame ! $ done !
 
 module _ {M : Type 1} (𝓤 : URA M) (H : Heap 𝓤) (A : Atoms 𝓤) (W : Given 𝓤 H A) (mem : Memory → SProp 𝓤) (run : Routine → Fun 𝓤) (κ : Lft) (q : Share) (b o : ℕ) (γ : GName) (ys : List Grant) (gn : Room R (length ys)) where
@@ -79,7 +71,7 @@ module _ {M : Type 1} (𝓤 : URA M) (H : Heap 𝓤) (A : Atoms 𝓤) (W : Given
   exits c ic e =
       leaves 𝓤 H A W check-grants.ended (check-grants.clauses 𝓤 H A mem run) (((κ, tt), (q, tt), tt, (a, tt), (v ∷ [], tt)), tt) (val c) c (tt, tt) _ (of-κ 𝓤 H A W κ q) (EL.makes S.the-type S′.the-plain 𝓤 H A c _ ic) (factI 𝓤 _ (emp 𝓤) e)
 
-  module _ (𝓣 : Tables 𝓤 H) (known : Triple 𝓤 (𝓣 .C #grant-structs·first-row) (FirstRow 𝓤 H A mem run)) (known-verdict : Triple 𝓤 (𝓣 .C #grant-structs·verdict) (Says 𝓤 H A mem run)) (l₀ l₁ l₂ l₃ l₄ l₅ l₆ l₇ l₈ : ℕ) where
+  module _ (𝓣 : Tables 𝓤 H) (known : Triple 𝓤 (𝓣 .C #grant-structs·first-row) (FirstRow 𝓤 H A mem run)) (known-verdict : Triple 𝓤 (𝓣 .C #grant-structs·verdict) (Verdicts 𝓤 H A mem run)) (l₀ l₁ l₂ l₃ l₄ l₅ l₆ l₇ l₈ : ℕ) where
     abbrev En : Env 𝓤 H
     En = (S′.mir, l₀) ∷ (slice (named 0), l₁) ∷ (word, l₂) ∷ (word, l₃) ∷ (tyBool, l₄) ∷ (word, l₅) ∷ (word, l₆) ∷ (tyPtr, l₇) ∷ (T′.mir, l₈) ∷ []
 
@@ -93,8 +85,8 @@ module _ {M : Type 1} (𝓤 : URA M) (H : Heap 𝓤) (A : Atoms 𝓤) (W : Given
     rest : (i : ℕ) → i ≤ n → foundAt i n ≡ check (grants ys) → Sq W (At i) (runs (𝓣 .C) (𝓣 .Λ) En piece.t-4 (atRet En Post))
     rest i le e =
         let gi : i < 2 ^ 64 = omega (arith, gn .0) in
-        use0 W (raw (Says 𝓤 H A mem run .pre (to-verdict 𝓤 H A mem run i n))) (asked-verdict 𝓤 H A mem run i n W gi (gn .0)) $
-        calls-at ! (fmOf 𝓤 H (W .laws) 𝓣) (Says 𝓤 H A mem run) known-verdict (to-verdict 𝓤 H A mem run i n)
+        use0 W (raw (Verdicts 𝓤 H A mem run .pre (to-verdict 𝓤 H A mem run i n))) (asked-verdict 𝓤 H A mem run i n W gi (gn .0)) $
+        calls-at ! (fmOf 𝓤 H (W .laws) 𝓣) (Verdicts 𝓤 H A mem run) known-verdict (to-verdict 𝓤 H A mem run i n)
         (and-then ! (load ! (from ! (stop !)) (look ! 14 refl)) (and-then ! (load ! (from ! (stop !)) (look ! 16 refl)) (no-more !))) (λ u.
         answered ! tt S.the-row u verdict.ended (to-verdict 𝓤 H A mem run i n .0) (λ c. checkOf c ≡ foundAt i n) (id⊢ 𝓤 _) (λ c e′ is.
         let tells : u ∷ [] ≡ val c ∷ [] = EL.tells S.the-type S′.the-laws c (u ∷ []) is in
@@ -146,7 +138,7 @@ module _ {M : Type 1} (𝓤 : URA M) (H : Heap 𝓤) (A : Atoms 𝓤) (W : Given
     begins : Sq W (Inv (0, (omega arith, at-first ys))) (runs (𝓣 .C) (𝓣 .Λ) En piece.t-3 (atRet En Post))
     begins = first ! $ blocks ! $ loops ! 𝓣 (nearer n P) (nearer-wf n P) Inv turn (0, (omega arith, at-first ys))
 
-  walk : (𝓣 : Tables 𝓤 H) → Triple 𝓤 (𝓣 .C #grant-structs·first-row) (FirstRow 𝓤 H A mem run) → Triple 𝓤 (𝓣 .C #grant-structs·verdict) (Says 𝓤 H A mem run)
+  walk : (𝓣 : Tables 𝓤 H) → Triple 𝓤 (𝓣 .C #grant-structs·first-row) (FirstRow 𝓤 H A mem run) → Triple 𝓤 (𝓣 .C #grant-structs·verdict) (Verdicts 𝓤 H A mem run)
       → ent 𝓤 (onEntry 𝓤 H A check-grants.signature (κ, tt) (q, tt) (a, tt) (v ∷ [], tt)) (WpFn 𝓤 H (𝓣 .C) (𝓣 .Λ) code.function (v ∷ []) Post)
   walk 𝓣 known known-verdict =
       qed W ((‵ (flft κ q) ⊛ ‵ ftrue) ∷ ‵ (owns (ShrSlice (named 0) κ R ∷ []) (a, tt) (v ∷ [], tt)) ∷ []) ∵ move ! (1 ∷ []) $ fsplit ! $ move ! (1 ∷ []) $ drop ! $ opens-rows ! a $
@@ -158,7 +150,7 @@ module _ {M : Type 1} (𝓤 : URA M) (H : Heap 𝓤) (A : Atoms 𝓤) (W : Given
       move ! (18 ∷ 19 ∷ 20 ∷ []) $ begins 𝓣 known known-verdict l₀ l₁ l₂ l₃ l₄ l₅ l₆ l₇ l₈)))))))))
 
 module _ {M : Type 1} (𝓤 : URA M) (H : Heap 𝓤) (A : Atoms 𝓤) (W : Given 𝓤 H A) (mem : Memory → SProp 𝓤) (run : Routine → Fun 𝓤) (𝓣 : Tables 𝓤 H)
-    (known : Triple 𝓤 (𝓣 .C #grant-structs·first-row) (FirstRow 𝓤 H A mem run)) (known-verdict : Triple 𝓤 (𝓣 .C #grant-structs·verdict) (Says 𝓤 H A mem run)) where
+    (known : Triple 𝓤 (𝓣 .C #grant-structs·first-row) (FirstRow 𝓤 H A mem run)) (known-verdict : Triple 𝓤 (𝓣 .C #grant-structs·verdict) (Verdicts 𝓤 H A mem run)) where
   meets-it : Meets 𝓤 H A check-grants.signature (WpFn 𝓤 H (𝓣 .C) (𝓣 .Λ) code.function) (check-grants.spec 𝓤 H A mem run)
   meets-it =
       meets-by 𝓤 H A W check-grants.ended (check-grants.clauses 𝓤 H A mem run) ((λ κs x f. refl), tt) 𝓣 code.function
@@ -172,4 +164,4 @@ check-grants-spec 𝓤 H 𝓜 𝓖 𝓡 =
     (tables 𝓤 H 𝓜 𝓡 code.env .C) (tables 𝓤 H 𝓜 𝓡 code.env .Λ) #grant-structs·check-grants code.function (code.unfolded 𝓤 H 𝓜 𝓡)
     (meets-it 𝓤 H (𝓖 .A) (givenOf 𝓤 H 𝓜 𝓖) (𝓜 .mem) (𝓡 .run) (tablesOf 𝓤 H 𝓜 (tables 𝓤 H 𝓜 𝓡 code.env))
     (cited 𝓤 H (FirstRow 𝓤 H (𝓖 .A) (𝓜 .mem) (𝓡 .run)) 𝓜 𝓡 code.env #grant-structs·first-row first-row-def.routine code.calls-grant-structs·first-row (first-row-thm.met 𝓤 H 𝓜 𝓖 𝓡))
-    (cited 𝓤 H (Says 𝓤 H (𝓖 .A) (𝓜 .mem) (𝓡 .run)) 𝓜 𝓡 code.env #grant-structs·verdict verdict-def.routine code.calls-grant-structs·verdict (verdict-thm.met 𝓤 H 𝓜 𝓖 𝓡)))
+    (cited 𝓤 H (Verdicts 𝓤 H (𝓖 .A) (𝓜 .mem) (𝓡 .run)) 𝓜 𝓡 code.env #grant-structs·verdict verdict-def.routine code.calls-grant-structs·verdict (verdict-thm.met 𝓤 H 𝓜 𝓖 𝓡)))

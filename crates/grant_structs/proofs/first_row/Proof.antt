@@ -5,7 +5,7 @@ use Rattle.grant_structs.proofs.Walk.{vptr, vbool, SProp, ent, emp, id�
 use Rattle.grant_structs.proofs.Walk.{factI, givenOf, tables, tablesOf, Given, Item, Sq, ‵, raw, _⊛_, ⋆, anyQ, atRet, runs, _$_, _∵_, !, qed, by, move, keep, drop, use0, join, rewrite, fsplit, fjoin, frame, done, whole, sub}
 use Rattle.grant_structs.proofs.Walk.{look-in, look, look-raw, store, init, forget, stop, hop, fld, from, load, lit, of-opd, bin, and-then, no-more, assigns, assigns-last, land, first, blocks, returns, enter, alloc1, alloc0}
 use Rattle.grant_structs.proofs.Walk.{params1, pass1, pass0, free1, free0, exec, Below, again, loops, fmOf, owns, uint-vals, uint-tells, bool-lawful, usize, bool, RefT, Room, sliceVal, ShrSlice, slice-vals}
-use Rattle.grant_structs.proofs.Walk.{shr-slice-tells, only, nothing, Contract, Triple, calls-at, Vals, onEntry, Meets, tripleOf, entered, cited, needs, walkOf}
+use Rattle.grant_structs.proofs.Walk.{shr-slice-tells, only, nothing, Triple, calls-at, Vals, onEntry, Meets, tripleOf, entered, cited, needs, walkOf}
 use denote.Plain.{uint-makes, bool-vals, bool-tells}
 use denote.Struct.Laws as LL
 use Rattle.grant_structs.specs.declared.Grant.{Grant}
@@ -13,6 +13,7 @@ use Rattle.grant_structs.specs.Structs.{grantOf, grants, meetsBy, firstR
 use Rattle.grant_structs.proofs.Grant as T
 use Rattle.grant_structs.proofs.Grant.Laws as T′
 use Rattle.grant_structs.proofs.Over.{R, low, slice, Fine, Own, Shr, at-row, row-typed, own-bool, own-grant, opens-rows, looks-row, shuts-row, answered}
+use Rattle.grant_structs.proofs.Contracts.{RowMeets}
 use Rattle.grant_structs.proofs.Leaving.{Gone, leaves, meets-by, of-κ}
 use Rattle.grant_structs.proofs.Turn.{tests, breaks, Upto, nearer, nearer-wf, is-true, is-false}
 use Rattle.grant_structs.proofs.Searched.{Sought, none-sought, missed, hit, none-left}
@@ -31,14 +32,11 @@ word = tyInt w64
 
 -- ---- the callee
 module _ {M : Type 1} (𝓤 : URA M) (H : Heap 𝓤) (A : Atoms 𝓤) (mem : Memory → SProp 𝓤) (run : Routine → Fun 𝓤) where
-  abbrev Meets′ : Contract 𝓤
-  Meets′ = tripleOf 𝓤 H A meets.signature (meets.spec 𝓤 H A mem run)
-
   module _ (c : Bool) (h g : Grant) where
-    abbrev to : Meets′ .Ghost
+    abbrev to : RowMeets 𝓤 H A mem run .Ghost
     to = ((tt, tt, tt, (c, (h, (g, tt))), (vbool c ∷ [], (low h ∷ [], (low g ∷ [], tt)))), tt)
 
-    asked : Given 𝓤 H A → Fine h → Fine g → ent 𝓤 (emp 𝓤) (Meets′ .pre to)
+    asked : Given 𝓤 H A → Fine h → Fine g → ent 𝓤 (emp 𝓤) (RowMeets 𝓤 H A mem run .pre to)
     asked W ih ig = qed W [] ∵ nothing ! $ own-grant ! g ig $ fjoin ! $ own-grant ! h ih $ fjoin ! $ own-bool ! c $ fjoin ! $ nothing ! $ join ! $ frame ! $ done !
 
 module _ {M : Type 1} (𝓤 : URA M) (H : Heap 𝓤) (A : Atoms 𝓤) (W : Given 𝓤 H A) (mem : Memory → SProp 𝓤) (run : Routine → Fun 𝓤) (κ : Lft) (q : Share) (b o : ℕ) (γ : GName) (ys : List Grant) (m : ℕ) (c : Bool) (g : Grant)
@@ -65,7 +63,7 @@ module _ {M : Type 1} (𝓤 : URA M) (H : Heap 𝓤) (A : Atoms 𝓤) (W : Given
   exits i gi e =
       leaves 𝓤 H A W first-row.ended (first-row.clauses 𝓤 H A mem run) (((κ, tt), (q, tt), tt, (a, (m, (c, (g, tt)))), at), tt) (vint w64 i) i (tt, (tt, (tt, (tt, tt)))) _ (of-κ 𝓤 H A W κ q) (uint-makes 𝓤 H A W w64 i _ (refl, gi)) (factI 𝓤 _ (emp 𝓤) e)
 
-  module _ (𝓣 : Tables 𝓤 H) (known : Triple 𝓤 (𝓣 .C #grant-structs·meets) (Meets′ 𝓤 H A mem run)) (l₀ l₁ l₂ l₃ l₄ l₅ l₆ l₇ l₈ l₉ l₁₀ : ℕ) where
+  module _ (𝓣 : Tables 𝓤 H) (known : Triple 𝓤 (𝓣 .C #grant-structs·meets) (RowMeets 𝓤 H A mem run)) (l₀ l₁ l₂ l₃ l₄ l₅ l₆ l₇ l₈ l₉ l₁₀ : ℕ) where
     abbrev En : Env 𝓤 H
     En = (word, l₀) ∷ (slice (named 0), l₁) ∷ (word, l₂) ∷ (tyBool, l₃) ∷ (T′.mir, l₄) ∷ (word, l₅) ∷ (tyBool, l₆) ∷ (tyBool, l₇) ∷ (word, l₈) ∷ (tyPtr, l₉) ∷ (T′.mir, l₁₀) ∷ []
 
@@ -106,8 +104,8 @@ module _ {M : Type 1} (𝓤 : URA M) (H : Heap 𝓤) (A : Atoms 𝓤) (W : Given
         looks-row ! tt ys i b o l (λ q′ ih.
         -- [t[i]; what it owns; the others; what shuts; Shr; Own; _10; …]
         assigns ! (of-opd ! (load ! (from ! (hop ! (look ! 8 refl) (stop !))) (look-raw ! 0 refl))) (from ! (stop !)) (init ! 6 refl (row-typed W (rowAt ys i) ih)) $ shuts-row ! tt q′ ys i b o l $
-        use0 W (raw (Meets′ 𝓤 H A mem run .pre (to 𝓤 H A mem run c (rowAt ys i) g))) (asked 𝓤 H A mem run c (rowAt ys i) g W ih ig) $
-        calls-at ! (fmOf 𝓤 H (W .laws) 𝓣) (Meets′ 𝓤 H A mem run) known (to 𝓤 H A mem run c (rowAt ys i) g)
+        use0 W (raw (RowMeets 𝓤 H A mem run .pre (to 𝓤 H A mem run c (rowAt ys i) g))) (asked 𝓤 H A mem run c (rowAt ys i) g W ih ig) $
+        calls-at ! (fmOf 𝓤 H (W .laws) 𝓣) (RowMeets 𝓤 H A mem run) known (to 𝓤 H A mem run c (rowAt ys i) g)
         (and-then ! (load ! (from ! (stop !)) (look ! 18 refl)) (and-then ! (load ! (from ! (stop !)) (look ! 4 refl)) (and-then ! (load ! (from ! (stop !)) (look ! 16 refl)) (no-more !)))) (λ u.
         answered ! tt bool u meets.ended (to 𝓤 H A mem run c (rowAt ys i) g .0) (λ r. r ≡ meetsBy c (grantOf g) (grantOf (rowAt ys i))) (id⊢ 𝓤 _) (λ r e is.
         land ! (from ! (stop !)) (init ! 9 refl (bool-lawful 𝓤 H A W .typed r _ is .0)) $ rewrite ! 9 (λ (w : Val). ‵ (fat fullShare tyBool l₇ 0 w)) (ap only is) refl $
@@ -123,7 +121,7 @@ module _ {M : Type 1} (𝓤 : URA M) (H : Heap 𝓤) (A : Atoms 𝓤) (W : Given
     begins : Sq W (Inv (0, (omega arith, none-sought (meetsBy c (grantOf g)) ys m most))) (runs (𝓣 .C) (𝓣 .Λ) En piece.t-2 (atRet En Post))
     begins = first ! $ blocks ! $ loops ! 𝓣 (nearer m P) (nearer-wf m P) Inv turn (0, (omega arith, none-sought (meetsBy c (grantOf g)) ys m most))
 
-  walk : (𝓣 : Tables 𝓤 H) → Triple 𝓤 (𝓣 .C #grant-structs·meets) (Meets′ 𝓤 H A mem run)
+  walk : (𝓣 : Tables 𝓤 H) → Triple 𝓤 (𝓣 .C #grant-structs·meets) (RowMeets 𝓤 H A mem run)
       → ent 𝓤 (onEntry 𝓤 H A first-row.signature (κ, tt) (q, tt) (a, (m, (c, (g, tt)))) at) (WpFn 𝓤 H (𝓣 .C) (𝓣 .Λ) code.function (v ∷ vint w64 m ∷ vbool c ∷ low g ∷ []) Post)
   walk 𝓣 known =
       qed W ((‵ (flft κ q) ⊛ ‵ ftrue) ∷ ‵ (owns (ShrSlice (named 0) κ R ∷ usize ∷ bool ∷ R ∷ []) (a, (m, (c, (g, tt)))) at) ∷ []) ∵ move ! (1 ∷ []) $ fsplit ! $ move ! (1 ∷ []) $ drop ! $ opens-rows ! a $
@@ -133,7 +131,7 @@ module _ {M : Type 1} (𝓤 : URA M) (H : Heap 𝓤) (A : Atoms 𝓤) (W : Given
       assigns ! (of-opd ! (lit ! tt)) (from ! (stop !)) (init ! 10 refl (tt, record { fits = omega arith })) $
       move ! (22 ∷ 23 ∷ 24 ∷ []) $ begins 𝓣 known l₀ l₁ l₂ l₃ l₄ l₅ l₆ l₇ l₈ l₉ l₁₀)))))))))))
 
-module _ {M : Type 1} (𝓤 : URA M) (H : Heap 𝓤) (A : Atoms 𝓤) (W : Given 𝓤 H A) (mem : Memory → SProp 𝓤) (run : Routine → Fun 𝓤) (𝓣 : Tables 𝓤 H) (known : Triple 𝓤 (𝓣 .C #grant-structs·meets) (Meets′ 𝓤 H A mem run)) where
+module _ {M : Type 1} (𝓤 : URA M) (H : Heap 𝓤) (A : Atoms 𝓤) (W : Given 𝓤 H A) (mem : Memory → SProp 𝓤) (run : Routine → Fun 𝓤) (𝓣 : Tables 𝓤 H) (known : Triple 𝓤 (𝓣 .C #grant-structs·meets) (RowMeets 𝓤 H A mem run)) where
   meets-it : Meets 𝓤 H A first-row.signature (WpFn 𝓤 H (𝓣 .C) (𝓣 .Λ) code.function) (first-row.spec 𝓤 H A mem run)
   meets-it =
       meets-by 𝓤 H A W first-row.ended (first-row.clauses 𝓤 H A mem run) ((λ κs x f. refl), ((λ κs x f. refl), ((λ κs x f. refl), ((λ κs x f. refl), tt)))) 𝓣 code.function
@@ -146,4 +144,4 @@ first-row-spec 𝓤 H 𝓜 𝓖 𝓡 =
     entered 𝓤 H (tripleOf 𝓤 H (𝓖 .A) first-row.signature (first-row.spec 𝓤 H (𝓖 .A) (𝓜 .mem) (𝓡 .run)))
     (tables 𝓤 H 𝓜 𝓡 code.env .C) (tables 𝓤 H 𝓜 𝓡 code.env .Λ) #grant-structs·first-row code.function (code.unfolded 𝓤 H 𝓜 𝓡)
     (meets-it 𝓤 H (𝓖 .A) (givenOf 𝓤 H 𝓜 𝓖) (𝓜 .mem) (𝓡 .run) (tablesOf 𝓤 H 𝓜 (tables 𝓤 H 𝓜 𝓡 code.env))
-    (cited 𝓤 H (Meets′ 𝓤 H (𝓖 .A) (𝓜 .mem) (𝓡 .run)) 𝓜 𝓡 code.env #grant-structs·meets meets-def.routine code.calls-grant-structs·meets (meets-thm.met 𝓤 H 𝓜 𝓖 𝓡)))
+    (cited 𝓤 H (RowMeets 𝓤 H (𝓖 .A) (𝓜 .mem) (𝓡 .run)) 𝓜 𝓡 code.env #grant-structs·meets meets-def.routine code.calls-grant-structs·meets (meets-thm.met 𝓤 H 𝓜 𝓖 𝓡)))

@@ -6,7 +6,7 @@ use Rattle.grant_structs.proofs.Walk.{tyRef, Val, vint, SProp, ent, emp
 use Rattle.grant_structs.proofs.Walk.{factI, givenOf, tables, tablesOf, Given, Item, Sq, ‵, raw, _⊛_, ⋆, anyQ, atRet, runs, _$_, _∵_, !, qed, by, move, keep, drop, use0, use2, split, join, rewrite, fsplit, fjoin, frame, done}
 use Rattle.grant_structs.proofs.Walk.{whole, sub, look-in, look, store, init, forget, stop, fld, from, load, lit, false-lit, of-opd, bin, and-then, no-more, assigns, assigns-last, land, first, blocks, returns, enter, alloc1}
 use Rattle.grant_structs.proofs.Walk.{alloc0, params1, pass1, pass0, free1, free0, exec, Below, again, loops, fmOf, owns, Is, uint-vals, uint-tells, uint-lawful, u8, u64, usize, RefT, Room, sliceTy, sliceVal}
-use Rattle.grant_structs.proofs.Walk.{ShrSlice, slice-vals, shr-slice-tells, only, nothing, Contract, Triple, calls-at, Vals, onEntry, Meets, tripleOf, entered, cited, says, needs, walkOf}
+use Rattle.grant_structs.proofs.Walk.{ShrSlice, slice-vals, shr-slice-tells, only, nothing, Triple, calls-at, Vals, onEntry, Meets, tripleOf, entered, cited, says, needs, walkOf}
 use Prim.Native.Nat.{min}
 use lib.Dec.{leb}
 use denote.Memory.{pointee}
@@ -21,6 +21,8 @@ use Rattle.grant_structs.specs.Structs.{grants, comparedBy, wantedAt, ro
 use Rattle.grant_structs.proofs.Grant as T
 use Rattle.grant_structs.proofs.Grant.Laws as T′
 use Rattle.grant_structs.proofs.Over.{R, low, slice, Own, Bytes, own-word, copies-rows, copies-bytes, answered, answered-κ}
+use Rattle.grant_structs.proofs.Contracts.{Wanted, RowsFor, ComparedRows, Sum, Judged}
+use Rattle.grant_structs.proofs.Values.{val-released as val, Sound-released as Sound}
 use Rattle.grant_structs.proofs.Leaving.{Gone, leaves, meets-by, of-κκ}
 use Rattle.grant_structs.proofs.Turn.{tests, breaks, Upto, nearer, nearer-wf, is-true, is-false}
 use Rattle.grant_structs.proofs.Entries.{few-rows, not-granted, is-granted, costs, Unjudged, at-first, passed, held, all-passed}
@@ -61,77 +63,55 @@ word = tyInt w64
 abbrev bytes : Ty
 bytes = sliceTy (tyRef (named 0) imm (pointee (u8 .written)))
 
--- an answer's machine value
-abbrev val : Released → Val
-val = EL.val S.the-type S′.the-laws
-
-abbrev Sound : Released → Type 0
-Sound c = Is S.the-row c (val c ∷ [])
-
 -- ---- the callees on plain numbers
 module _ {M : Type 1} (𝓤 : URA M) (H : Heap 𝓤) (A : Atoms 𝓤) (mem : Memory → SProp 𝓤) (run : Routine → Fun 𝓤) where
-  abbrev Wanted : Contract 𝓤
-  Wanted = tripleOf 𝓤 H A wanted.signature (wanted.spec 𝓤 H A mem run)
-
-  abbrev RowsFor : Contract 𝓤
-  RowsFor = tripleOf 𝓤 H A rows-for.signature (rows-for.spec 𝓤 H A mem run)
-
-  abbrev ComparedRows : Contract 𝓤
-  ComparedRows = tripleOf 𝓤 H A compared-rows.signature (compared-rows.spec 𝓤 H A mem run)
-
-  abbrev Sum : Contract 𝓤
-  Sum = tripleOf 𝓤 H A sum.signature (sum.spec 𝓤 H A mem run)
-
-  abbrev Judged : Contract 𝓤
-  Judged = tripleOf 𝓤 H A judged.signature (judged.spec 𝓤 H A mem run)
-
   -- an entry's number is passed with another: a subscriber, or how many rows there are
   module _ (κ : Lft) (q : Share) (w : RefT (List ℕ)) (i x : ℕ) where
-    abbrev to-wanted : Wanted .Ghost
+    abbrev to-wanted : Wanted 𝓤 H A mem run .Ghost
     to-wanted = (((κ, tt), (q, tt), tt, (w, (i, (x, tt))), (sliceVal (w .ptr) (length (w .now)) ∷ [], (vint w64 i ∷ [], (vint w64 x ∷ [], tt)))), tt)
 
-    abbrev to-rows : RowsFor .Ghost
+    abbrev to-rows : RowsFor 𝓤 H A mem run .Ghost
     to-rows = (((κ, tt), (q, tt), tt, (w, (i, (x, tt))), (sliceVal (w .ptr) (length (w .now)) ∷ [], (vint w64 i ∷ [], (vint w64 x ∷ [], tt)))), tt)
 
     module _ (W : Given 𝓤 H A) (gi : i < 2 ^ 64) (gx : x < 2 ^ 64) (l : i < length (w .now) / 24) where
-      asked-wanted : ent 𝓤 (⋆ 𝓤 H A (‵ (flft κ q) ∷ ‵ (Bytes κ w) ∷ [])) (Wanted .pre to-wanted)
+      asked-wanted : ent 𝓤 (⋆ 𝓤 H A (‵ (flft κ q) ∷ ‵ (Bytes κ w) ∷ [])) (Wanted 𝓤 H A mem run .pre to-wanted)
       asked-wanted =
           qed W (‵ (flft κ q) ∷ ‵ (Bytes κ w) ∷ []) ∵ says ! l $ nothing ! $ move ! (1 ∷ 0 ∷ []) $ join ! $ nothing ! $
           own-word ! x gx $ fjoin ! $ own-word ! i gi $ fjoin ! $ move ! (2 ∷ 0 ∷ []) $ fjoin ! $ move ! (1 ∷ 0 ∷ []) $ frame ! $ done !
 
-      asked-rows : ent 𝓤 (⋆ 𝓤 H A (‵ (flft κ q) ∷ ‵ (Bytes κ w) ∷ [])) (RowsFor .pre to-rows)
+      asked-rows : ent 𝓤 (⋆ 𝓤 H A (‵ (flft κ q) ∷ ‵ (Bytes κ w) ∷ [])) (RowsFor 𝓤 H A mem run .pre to-rows)
       asked-rows = asked-wanted
 
   -- two numbers: a row and how many there are, or what was compared and how many more
   module _ (x y : ℕ) where
-    abbrev to-compared : ComparedRows .Ghost
+    abbrev to-compared : ComparedRows 𝓤 H A mem run .Ghost
     to-compared = ((tt, tt, tt, (x, (y, tt)), (vint w64 x ∷ [], (vint w64 y ∷ [], tt))), tt)
 
-    abbrev to-sum : Sum .Ghost
+    abbrev to-sum : Sum 𝓤 H A mem run .Ghost
     to-sum = ((tt, tt, tt, (x, (y, tt)), (vint w64 x ∷ [], (vint w64 y ∷ [], tt))), tt)
 
     module _ (W : Given 𝓤 H A) (gx : x < 2 ^ 64) (gy : y < 2 ^ 64) where
-      asked-compared : ent 𝓤 (emp 𝓤) (ComparedRows .pre to-compared)
+      asked-compared : ent 𝓤 (emp 𝓤) (ComparedRows 𝓤 H A mem run .pre to-compared)
       asked-compared = qed W [] ∵ nothing ! $ own-word ! y gy $ fjoin ! $ own-word ! x gx $ fjoin ! $ nothing ! $ join ! $ frame ! $ done !
 
-      asked-sum : ent 𝓤 (emp 𝓤) (Sum .pre to-sum)
+      asked-sum : ent 𝓤 (emp 𝓤) (Sum 𝓤 H A mem run .pre to-sum)
       asked-sum = asked-compared
 
   module _ (i n c : ℕ) where
-    abbrev to-judged : Judged .Ghost
+    abbrev to-judged : Judged 𝓤 H A mem run .Ghost
     to-judged = ((tt, tt, tt, (i, (n, (c, tt))), (vint w64 i ∷ [], (vint w64 n ∷ [], (vint w64 c ∷ [], tt)))), tt)
 
-    asked-judged : Given 𝓤 H A → i < 2 ^ 64 → n < 2 ^ 64 → c < 2 ^ 64 → ent 𝓤 (emp 𝓤) (Judged .pre to-judged)
+    asked-judged : Given 𝓤 H A → i < 2 ^ 64 → n < 2 ^ 64 → c < 2 ^ 64 → ent 𝓤 (emp 𝓤) (Judged 𝓤 H A mem run .pre to-judged)
     asked-judged W gi gn gc = qed W [] ∵ nothing ! $ own-word ! c gc $ fjoin ! $ own-word ! n gn $ fjoin ! $ own-word ! i gi $ fjoin ! $ nothing ! $ join ! $ frame ! $ done !
 
   -- what the proof knows of them
   pub record Known (𝓣 : Tables 𝓤 H) : Type 1 where
-    pub of-wanted : Triple 𝓤 (𝓣 .C #grant-structs·wanted) Wanted
+    pub of-wanted : Triple 𝓤 (𝓣 .C #grant-structs·wanted) (Wanted 𝓤 H A mem run)
     pub of-row : Triple 𝓤 (𝓣 .C #grant-structs·first-row) (FirstRow 𝓤 H A mem run)
-    pub of-rows : Triple 𝓤 (𝓣 .C #grant-structs·rows-for) RowsFor
-    pub of-compared : Triple 𝓤 (𝓣 .C #grant-structs·compared-rows) ComparedRows
-    pub of-sum : Triple 𝓤 (𝓣 .C #buffer·saturating-add) Sum
-    pub of-judged : Triple 𝓤 (𝓣 .C #grant-structs·judged) Judged
+    pub of-rows : Triple 𝓤 (𝓣 .C #grant-structs·rows-for) (RowsFor 𝓤 H A mem run)
+    pub of-compared : Triple 𝓤 (𝓣 .C #grant-structs·compared-rows) (ComparedRows 𝓤 H A mem run)
+    pub of-sum : Triple 𝓤 (𝓣 .C #buffer·saturating-add) (Sum 𝓤 H A mem run)
+    pub of-judged : Triple 𝓤 (𝓣 .C #grant-structs·judged) (Judged 𝓤 H A mem run)
 
 module _ {M : Type 1} (𝓤 : URA M) (H : Heap 𝓤) (A : Atoms 𝓤) (W : Given 𝓤 H A) (mem : Memory → SProp 𝓤) (run : Routine → Fun 𝓤) (κ κ′ : Lft) (q q′ : Share) (w : RefT (List ℕ)) (n : ℕ) (a : RefT (List Grant)) (s : ℕ)
     (gw : Room u8 (length (w .now))) (few : n < 2 ^ 64) (gn : Room R (length (a .now))) (gs : s < 2 ^ 64) (most : n ≤ length (w .now) / 24) where

@@ -2,7 +2,7 @@
 use Rattle.grant_structs.proofs.Walk.{_≡_, refl, ap, subst, ℕ, _<_, _^_, arith, List, [], _∷_, length, URA, fullShare, named, w64, Val, vint, SProp, ent, emp, via, fst∗, id⊢, Lft, Share, ftrue, fat, flft, Memory, Routine, Heap}
 use Rattle.grant_structs.proofs.Walk.{WpFn, Tables, Atoms, Fun, factI, givenOf, tables, tablesOf, Given, ‵, raw, _⊛_, ⋆, _$_, _∵_, !, qed, by, move, drop, join, rewrite, fsplit, fjoin, frame, done, agg, look, init, forget}
 use Rattle.grant_structs.proofs.Walk.{stop, from, load, lit, and-then, no-more, assigns, land, returns, enter, alloc1, alloc0, params1, pass1, pass0, free1, free0, fmOf, owns, Is, uint-vals, uint-tells, u8, u64, RefT, Room}
-use Rattle.grant_structs.proofs.Walk.{ShrSlice, slice-vals, shr-slice-tells, only, nothing, Contract, Triple, calls-at, Vals, onEntry, Meets, tripleOf, entered, cited, walkOf}
+use Rattle.grant_structs.proofs.Walk.{ShrSlice, slice-vals, shr-slice-tells, only, nothing, Triple, calls-at, Vals, onEntry, Meets, tripleOf, entered, cited, walkOf}
 use denote.Enum.Laws as EL
 use Rattle.ari.specs.Limits.{gateLimits}
 use Rattle.release.specs.declared.Released.{Released}
@@ -12,6 +12,8 @@ use Rattle.release.proofs.Released.Laws as S′
 use Rattle.grant_structs.specs.declared.Grant.{Grant}
 use Rattle.grant_structs.specs.Structs.{grants}
 use Rattle.grant_structs.proofs.Over.{R, slice-of, Own, Bytes, low-limits, FineLimits, fine-limits, own-word, own-limits, limits-typed, use5, answered-κκ}
+use Rattle.grant_structs.proofs.Contracts.{Within}
+use Rattle.grant_structs.proofs.Values.{val-released as val}
 use Rattle.grant_structs.proofs.Leaving.{Gone, leaves, meets-by, of-κκ}
 use Rattle.grant_structs.proofs.Lending.{big-lit}
 use Rattle.grant_structs.proofs.release_grants_within as within
@@ -23,16 +25,8 @@ use Rattle.grant_structs.proofs.release_grants as release-grants
 use Rattle.grant_structs.proofs.release_grants.Statement as stated
 use Rattle.grant_structs.proofs.release_grants.Code as code
 
--- an answer's machine value
-abbrev val : Released → Val
-val = EL.val S.the-type S′.the-laws
-
 abbrev fine : FineLimits gateLimits
 fine = fine-limits gateLimits (omega arith) (omega arith) (omega arith) (omega arith)
-
-module _ {M : Type 1} (𝓤 : URA M) (H : Heap 𝓤) (A : Atoms 𝓤) (mem : Memory → SProp 𝓤) (run : Routine → Fun 𝓤) where
-  abbrev Within : Contract 𝓤
-  Within = tripleOf 𝓤 H A within.signature (within.spec 𝓤 H A mem run)
 
 module _ {M : Type 1} (𝓤 : URA M) (H : Heap 𝓤) (A : Atoms 𝓤) (W : Given 𝓤 H A) (mem : Memory → SProp 𝓤) (run : Routine → Fun 𝓤) (κ κ′ : Lft) (q q′ : Share) (b : RefT (List ℕ)) (a : RefT (List Grant)) (p o : RefT (List ℕ)) (s : ℕ)
     (gb : Room u8 (length (b .now))) (ga : Room R (length (a .now))) (gp : Room u8 (length (p .now))) (go : Room u8 (length (o .now))) (gs : s < 2 ^ 64) where

@@ -3,7 +3,7 @@
 use Rattle.grant_structs.proofs.Walk.{_≡_, refl, sym, _∙_, ap, subst, ℕ, _<_, _≤_, _/_, _^_, arith, List, [], _∷_, length, URA, fullShare, Ty, named, erased, imm, w64, tyInt, tyRef, Val, vint, SProp, ent, emp, via, fst∗, id⊢, Lft}
 use Rattle.grant_structs.proofs.Walk.{Share, ftrue, fat, froom, flft, Memory, Routine, Heap, WpFn, Tables, Atoms, Fun, factI, givenOf, tables, tablesOf, Given, Item, ‵, raw, _⊛_, ⋆, _$_, _∵_, !, qed, by, move, drop, use0}
 use Rattle.grant_structs.proofs.Walk.{use3, split, join, rewrite, fsplit, fjoin, frame, done, agg, look, init, forget, stop, from, load, addr, and-then, no-more, assigns, land, returns, enter, alloc1, alloc0, params1, pass1}
-use Rattle.grant_structs.proofs.Walk.{pass0, free1, free0, fmOf, owns, Is, uint-vals, uint-tells, uint-lawful, u8, u64, usize, RefT, Room, sliceTy, sliceVal, ShrSlice, slice-vals, shr-slice-tells, only, nothing, Contract, Triple}
+use Rattle.grant_structs.proofs.Walk.{pass0, free1, free0, fmOf, owns, Is, uint-vals, uint-tells, uint-lawful, u8, u64, usize, RefT, Room, sliceTy, sliceVal, ShrSlice, slice-vals, shr-slice-tells, only, nothing, Triple}
 use Rattle.grant_structs.proofs.Walk.{calls-at, Vals, onEntry, Meets, tripleOf, entered, cited, says, walkOf}
 use mir.Syntax.{mut, w8}
 use base.Logic.{sep, ex}
@@ -28,6 +28,8 @@ use Rattle.release.proofs.Released as S
 use Rattle.release.proofs.Released.Laws as S′
 use Rattle.grant_structs.specs.Structs.{grants, judgedCounted, entriesOf, answerBy, Decides}
 use Rattle.grant_structs.proofs.Over.{R, slice-of, Own, Bytes, LR, low-limits, FineLimits, limits-vals, limits-tells, own-word, own-limits, limits-typed, use5, answered, answered-κκ}
+use Rattle.grant_structs.proofs.Contracts.{ListedIn, EntriesOf, ReleaseEntries, Answered}
+use Rattle.grant_structs.proofs.Values.{val-released as val, Sound-released as Sound}
 use Rattle.grant_structs.proofs.Leaving.{Gone, leaves, meets-by, of-κκ}
 use Rattle.grant_structs.proofs.Lending.{array, ref, back, lends-shared, ends-shared, lends-mut, ends-mut, zeros, length-zeros, fills, big-lit}
 use Rattle.grant_structs.proofs.listed_in as listed-in
@@ -58,15 +60,9 @@ byte = tyInt w8
 abbrev room : ℕ
 room = 49152
 
--- the machine values of an answer, and of a listing's
-abbrev val : Released → Val
-val = EL.val S.the-type S′.the-laws
-
+-- a listing's machine value
 abbrev val-l : Listed → Val
 val-l = EL.val L.the-type L′.the-laws
-
-abbrev Sound : Released → Type 0
-Sound c = Is S.the-row c (val c ∷ [])
 
 abbrev Sound-l : Listed → Type 0
 Sound-l c = Is L.the-row c (val-l c ∷ [])
@@ -77,48 +73,36 @@ Mut κ x = MutSlice (named 1) κ u8 .own x (slice-of x ∷ [])
 
 -- ---- the callees
 module _ {M : Type 1} (𝓤 : URA M) (H : Heap 𝓤) (A : Atoms 𝓤) (mem : Memory → SProp 𝓤) (run : Routine → Fun 𝓤) where
-  abbrev ListedIn : Contract 𝓤
-  ListedIn = tripleOf 𝓤 H A listed-in.signature (listed-in.spec 𝓤 H A mem run)
-
-  abbrev EntriesOf : Contract 𝓤
-  EntriesOf = tripleOf 𝓤 H A entries-of.signature (entries-of.spec 𝓤 H A mem run)
-
-  abbrev ReleaseEntries : Contract 𝓤
-  ReleaseEntries = tripleOf 𝓤 H A release-entries.signature (release-entries.spec 𝓤 H A mem run)
-
-  abbrev Answered : Contract 𝓤
-  Answered = tripleOf 𝓤 H A answers.signature (answers.spec 𝓤 H A mem run)
-
   module _ (κ κ′ : Lft) (q q′ : Share) (m : Limits) (b p o x : RefT (List ℕ)) where
-    abbrev to-listed : ListedIn .Ghost
+    abbrev to-listed : ListedIn 𝓤 H A mem run .Ghost
     to-listed = (((κ, (κ′, tt)), (q, (q′, tt)), tt, (m, (b, (p, (o, (x, tt))))), (low-limits m ∷ [], (slice-of b ∷ [], (slice-of p ∷ [], (slice-of o ∷ [], (slice-of x ∷ [], tt)))))), tt)
 
-    asked-listed : Given 𝓤 H A → FineLimits m → 49152 ≤ length (x .now) → ent 𝓤 (⋆ 𝓤 H A ((‵ (flft κ q) ⊛ ‵ (flft κ′ q′) ⊛ ‵ ftrue) ∷ ‵ (Bytes κ b) ∷ ‵ (Bytes κ p) ∷ ‵ (Bytes κ o) ∷ ‵ (Mut κ′ x) ∷ [])) (ListedIn .pre to-listed)
+    asked-listed : Given 𝓤 H A → FineLimits m → 49152 ≤ length (x .now) → ent 𝓤 (⋆ 𝓤 H A ((‵ (flft κ q) ⊛ ‵ (flft κ′ q′) ⊛ ‵ ftrue) ∷ ‵ (Bytes κ b) ∷ ‵ (Bytes κ p) ∷ ‵ (Bytes κ o) ∷ ‵ (Mut κ′ x) ∷ [])) (ListedIn 𝓤 H A mem run .pre to-listed)
     asked-listed W im room =
         qed W ((‵ (flft κ q) ⊛ ‵ (flft κ′ q′) ⊛ ‵ ftrue) ∷ ‵ (Bytes κ b) ∷ ‵ (Bytes κ p) ∷ ‵ (Bytes κ o) ∷ ‵ (Mut κ′ x) ∷ []) ∵ says ! room $ nothing ! $
         move ! (5 ∷ 0 ∷ []) $ fjoin ! $ move ! (4 ∷ 0 ∷ []) $ fjoin ! $ move ! (3 ∷ 0 ∷ []) $ fjoin ! $ move ! (2 ∷ 0 ∷ []) $ fjoin ! $ own-limits ! m im $ fjoin ! $ move ! (1 ∷ 0 ∷ []) $ frame ! $ done !
 
   module _ (c : Listed) where
-    abbrev to-entries : EntriesOf .Ghost
+    abbrev to-entries : EntriesOf 𝓤 H A mem run .Ghost
     to-entries = ((tt, tt, tt, (c, tt), (val-l c ∷ [], tt)), tt)
 
-    asked-entries : Given 𝓤 H A → Sound-l c → ent 𝓤 (emp 𝓤) (EntriesOf .pre to-entries)
+    asked-entries : Given 𝓤 H A → Sound-l c → ent 𝓤 (emp 𝓤) (EntriesOf 𝓤 H A mem run .pre to-entries)
     asked-entries W ic = qed W [] ∵ nothing ! $ owned ! L.the-row (Is L.the-row) (EL.makes L.the-type L′.the-plain 𝓤 H A) c _ ic $ fjoin ! $ nothing ! $ join ! $ frame ! $ done !
 
     module _ (g : Released) where
-      abbrev to-answered : Answered .Ghost
+      abbrev to-answered : Answered 𝓤 H A mem run .Ghost
       to-answered = ((tt, tt, tt, (c, (g, tt)), (val-l c ∷ [], (val g ∷ [], tt))), tt)
 
-      asked-answered : Given 𝓤 H A → Sound-l c → Sound g → ent 𝓤 (emp 𝓤) (Answered .pre to-answered)
+      asked-answered : Given 𝓤 H A → Sound-l c → Sound g → ent 𝓤 (emp 𝓤) (Answered 𝓤 H A mem run .pre to-answered)
       asked-answered W ic ig =
           qed W [] ∵ nothing ! $ owned ! S.the-row (Is S.the-row) (EL.makes S.the-type S′.the-plain 𝓤 H A) g _ ig $ fjoin ! $
           owned ! L.the-row (Is L.the-row) (EL.makes L.the-type L′.the-plain 𝓤 H A) c _ ic $ fjoin ! $ nothing ! $ join ! $ frame ! $ done !
 
   module _ (κ κ′ : Lft) (q q′ : Share) (w : RefT (List ℕ)) (n : ℕ) (a : RefT (List Grant)) (s : ℕ) where
-    abbrev to-release : ReleaseEntries .Ghost
+    abbrev to-release : ReleaseEntries 𝓤 H A mem run .Ghost
     to-release = (((κ, (κ′, tt)), (q, (q′, tt)), tt, (w, (n, (a, (s, tt)))), (slice-of w ∷ [], (vint w64 n ∷ [], (slice-of a ∷ [], (vint w64 s ∷ [], tt))))), tt)
 
-    asked-release : Given 𝓤 H A → n < 2 ^ 64 → s < 2 ^ 64 → n ≤ length (w .now) / 24 → ent 𝓤 (⋆ 𝓤 H A ((‵ (flft κ q) ⊛ ‵ (flft κ′ q′) ⊛ ‵ ftrue) ∷ ‵ (Bytes κ w) ∷ ‵ (Own κ′ a) ∷ [])) (ReleaseEntries .pre to-release)
+    asked-release : Given 𝓤 H A → n < 2 ^ 64 → s < 2 ^ 64 → n ≤ length (w .now) / 24 → ent 𝓤 (⋆ 𝓤 H A ((‵ (flft κ q) ⊛ ‵ (flft κ′ q′) ⊛ ‵ ftrue) ∷ ‵ (Bytes κ w) ∷ ‵ (Own κ′ a) ∷ [])) (ReleaseEntries 𝓤 H A mem run .pre to-release)
     asked-release W gn gs most =
         qed W ((‵ (flft κ q) ⊛ ‵ (flft κ′ q′) ⊛ ‵ ftrue) ∷ ‵ (Bytes κ w) ∷ ‵ (Own κ′ a) ∷ []) ∵ says ! most $ nothing ! $
         own-word ! s gs $ fjoin ! $ move ! (3 ∷ 0 ∷ []) $ fjoin ! $ own-word ! n gn $ fjoin ! $ move ! (2 ∷ 0 ∷ []) $ fjoin ! $ move ! (1 ∷ 0 ∷ []) $ frame ! $ done !
@@ -128,10 +112,10 @@ module _ {M : Type 1} (𝓤 : URA M) (H : Heap 𝓤) (A : Atoms 𝓤) (mem : Mem
 
   -- what the proof knows of them
   pub record Known (𝓣 : Tables 𝓤 H) : Type 1 where
-    pub of-listed : Triple 𝓤 (𝓣 .C #grant-structs·listed-in) ListedIn
-    pub of-entries : Triple 𝓤 (𝓣 .C #grant-structs·entries-of) EntriesOf
-    pub of-entries′ : Triple 𝓤 (𝓣 .C #grant-structs·release-entries) ReleaseEntries
-    pub of-answered : Triple 𝓤 (𝓣 .C #grant-structs·answered) Answered
+    pub of-listed : Triple 𝓤 (𝓣 .C #grant-structs·listed-in) (ListedIn 𝓤 H A mem run)
+    pub of-entries : Triple 𝓤 (𝓣 .C #grant-structs·entries-of) (EntriesOf 𝓤 H A mem run)
+    pub of-entries′ : Triple 𝓤 (𝓣 .C #grant-structs·release-entries) (ReleaseEntries 𝓤 H A mem run)
+    pub of-answered : Triple 𝓤 (𝓣 .C #grant-structs·answered) (Answered 𝓤 H A mem run)
 
 -- what `listed_in` left: its answer's machine value is in hand with what it decides, the tokens come back, and the last list of the words is named
 module _ {M : Type 1} {𝓤 : URA M} {H : Heap 𝓤} {A : Atoms 𝓤} {K : Type 0} {W : Given 𝓤 H A} {Γ : List (Item 𝓤)} {G : Goal 𝓤 H} (mem : Memory → SProp 𝓤) (run : Routine → Fun 𝓤) where
