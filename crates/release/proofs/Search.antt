@@ -35,9 +35,10 @@ use Rattle.names.proofs.Translation.{stands-in-range, stands-code}
 use Rattle.grants.specs.Grants.{Grant, some, holds, granted}
 use Rattle.grants.specs.Bytes.{rowOf, holdsAt, rows}
 use Rattle.ari.proofs.SignedLaws.{signed-word}
-use Rattle.grants.proofs.RowWays.{rows-more, rows-end, row-holds, some-end, some-here, some-behind}
+use Rattle.buffer.specs.Bytes.{loadAt}
+use Rattle.grants.proofs.RowWays.{holds-here, other-subscriber, rows-more, rows-end, row-holds, some-end, some-here, some-behind}
 use Rattle.release.specs.declared.RowSought.{RowSought}
-use Rattle.release.specs.Rows.{soughtBy, lastRows}
+use Rattle.release.specs.Rows.{soughtBy, Other, Others, none, one, four, lastRows}
 use Rattle.release.specs.declared.Released.{Released}
 use Rattle.release.specs.declared.Released.the-variants as released
 use Rattle.release.specs.Release.{Release, yes, no, judgeFrom, release, releaseBytes}
@@ -204,6 +205,33 @@ module _ {b t published own : List ℕ} {s i k d w at : ℕ} (p : Searched b t p
             behind = up-to-behind this t at (p .before .behind) h row g;
           };
         }
+
+-- rows of other subscribers
+pub other-row : (t : List ℕ) (at s : ℕ) → at + 16 ≤ length t → {x : ℕ} → x ≡ loadAt 8 t at → (x ≡ s → ⊥) → Other t at s
+other-row t at s h e m = record {
+  there = h;
+  grants-none = λ n. sym (holds-here t at s n (omega arith) (omega arith) (other-subscriber t at s n h e m));
+}
+
+pub rows-passed : {b t published own : List ℕ} {s i k d w at n : ℕ} → Searched b t published own s i k d w at → Others t at s n → Searched b t published own s i k d w (at + n)
+rows-passed {b} {t} {published} {own} {s} {i} {k} {d} {w} {at} p o = go o
+  where
+    Here : ℕ → Type 0
+    Here x = Searched b t published own s i k d w x
+
+    past : {x y : ℕ} → Here x → Other t x s → x + 16 ≡ y → Here y
+    past p o e = rw e at (next-row p (let l = o .there in omega arith) (sym (o .grants-none w)) refl)
+
+    go : {n : ℕ} → Others t at s n → Here (at + n)
+    go none = let e : at ≡ at + 0 = omega arith in rw e at p
+    go (one o) = past p o refl
+    go (four o o₁ o₂ o₃) =
+        past {x = at + 48} {y = at + 64} (past {x = at + 32} {y = at + 48} (past {x = at + 16} {y = at + 32} (past p o refl) o₁ (omega arith)) o₂ (omega arith)) o₃ (omega arith)
+
+pub others-there : {t : List ℕ} {at s n : ℕ} → at ≤ length t → Others t at s n → at + n ≤ length t
+others-there h none = omega arith
+others-there h (one o) = o .there
+others-there h (four o o₁ o₂ o₃) = let l = o₃ .there in omega arith
 
 pub ruleset searches = (before-none, started, passed-none, all-passed, passed-over, no-number, search-rows, no-row, a-row, found-there, next-row)
 

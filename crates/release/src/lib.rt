@@ -3,14 +3,14 @@ ghost use mathlib.Core.Path.{_≡_};
 ghost use Prim.Native.Nat.{_+_, _<_, _≤_, min};
 ghost use lib.ListN.{length};
 ghost use lib.Dec.{eqb};
-ghost use mathlib.Core.Bool.{cond};
+ghost use mathlib.Core.Bool.{true, cond};
 ghost use Rattle.ari.specs.declared.Input.the-variants as input;
 ghost use Rattle.ari.specs.Limits.{gateLimits, capped};
 ghost use Rattle.item_table.specs.Entries.{Tabled};
 ghost use Rattle.names.specs.Translated.{standsBy, translated};
 ghost use Rattle.grants.specs.Bytes.{rows};
 ghost use Rattle.release.specs.Compared.{judgedOver, countedBytes};
-ghost use Rattle.release.specs.Rows.{soughtBy, lastRows};
+ghost use Rattle.release.specs.Rows.{soughtBy, Other, Others, lastRows};
 use ari::Input;
 use ari::Limits;
 use listing::Namespace;
@@ -67,6 +67,40 @@ fn settled(compared: u64, entry: usize, place: usize) -> u64
     buffer::saturating_add(compared, (place / 16 + 1) as u64)
 }
 
+// A whole row stands at a place and is another subscriber's.
+fn is_other(grants: &[u8], at: usize, subscriber: u64) -> bool
+    ensures { λ r. ⌜ (r ≡ true → Other (now (grants .entry)) at subscriber) ⌝ }
+{
+    if grants.len() < 16 {
+        return false;
+    }
+    if grants.len() - 16 < at {
+        return false;
+    }
+    buffer::load8(grants, at) != subscriber
+}
+
+// The bytes of rows from a place on that are other subscribers': most are, and four of them take one turn of the search.
+fn others_from(grants: &[u8], at: usize, subscriber: u64) -> usize
+    requires { ⌜ at ≤ length (now grants) ⌝ }
+    ensures { λ r. ⌜ Others (now (grants .entry)) at subscriber r ⌝ }
+{
+    if is_other(grants, at, subscriber) {
+        if grants.len() - at < 64 {
+            return 16;
+        }
+        if is_other(grants, at + 16, subscriber) {
+            if is_other(grants, at + 32, subscriber) {
+                if is_other(grants, at + 48, subscriber) {
+                    return 64;
+                }
+            }
+        }
+        return 16;
+    }
+    0
+}
+
 // Entries by rows. The search is left at the first entry that no row grants: a number to the subscriber, an unknown name or a relative one to nobody.
 fn release_table<'a>(
     s: &[u8],
@@ -102,6 +136,11 @@ fn release_table<'a>(
                     if grants.len() - at < 16 {
                         compared = buffer::saturating_add(compared, (grants.len() / 16) as u64);
                         break 'entries;
+                    }
+                    let others = others_from(grants, at, subscriber);
+                    if 0 < others {
+                        at += others;
+                        continue 'rows;
                     }
                     if grants::holds_at(grants, at, subscriber, word) {
                         break 'rows;

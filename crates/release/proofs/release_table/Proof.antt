@@ -1,6 +1,6 @@
 -- `release::release_table` meets its contract: of the rows' loop, no row before `at` grants this entry; of the entries' loop, those before
 -- item k are granted, and the rows of the last of them are not in `compared` yet.
-use Rattle.release.proofs.Search.{Before, Passed, Searched, all-passed, no-number, search-rows, started, next-row, no-row, a-row, searches}
+use Rattle.release.proofs.Search.{Before, Passed, Searched, all-passed, no-number, search-rows, started, next-row, rows-passed, others-there, no-row, a-row, searches}
 use mathlib.Core.Logic.{⊎-elim}
 use mathlib.Core.Path.{_∙_}
 use native.Mathlib.Omega.{arith}
@@ -41,17 +41,35 @@ rows-holds c =
 
 add-at : tie.Need-add-at Inv-rows μ-rows Inv-entries μ-entries
 add-at c =
-    search (c .before .before .before .before .before .before .before .before .before .before .before .before .before .before .before .before .before .before .before .before .before .good, needs)
+    let there = others-there (c .before .before .before .rows .inv .2) (c .before .others-from .ensures) in search (there, c .before .before .before .before .before .before .before .before .before .before .before .before .before .before .before .before .before .before .before .before .before .good, needs)
+
+rows-less : tie.Need-rows-less Inv-rows μ-rows Inv-entries μ-entries
+rows-less c = let there = others-there (c .before .before .before .rows .inv .2) (c .before .others-from .ensures) in omega arith
 
 rows-again : tie.Need-rows-again Inv-rows μ-rows Inv-entries μ-entries
 rows-again c =
     let e = c .before .before .before .rows .inv in
+    let o = c .before .others-from .ensures in
+    (e .0, e .1, others-there (e .2) o, rows-passed (e .3) o)
+
+add-at-2 : tie.Need-add-at-2 Inv-rows μ-rows Inv-entries μ-entries
+add-at-2 c = search (c .before .before .before .before .before .before .before .before .before .before .before .before .before .before .before .before .before .before .before .before .before .before .before .good, needs)
+
+rows-again-2 : tie.Need-rows-again-2 Inv-rows μ-rows Inv-entries μ-entries
+rows-again-2 c =
+    let e = c .before .before .before .before .before .rows .inv in
     (search (e .0, needs), search (e .1, needs), search (e .2, needs), search (e .3, next-row, needs))
+
+add-entry : tie.Need-add-entry Inv-rows μ-rows Inv-entries μ-entries
+add-entry c = let e = c .before .before .before .before .before .rows .inv in search (e .0, e .1, c .before .before .before .before .before .before .before .before .before .before .before .before .before .before .before .before .before .before .before .before .before .before .before .fits .count, needs)
+
+add-k-2 : tie.Need-add-k-2 Inv-rows μ-rows Inv-entries μ-entries
+add-k-2 c = let e = c .before .before .before .before .before .rows .inv in search (e .0, e .1, c .before .before .before .before .before .before .before .before .before .before .before .before .before .before .before .before .before .before .before .before .before .before .before .fits .count, needs)
 
 entries-again-2 : tie.Need-entries-again-2 Inv-rows μ-rows Inv-entries μ-entries
 entries-again-2 c =
-    let e = c .before .before .before .rows .inv in
-    (search (e .0, needs), search (e .1, needs), a-row (e .3) (c .before .before .if2 .left) (c .before .holds-at .ensures) (c .if3 .taken), e .3 .before)
+    let e = c .before .before .before .before .before .rows .inv in
+    (search (e .0, needs), search (e .1, needs), a-row (e .3) (c .before .before .before .before .if2 .left) (c .before .holds-at .ensures) (c .if4 .taken), e .3 .before)
 
 returns : tie.Need-returns Inv-rows μ-rows Inv-entries μ-entries
 returns c =
@@ -72,6 +90,6 @@ release-table-spec = tie.close (tie.spec Inv-rows μ-rows Inv-entries μ-entries
     shared-slice-read-reference-at (λ c κs. search (searches, needs)) (λ c. search (searches, needs)) (λ c. search (searches, needs))
     (λ c. search (searches, needs)) (λ c. search (searches, needs)) (λ c. search (searches, needs)) (λ c κs. search (searches, needs))
     (λ c κs. search (searches, needs)) (λ c κs. search (searches, needs)) rows-holds (λ c. search (searches, needs))
-    (λ c κs. search (searches, needs)) (λ c κs. search (searches, needs)) add-at (λ c. search (searches, needs)) rows-again
-    (λ c. search (searches, needs)) (λ c. search (searches, needs)) (λ c. search (searches, needs)) entries-again-2 returns
+    (λ c κs. search (searches, needs)) (λ c κs. search (searches, needs)) add-at rows-less rows-again (λ c κs. search (searches, needs)) add-at-2
+    (λ c. search (searches, needs)) rows-again-2 add-entry add-k-2 (λ c. search (searches, needs)) entries-again-2 returns
     (λ c κs. search (searches, needs)) returns-2)
