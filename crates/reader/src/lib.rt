@@ -377,7 +377,7 @@ fn wide(x: u8) -> u64
     x as u64
 }
 
-// A number of one byte stands at a place, and the slot, with no test of its own, takes it: most heads are such.
+// A number of one byte stands at a place, and the slot, with no test of its own, takes it: many heads are such.
 fn is_quick(s: &[u8], at: usize, slot: u64, count: usize, items: usize) -> bool
     ensures { λ r. ⌜ (r ≡ true → Quick (now (s .entry)) at slot count items) ⌝ }
 {
@@ -450,7 +450,7 @@ fn walk_inside(
     }
 }
 
-// The items of a level from the slot on, leaves in the loop, a call for each container but the last of its level; or its first head alone.
+// The items of a level from the slot on, leaves in the loop, a call for each container but one that `last_inside` goes on with; or its first head alone.
 fn walk_level(
     s: &[u8],
     at: usize,
