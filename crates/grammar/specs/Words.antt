@@ -1,4 +1,4 @@
--- Private to src/, and WordOf, fitsWord, nextWord, takesNumber to the reader's: the words that the code keeps for the slots, what their bits mean in the rules' terms. No word stands here: that
+-- Private to src/, and WordOf, fitsWord, nextWord, takesNumber to the reader's: the words that the code keeps for the slots, what their bits mean in the rules' terms. No slot's word stands here: that
 -- each means what its slot's rule says is the contract of the function that has it.
 use Prim.Native.Nat.{ℕ, zero, suc, _+_, _-_, _*_, _/_, _%_, _^_}
 use mathlib.Core.Path.{_≡_}
