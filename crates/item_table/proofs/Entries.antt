@@ -124,7 +124,7 @@ at-all [] k d a h = absurd (omega arith)
 at-all (x ∷ xs) zero d (spot-too p a) h = p
 at-all (x ∷ xs) (suc k) d (spot-too p a) h = at-all xs k d a (omega arith)
 
-getD-entries : (xs : List Spot) (k : ℕ) (d : Spot) → k < length xs → getD (map entryOf xs) k 0 ≡ entryOf (getD xs k d)
+pub getD-entries : (xs : List Spot) (k : ℕ) (d : Spot) → k < length xs → getD (map entryOf xs) k 0 ≡ entryOf (getD xs k d)
 getD-entries [] k d h = absurd (omega arith)
 getD-entries (x ∷ xs) zero d h = refl
 getD-entries (x ∷ xs) (suc k) d h = getD-entries xs k d (omega arith)

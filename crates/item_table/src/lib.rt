@@ -1,8 +1,9 @@
-// The table of an input's items, in the order of their first bytes: one word for each. The walk writes it; listing, records and all else that
-// asks about items reads it, with the heads that still stand in the input's bytes.
+// The table of an input's items, in the order of their first bytes: one word for each; and that of its references alone. The walk writes them; all else that
+// asks about items reads them, with the heads that still stand in the input's bytes.
 ghost use mathlib.Core.Path.{_≡_};
 ghost use lib.ListN.{set};
 ghost use Rattle.item_table.specs.Entries.{packed, itemOf, headOf, headBy, referenceBy};
+ghost use Rattle.item_table.specs.References.{placeFor, reservedFor, filled};
 
 // An item: its first byte, the byte after its last, the open containers around it, and the number of its slot.
 pub struct Item {
@@ -99,5 +100,53 @@ pub fn put_plain(
 {
     if k < entries.len() {
         entries[k] = pack(first, after, around, slot, 0);
+    }
+}
+
+// A table of references alone has none yet.
+pub fn clear(references: &mut [u64])
+    ensures { λ _. ⌜ now (references .exit) ≡ set (now (references .entry)) 0 0 ⌝ }
+{
+    if references.len() > 0 {
+        references[0] = 0;
+    }
+}
+
+// A head takes the next place in a table of references alone, if it is a reference and there is one; 0 is no place.
+pub fn reserve(references: &mut [u64], slot: u64, kind: u8, arg: u64) -> usize
+    ensures { λ r. ⌜ r ≡ placeFor slot kind arg (now (references .entry)) ⌝ }
+    ensures { λ _. ⌜ now (references .exit) ≡ reservedFor slot kind arg (now (references .entry)) ⌝ }
+{
+    if references.len() == 0 {
+        return 0;
+    }
+    if !is_reference(slot, kind, arg) {
+        return 0;
+    }
+    let n = references[0] as usize;
+    if references.len() - 1 <= n {
+        return 0;
+    }
+    references[0] = (n + 1) as u64;
+    n + 1
+}
+
+// The reference at its place, when its end is known.
+pub fn fill(
+    references: &mut [u64],
+    place: usize,
+    first: usize,
+    after: usize,
+    around: usize,
+    slot: u64,
+    head: usize,
+)
+    ensures { λ _. ⌜ now (references .exit) ≡ filled (now (references .entry)) place (packed first after around slot head) ⌝ }
+{
+    if place == 0 {
+        return;
+    }
+    if place < references.len() {
+        references[place] = pack(first, after, around, slot, head);
     }
 }

@@ -27,7 +27,6 @@ use Rattle.ari.proofs.Spots.{spot-count}
 use Rattle.ari.proofs.Listed.{nothing-else-is-listed, own-bytes}
 use Rattle.ari.proofs.Referring.{placeOf, found-references}
 use Rattle.ari.proofs.Named.{Named, InRange, own-namespace, numbers-in-range}
-use Rattle.ari.proofs.ListingBound.{at-most-half}
 use Rattle.item_table.specs.Entries.{noSpot, headOf, spotNumber, Tabled}
 use Rattle.item_table.proofs.Entries.{no-string, head-is, there, fine-at, covers-at, item-at, head-of-at, short-at}
 use Rattle.listing.specs.declared.Namespace.{Namespace}
@@ -35,7 +34,6 @@ use Rattle.listing.specs.declared.Namespace.the-variants.{Number, Name, 
 use Rattle.listing.specs.declared.Reference.{Reference}
 use Rattle.listing.specs.declared.Reference.the-variants.{Nothing, To}
 use Rattle.listing.specs.Entries.{namespaceOf, referenceFrom, spaceCode, stringIn, NameStands}
-use Rattle.listing.proofs.ReferenceWays.{no-reference as no-word, a-reference as a-word}
 
 -- the listing from item k on
 unfoldable pub listingFrom : List ℕ → ℕ → List Entry
@@ -201,32 +199,3 @@ module _ {m : Limits} {b t : List ℕ} {n : ℕ} (c : Tabled m Message b n t) wh
                 short = (omega (arith, ef, short-at c k h .0), omega (arith, ea, short-at c k h .1));
               }
           go false e u = absurd (let z : _≡_ {A = ℕ} 0 1 = cc in omega arith)
-
--- no more references than items
-pub few-listed : {m : Limits} {b : List ℕ} {n : ℕ} → Is m Message b (decode b) n → length (listing b) ≤ n
-few-listed c = omega (arith, at-most-half c)
-
--- The references are counted.
-module _ {m : Limits} {b t : List ℕ} {n : ℕ} (c : Tabled m Message b n t) where
-  pub count-start : length (listingFrom b 0) + 0 ≡ length (listing b)
-  count-start = rw (from-start c) (omega arith)
-
-  module _ (k i : ℕ) (e : length (listingFrom b k) + i ≡ length (listing b)) where
-    pub count-end : n ≤ k → k ≤ n → i ≡ length (listing b)
-    count-end h l = omega (arith, ap length (from-end c k h l))
-
-    module _ (h : k < n) {r : Reference} (f : r ≡ referenceFrom b (getD t k 0)) where
-      pub count-none : r ≡ Nothing → length (listingFrom b (k + 1)) + i ≡ length (listing b)
-      count-none g = omega (arith, ap length (no-reference c k h f g))
-
-      pub count-one : {fst aft : ℕ} {s : Namespace} → r ≡ To fst aft s → length (listingFrom b (k + 1)) + (i + 1) ≡ length (listing b)
-      count-one g = omega (arith, ap length (here c k h f g .listed))
-
-    module _ (h : k < n) {y : ℕ} (q : y ≡ headOf (getD t k 0)) where
-      pub count-passed : y ≡ 0 → length (listingFrom b (k + 1)) + i ≡ length (listing b)
-      count-passed g = count-none h (no-word b (getD t k 0) q g) refl
-
-      pub count-found : (y ≡ 0 → ⊥) → length (listingFrom b (k + 1)) + (i + 1) ≡ length (listing b)
-      count-found g = count-one h (a-word b (getD t k 0) q refl g refl) refl
-
-pub ruleset counts = (count-start, count-end, count-passed, count-found)

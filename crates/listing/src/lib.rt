@@ -1,4 +1,4 @@
-// The listing of a message, read off the item table and the message's bytes.
+// The listing of a message, read off the table of its references and the message's bytes; and a reference by a word of either table.
 ghost use mathlib.Core.Path.{_≡_};
 ghost use mathlib.Core.List.{_++_};
 ghost use Prim.Native.Nat.{_+_, _*_, _/_, _^_, _<_, _≤_, min};
@@ -10,7 +10,7 @@ ghost use Rattle.ari.specs.declared.Input.the-variants as input;
 ghost use Rattle.ari.specs.Reader.{accept};
 ghost use Rattle.ari.specs.Limits.{gateLimits, capped};
 ghost use Rattle.ari.specs.Listing.{listing};
-ghost use Rattle.item_table.specs.Entries.{Tabled};
+ghost use Rattle.item_table.specs.References.{Referenced};
 ghost use Rattle.listing.specs.Bytes.{listingBytes};
 ghost use Rattle.listing.specs.Answers.{listedOf, listOf, writtenBy, writtenOf};
 ghost use Rattle.listing.specs.Entries.{namespaceOf, referenceFrom, stringIn};
@@ -99,23 +99,6 @@ pub fn reference_at(s: &[u8], entry: u64) -> Reference
     }
 }
 
-// How many references the items of a table are, by its words alone.
-fn count_references(s: &[u8], limits: Limits, count: usize, entries: &[u64]) -> usize
-    requires { ⌜ Tabled limits input.Message (now s) count (now entries) ⌝ }
-    ensures { λ r. ⌜ r ≡ length (listing (now (s .entry))) ⌝ }
-{
-    let mut listed = 0;
-    let mut k = 0;
-    while k < count {
-        let head = item_table::head_of(entries[k]);
-        k += 1;
-        if head != 0 {
-            listed += 1;
-        }
-    }
-    listed
-}
-
 // A namespace's two numbers in an entry.
 fn kind_code(n: Namespace) -> u64
     ensures { λ r. ⌜ r ≡ kindCode n ⌝ }
@@ -160,90 +143,63 @@ fn put_entry(out: &mut [u8], at: usize, first: usize, after: usize, namespace: N
     put_numbers(out, at, ends, kind_code(namespace), word_code(namespace));
 }
 
-// The entries of a table's references, where there is room for them, and the place behind them.
-fn write_entries(s: &[u8], limits: Limits, count: usize, entries: &[u64], out: &mut [u8]) -> usize
-    requires { ⌜ Tabled limits input.Message (now s) count (now entries) ⌝ }
+// The entries of a table of references, where there is room for them.
+fn write_entries(s: &[u8], limits: Limits, count: usize, references: &[u64], out: &mut [u8])
+    requires { ⌜ Referenced limits input.Message (now s) count (now references) ⌝ }
     requires { ⌜ 24 * length (listing (now s)) ≤ length (now out) ⌝ }
-    ensures { λ r. ⌜ r ≡ 24 * length (listing (now (s .entry))) ⌝ }
     ensures { λ _. ⌜ now (out .exit) ≡ listingBytes (listing (now (s .entry))) ++ drop (24 * length (listing (now (s .entry)))) (now (out .entry)) ⌝ }
 {
+    let listed = references[0] as usize;
     let mut at = 0;
     let mut k = 0;
-    while k < count {
-        let r = reference_at(s, entries[k]);
+    while k < listed {
+        let word = references[k + 1];
         k += 1;
-        match r {
-            Reference::Nothing => {}
-            Reference::To {
-                first,
-                after,
-                namespace,
-            } => {
-                put_entry(out, at, first, after, namespace);
-                at += 24;
-            }
-        }
+        let x = item_table::item_of(word);
+        let size = item_table::head_of(word);
+        let namespace = namespace_at(s, x.first + size);
+        put_entry(out, at, x.first, x.after, namespace);
+        at += 24;
     }
-    at
 }
 
-// What a table's message answers where there is room for so many entries.
-fn answer_in(s: &[u8], limits: Limits, count: usize, entries: &[u64], room: usize) -> Listed
-    requires { ⌜ Tabled limits input.Message (now s) count (now entries) ⌝ }
-    ensures { λ r. ⌜ r ≡ listedOf (accept count) (listing (now (s .entry))) room ⌝ }
+// What a table's message answers, and its entries, where there is room for them.
+fn list_table(s: &[u8], limits: Limits, count: usize, references: &[u64], out: &mut [u8]) -> Listed
+    requires { ⌜ Referenced limits input.Message (now s) count (now references) ⌝ }
+    ensures { λ r. ⌜ r ≡ listedOf (accept count) (listing (now (s .entry))) (length (now (out .entry)) / 24) ⌝ }
+    ensures { λ r. ⌜ now (out .exit) ≡ writtenBy r (listing (now (s .entry))) (now (out .entry)) ⌝ }
 {
-    let listed = count_references(s, limits, count, entries);
-    if room < listed {
+    let listed = references[0] as usize;
+    if out.len() / 24 < listed {
         return Listed::Refused {
             number: 16,
             place: listed,
         };
     }
+    write_entries(s, limits, count, references, out);
     Listed::Entries { listed, count }
 }
 
-fn list_table(s: &[u8], limits: Limits, count: usize, entries: &[u64], out: &mut [u8]) -> Listed
-    requires { ⌜ Tabled limits input.Message (now s) count (now entries) ⌝ }
-    ensures { λ r. ⌜ r ≡ listedOf (accept count) (listing (now (s .entry))) (length (now (out .entry)) / 24) ⌝ }
-    ensures { λ r. ⌜ now (out .exit) ≡ writtenBy r (listing (now (s .entry))) (now (out .entry)) ⌝ }
-{
-    if count <= out.len() / 24 {
-        // room for every item: the references need not be counted before
-        let end = write_entries(s, limits, count, entries, out);
-        return Listed::Entries {
-            listed: end / 24,
-            count,
-        };
-    }
-    let r = answer_in(s, limits, count, entries, out.len() / 24);
-    if let Listed::Entries {
-        listed: _,
-        count: _,
-    } = r {
-        write_entries(s, limits, count, entries, out);
-    }
-    r
-}
-
-fn list_in(s: &[u8], limits: Limits, out: &mut [u8], entries: &mut [u64]) -> Listed
-    requires { ⌜ (min (limits .items) (length (now s)) ≤ length (now entries)) × (limits .bytes < 65536) × (limits .containers < 256) ⌝ }
+fn list_in(s: &[u8], limits: Limits, out: &mut [u8], references: &mut [u64]) -> Listed
+    requires { ⌜ (min (limits .items) (length (now s)) < 2 * length (now references)) × (limits .bytes < 65536) × (limits .containers < 256) ⌝ }
     ensures { λ r. ⌜ r ≡ listOf limits (now (s .entry)) (now (out .entry)) ⌝ }
     ensures { λ r. ⌜ now (out .exit) ≡ writtenOf limits (now (s .entry)) (now (out .entry)) ⌝ }
 {
-    match reader::keep(Input::Message, limits, s, entries) {
+    match reader::keep_references(Input::Message, limits, s, references) {
         Answer::Refused { number, place } => Listed::Refused { number, place },
-        Answer::Accepted(count) => list_table(s, limits, count, entries, out),
+        Answer::Accepted(count) => list_table(s, limits, count, references, out),
     }
 }
 
-// A message has no more items than bytes: tables of 128 and of 1,024 serve small ones, and are cleared in a fraction of the time.
+// A message has no more items than bytes, and at most half as many references: tables of 65 and of 513 words serve small ones, and are cleared in a
+// fraction of the time.
 fn list_small(s: &[u8], limits: Limits, out: &mut [u8]) -> Listed
     requires { ⌜ (length (now s) ≤ 128) × (limits .bytes < 65536) × (limits .containers < 256) ⌝ }
     ensures { λ r. ⌜ r ≡ listOf limits (now (s .entry)) (now (out .entry)) ⌝ }
     ensures { λ r. ⌜ now (out .exit) ≡ writtenOf limits (now (s .entry)) (now (out .entry)) ⌝ }
 {
-    let mut entries = [0u64; 128];
-    list_in(s, limits, out, &mut entries)
+    let mut references = [0u64; 65];
+    list_in(s, limits, out, &mut references)
 }
 
 fn list_middle(s: &[u8], limits: Limits, out: &mut [u8]) -> Listed
@@ -251,8 +207,8 @@ fn list_middle(s: &[u8], limits: Limits, out: &mut [u8]) -> Listed
     ensures { λ r. ⌜ r ≡ listOf limits (now (s .entry)) (now (out .entry)) ⌝ }
     ensures { λ r. ⌜ now (out .exit) ≡ writtenOf limits (now (s .entry)) (now (out .entry)) ⌝ }
 {
-    let mut entries = [0u64; 1024];
-    list_in(s, limits, out, &mut entries)
+    let mut references = [0u64; 513];
+    list_in(s, limits, out, &mut references)
 }
 
 fn list_large(s: &[u8], limits: Limits, out: &mut [u8]) -> Listed
@@ -260,8 +216,8 @@ fn list_large(s: &[u8], limits: Limits, out: &mut [u8]) -> Listed
     ensures { λ r. ⌜ r ≡ listOf limits (now (s .entry)) (now (out .entry)) ⌝ }
     ensures { λ r. ⌜ now (out .exit) ≡ writtenOf limits (now (s .entry)) (now (out .entry)) ⌝ }
 {
-    let mut entries = [0u64; ari::ITEMS];
-    list_in(s, limits, out, &mut entries)
+    let mut references = [0u64; ENTRIES + 1];
+    list_in(s, limits, out, &mut references)
 }
 
 // The listing of a message within these limits, none above the gate's own, in the lent room.

@@ -28,7 +28,7 @@ use Rattle.reader.specs.declared.Step.the-variants.{Taken, Refused}
 use Rattle.reader.specs.declared.Walk.{Walk}
 use Rattle.reader.specs.declared.Walk.the-variants as walk
 use Rattle.reader.specs.Steps.{stepAnswer, stepAt, Bounded}
-use Rattle.reader.specs.Walks.{headWalk, unwalkedOf, WalkedBy}
+use Rattle.reader.specs.Walks.{headWalk, unwalkedOf, Tables, WalkedBy}
 use Rattle.reader.proofs.Walking.{Took, took}
 use Rattle.reader.proofs.Keys.{ordered-kind}
 use Rattle.reader.proofs.Loop.{key-part}
@@ -231,7 +231,7 @@ module _ (b : List ℕ) (p i count items d : ℕ) where
       nothing (x ∷ b) zero h = absurd (omega arith)
       nothing (x ∷ b) (suc p) h = nothing b p (omega arith)
 
-  pub one-head : (j : ℕ) {c : ℕ} → slotOf j ≡ slotOf i → c ≡ min count items → {w : Walk} {t t′ : List ℕ} → WalkedBy true b items (slotOf j) 0 d 0 p c w t t′
+  pub one-head : (j : ℕ) {c : ℕ} → slotOf j ≡ slotOf i → c ≡ min count items → {w : Walk} {t t′ : Tables} → WalkedBy true b items (slotOf j) 0 d 0 p c w t t′
       → w ≡ headWalk (min count items) (stepAt b p (slotOf i) [] (items - count) d)
   one-head j ej ec v =
       let z : items - min count items ≡ items - count = omega arith in

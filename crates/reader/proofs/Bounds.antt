@@ -29,7 +29,7 @@ use Rattle.reader.specs.declared.Step.the-variants as step
 use Rattle.reader.specs.declared.Walk.{Walk}
 use Rattle.reader.specs.declared.Walk.the-variants.{Read, Refused}
 use Rattle.reader.specs.Steps.{Bounded, stoppedOf, keySpan}
-use Rattle.reader.specs.Walks.{insideLevel, Walked, Opens}
+use Rattle.reader.specs.Walks.{insideLevel, Tables, Walked, Opens}
 use Rattle.reader.proofs.Walking.{ended}
 
 module _ (b : List ℕ) (p c items d i : ℕ) {x : Step} (h : Bounded b p c items d i x) {k a q : ℕ} (e : x ≡ Taken k a q) where
@@ -64,7 +64,7 @@ module _ (b : List ℕ) (p c items d i : ℕ) {x : Step} (h : Bounded b p c item
 pub handed : {x : Step} {r y : ℕ} → x ≡ step.Refused r y → Refused r y ≡ stoppedOf x
 handed e = rw e
 
-module _ (b : List ℕ) (items : ℕ) (v : Level) (prev : List ℕ) (d around p c : ℕ) {w : Walk} {t t′ : List ℕ} (h : Walked b items v prev d around p c w t t′)
+module _ (b : List ℕ) (items : ℕ) (v : Level) (prev : List ℕ) (d around p c : ℕ) {w : Walk} {t t′ : Tables} (h : Walked b items v prev d around p c w t t′)
     {q e : ℕ} (g : w ≡ Read q e) where
   abbrev read : Walked b items v prev d around p c (Read q e) t t′
   read = rw g at h
@@ -84,7 +84,7 @@ due-long items.none s n prev d f = absurd f
 due-long (item l str ms rs) s n prev d f =
     simp length-append (omega (arith, length-lead l))
 
-pub read-past : (b : List ℕ) (items : ℕ) (s : Slot) (n : ℕ) (prev : List ℕ) (d around p c : ℕ) {w : Walk} {t t′ : List ℕ}
+pub read-past : (b : List ℕ) (items : ℕ) (s : Slot) (n : ℕ) (prev : List ℕ) (d around p c : ℕ) {w : Walk} {t t′ : Tables}
     → Walked b items (due s n) prev d around p c w t t′ → {q e : ℕ} → w ≡ Read q e → p < q
 read-past b items s n prev d around p c h g =
     let r = rw g at h in
@@ -108,15 +108,15 @@ module _ (i k a : ℕ) {x : Next} (e : x ≡ insideCode i k a) where
   level-is : IsSlot i → levelOf x ≡ insideLevel (slotOf i) k a
   level-is v = rw e (inside-right i (record { info = 0; kind = k; arg = a }) v .level)
 
-  module _ (b : List ℕ) (items d around at c : ℕ) {t : List ℕ} (v : IsSlot i) where
+  module _ (b : List ℕ) (items d around at c : ℕ) {t : Tables} (v : IsSlot i) where
     pub nothing-inside : x ≡ Done → at ≤ length b → c ≤ items → Walked b items (insideLevel (slotOf i) k a) [] (pred d) (suc around) at c (Read at c) t t
     nothing-inside q h g = rw (← level-is v, q) (ended b items [] (pred d) (suc around) at c t h g)
 
-    pub opened : {j m : ℕ} → x ≡ Due j m → {w : Walk} {t′ : List ℕ} → Walked b items (due (slotOf j) m) [] (d - 1) (around + 1) at c w t t′
+    pub opened : {j m : ℕ} → x ≡ Due j m → {w : Walk} {t′ : Tables} → Walked b items (due (slotOf j) m) [] (d - 1) (around + 1) at c w t t′
         → Walked b items (insideLevel (slotOf i) k a) [] (pred d) (suc around) at c w t t′
     opened q {w} {t′} y = rw (← level-is v, q, ← sub-one d, ← add-one around) y
 
-    pub by-level : {w : Walk} {t′ : List ℕ} → Walked b items (levelOf x) [] (pred d) (suc around) at c w t t′
+    pub by-level : {w : Walk} {t′ : Tables} → Walked b items (levelOf x) [] (pred d) (suc around) at c w t t′
         → Walked b items (insideLevel (slotOf i) k a) [] (pred d) (suc around) at c w t t′
     by-level y = rw (← level-is v) y
 
@@ -134,11 +134,11 @@ inner-opens i k a {x} e v d s = go x refl
     go (Due j m) q = (inner-slot i k a e v q, opens i k a e d q s)
 
 -- the same, by what is due alone
-module _ {x : Next} (b : List ℕ) (items d around at c : ℕ) {t : List ℕ} where
+module _ {x : Next} (b : List ℕ) (items d around at c : ℕ) {t : Tables} where
   pub none-due : x ≡ Done → at ≤ length b → c ≤ items → Walked b items (levelOf x) [] (pred d) (suc around) at c (Read at c) t t
   none-due q h g = rw q (ended b items [] (pred d) (suc around) at c t h g)
 
-  pub level-due : {j m : ℕ} → x ≡ Due j m → {w : Walk} {t′ : List ℕ} → Walked b items (due (slotOf j) m) [] (d - 1) (around + 1) at c w t t′
+  pub level-due : {j m : ℕ} → x ≡ Due j m → {w : Walk} {t′ : Tables} → Walked b items (due (slotOf j) m) [] (d - 1) (around + 1) at c w t t′
       → Walked b items (levelOf x) [] (pred d) (suc around) at c w t t′
   level-due q y = rw (q, ← sub-one d, ← add-one around) y
 

@@ -24,7 +24,7 @@ use Rattle.reader.specs.declared.Step.the-variants.{Taken}
 use Rattle.reader.specs.declared.Walk.{Walk}
 use Rattle.reader.specs.declared.Walk.the-variants.{Read, Refused}
 use Rattle.reader.specs.Steps.{standsAt, stepAnswer, stepAt}
-use Rattle.reader.specs.Walks.{Walked, WalkedBy}
+use Rattle.reader.specs.Walks.{Tables, both, Walked, WalkedBy}
 use Rattle.reader.proofs.Walking.{ended}
 use Rattle.reader.proofs.Loop.{begins, breaks, ends}
 
@@ -103,30 +103,30 @@ set-step b p c items d h g =
     rw (h .bytes) (ap (stepAnswer p) (sym (set-judged (items - c) d (drop (suc p) b) (h .more) (ne-eqb d 0 g))))
 
 pub version-read : (b : List ℕ) → all isByte b ≡ true → (items d : ℕ) {r : Bool} → r ≡ standsAt b 0 1 (items - 0) → not r ≡ false
-    → (t : List ℕ) {z : List ℕ} → z ≡ set t 0 (packed 0 1 0 0 0) → Walked b items (due (slotOf 0) 0) [] d 0 0 0 (Read 1 1) t z
+    → (t u : List ℕ) {z : List ℕ} → z ≡ set t 0 (packed 0 1 0 0 0) → Walked b items (due (slotOf 0) 0) [] d 0 0 0 (Read 1 1) (both t u) (both z u)
 unfolding members rule fitsCode nextCode keyOf getHead
-version-read b bs items d e u t put =
+version-read b bs items d e u t refs {z} put =
     let h = stood b 0 1 0 items e u in
-    let inside = ended b items [] (pred d) 1 1 1 t (h .within) (h .spare) in
-    ends b bs items version 0 [] d 0 0 0 t 0 0 0 0 d 0 0 0 t (omega arith) (begins b items version 0 d 0 0 0 t) (version-step b items d h) refl inside refl put (omega arith) refl refl refl (h .within) (h .spare)
+    let inside = ended b items [] (pred d) 1 1 1 (both t refs) (h .within) (h .spare) in
+    ends b bs items version 0 [] d 0 0 0 (both t refs) 0 0 0 0 d 0 0 0 (both t refs) (omega arith) (begins b items version 0 d 0 0 0 (both t refs)) (version-step b items d h) refl inside refl {tab₂ = both z refs} refl refl put refl (omega arith) refl refl refl (h .within) (h .spare)
 
 module _ (b : List ℕ) (bs : all isByte b ≡ true) (items d p c : ℕ) {r : Bool} (e : r ≡ standsAt b p 130 (items - c)) (u : not r ≡ false)
-    (g : d ≡ 0 → ⊥) (t : List ℕ) {w : Walk} {t₁ : List ℕ} (m : WalkedBy false b items (slotOf 6) 0 (d - 1) 1 (p + 1) (c + 1) w t t₁) where
+    (g : d ≡ 0 → ⊥) (t u₀ : List ℕ) {w : Walk} {t₁ u₁ : List ℕ} (m : WalkedBy false b items (slotOf 6) 0 (d - 1) 1 (p + 1) (c + 1) w (both t u₀) (both t₁ u₁)) where
   abbrev there : Stood b p 130 c items
   there = stood b p 130 c items e u
 
-  abbrev inside : Walked b items (due (slotOf 6) 0) [] (pred d) 1 (p + 1) (c + 1) w t t₁
+  abbrev inside : Walked b items (due (slotOf 6) 0) [] (pred d) 1 (p + 1) (c + 1) w (both t u₀) (both t₁ u₁)
   inside = rw (← sub-one d) (m .level refl)
 
-  pub set-stopped : {n x : ℕ} → w ≡ Refused n x → {z : List ℕ} → Walked b items (due (slotOf 2) 0) [] d 0 p c w t z
+  pub set-stopped : {n x : ℕ} → w ≡ Refused n x → {z : Tables} → Walked b items (due (slotOf 2) 0) [] d 0 p c w (both t u₀) z
   unfolding members rule keyOf getHead
   set-stopped v =
-      breaks b bs items (ari message) 0 [] d 0 p c t 2 0 0 0 d 0 p c t (omega arith) (begins b items (ari message) 0 d 0 p c t) (set-step b p c items d there g) refl inside v
+      breaks b bs items (ari message) 0 [] d 0 p c (both t u₀) 2 0 0 0 d 0 p c (both t u₀) (omega arith) (begins b items (ari message) 0 d 0 p c (both t u₀)) (set-step b p c items d there g) refl inside v
 
-  pub set-read : {q f : ℕ} → w ≡ Read q f → {z : List ℕ} → z ≡ set t₁ c (packed p q 0 2 0) → Walked b items (due (slotOf 2) 0) [] d 0 p c (Read q f) t z
+  pub set-read : {q f : ℕ} → w ≡ Read q f → {z : List ℕ} → z ≡ set t₁ c (packed p q 0 2 0) → Walked b items (due (slotOf 2) 0) [] d 0 p c (Read q f) (both t u₀) (both z u₁)
   unfolding members rule fitsCode nextCode keyOf getHead
-  set-read v put =
+  set-read v {z} put =
       let within = (rw v at inside) .held in
-      ends b bs items (ari message) 0 [] d 0 p c t 2 0 0 0 d 0 p c t (omega arith) (begins b items (ari message) 0 d 0 p c t) (set-step b p c items d there g) refl inside v put (omega arith) refl refl refl (within .1) (within .2)
+      ends b bs items (ari message) 0 [] d 0 p c (both t u₀) 2 0 0 0 d 0 p c (both t u₀) (omega arith) (begins b items (ari message) 0 d 0 p c (both t u₀)) (set-step b p c items d there g) refl inside v {tab₂ = both z u₁} refl refl put refl (omega arith) refl refl refl (within .1) (within .2)
 
 pub ruleset fixed-heads = (stood-in, stood-few, stood-fits, version-read, set-stopped, set-read)

@@ -18,10 +18,13 @@ use Rattle.ari.specs.Reader.{keyAfter}
 use Rattle.ari.proofs.Due.{prevAfter}
 use Rattle.grammar.specs.declared.Next.{Next}
 use Rattle.grammar.specs.declared.Next.the-variants.{Done, Due}
-use Rattle.grammar.specs.Code.{slots, slotOf, levelOf, fitsCode, nextCode, insideCode}
+use Rattle.grammar.specs.Code.{slots, slotOf, slotNumber, levelOf, fitsCode, nextCode, insideCode}
 use Rattle.grammar.specs.Code.{IsSlot}
 use Rattle.grammar.proofs.Right.{number-slot, Slotted, Stands, next-right, inside-right}
-use Rattle.item_table.specs.Entries.{packed, headBy, referenceHead}
+use Rattle.ari.specs.Table.{isReference}
+use Rattle.item_table.specs.Entries.{packed, headBy, referenceHead, referenceBy}
+use Rattle.item_table.specs.References.{placeFor, reservedFor}
+use Rattle.item_table.specs.References as references
 use Rattle.item_table.proofs.Entries.{reference-head}
 use Rattle.reader.specs.declared.Step.{Step}
 use Rattle.reader.specs.declared.Step.the-variants.{Taken}
@@ -30,7 +33,7 @@ use Rattle.reader.specs.declared.Walk.{Walk}
 use Rattle.reader.specs.declared.Walk.the-variants.{Read, Refused}
 use Rattle.buffer.specs.Bytes.{part}
 use Rattle.reader.specs.Steps.{stepAt, stoppedOf, Bounded, keySpan}
-use Rattle.reader.specs.Walks.{insideLevel, Walked, WalkedBy, headWalk}
+use Rattle.reader.specs.Walks.{insideLevel, Tables, both, Walked, WalkedBy, headWalk}
 use Rattle.reader.proofs.Walking.{Took, took, ended, stopped, broken, onward}
 use Rattle.reader.proofs.Keys.{ordered-kind, key-bytes}
 
@@ -39,13 +42,18 @@ inside-is : (s : Slot) (l : Lead) → insideLevel s (l .kind) (l .arg) ≡ membe
 unfolding members
 inside-is s l = refl
 
+-- whether a head is a reference, by kind and argument
+reference-by : (i k a : ℕ) (l : Lead) → l .kind ≡ k → l .arg ≡ a → isReference (slotOf i) l ≡ referenceBy i k a
+unfolding isReference
+reference-by i k a l ek ea = rw (← ek, ← ea)
+
 -- What is due at p after the key before leads on: whatever ends it from here ends the whole from where the level began.
-pub record Leads (b : List ℕ) (items : ℕ) (s₀ : Slot) (n₀ : ℕ) (prev₀ : List ℕ) (d₀ around₀ p₀ c₀ : ℕ) (t₀ : List ℕ) (s : Slot) (n : ℕ) (prev : List ℕ)
-    (d around p c : ℕ) (t : List ℕ) : Type 0 where
-  pub then : {v : Walk} {z : List ℕ} → Walked b items (due s n) prev d around p c v t z → Walked b items (due s₀ n₀) prev₀ d₀ around₀ p₀ c₀ v t₀ z
+pub record Leads (b : List ℕ) (items : ℕ) (s₀ : Slot) (n₀ : ℕ) (prev₀ : List ℕ) (d₀ around₀ p₀ c₀ : ℕ) (t₀ : Tables) (s : Slot) (n : ℕ) (prev : List ℕ)
+    (d around p c : ℕ) (t : Tables) : Type 0 where
+  pub then : {v : Walk} {z : Tables} → Walked b items (due s n) prev d around p c v t z → Walked b items (due s₀ n₀) prev₀ d₀ around₀ p₀ c₀ v t₀ z
 
 -- where a level begins there is no key before
-pub begins : (b : List ℕ) (items : ℕ) (s : Slot) (n d around p c : ℕ) (t : List ℕ) → Leads b items s n [] d around p c t s n (keyOf (part b 0 0)) d around p c t
+pub begins : (b : List ℕ) (items : ℕ) (s : Slot) (n d around p c : ℕ) (t : Tables) → Leads b items s n [] d around p c t s n (keyOf (part b 0 0)) d around p c t
 unfolding keyOf getHead
 begins b items s n d around p c t = record { then = λ w. w }
 
@@ -66,21 +74,21 @@ key-span b one f t p q kb e = refl
 key-span b rising f t p q kb e = e refl
 key-span b filled f t p q kb e = refl
 
-module _ (b : List ℕ) (bs : all isByte b ≡ true) (items : ℕ) (s₀ : Slot) (n₀ : ℕ) (prev₀ : List ℕ) (d₀ around₀ p₀ c₀ : ℕ) (t₀ : List ℕ)
-    (i n f t d around p c : ℕ) (tab : List ℕ) (v : IsSlot i)
+module _ (b : List ℕ) (bs : all isByte b ≡ true) (items : ℕ) (s₀ : Slot) (n₀ : ℕ) (prev₀ : List ℕ) (d₀ around₀ p₀ c₀ : ℕ) (t₀ : Tables)
+    (i n f t d around p c : ℕ) (tab : Tables) (v : IsSlot i)
     (lead : Leads b items s₀ n₀ prev₀ d₀ around₀ p₀ c₀ t₀ (slotOf i) n (keyOf (part b f t)) d around p c tab)
     {x : Step} (e : x ≡ stepAt b p (slotOf i) (keyOf (part b f t)) (items - c) d) where
   -- the head is refused
-  pub halts : {r y : ℕ} → x ≡ step.Refused r y → {w : Walk} → w ≡ stoppedOf x → {z : List ℕ} → Walked b items (due s₀ n₀) prev₀ d₀ around₀ p₀ c₀ w t₀ z
+  pub halts : {r y : ℕ} → x ≡ step.Refused r y → {w : Walk} → w ≡ stoppedOf x → {z : Tables} → Walked b items (due s₀ n₀) prev₀ d₀ around₀ p₀ c₀ w t₀ z
   halts {r} {y} q {w} g {z} =
       rw (g, q) (lead .then (stopped b items (slotOf i) n (keyOf (part b f t)) d around p c r y tab z (sym e ∙ q)))
 
-  module _ {k a q₀ : ℕ} (q : x ≡ Taken k a q₀) {w : Walk} {tab₁ : List ℕ}
-      (m : Walked b items (insideLevel (slotOf i) k a) [] (pred d) (suc around) q₀ (c + 1) w tab tab₁) where
+  module _ {k a q₀ : ℕ} (q : x ≡ Taken k a q₀) {w : Walk} {res : List ℕ} {tab₁ : Tables}
+      (m : Walked b items (insideLevel (slotOf i) k a) [] (pred d) (suc around) q₀ (c + 1) w (both (tab .items) res) tab₁) where
     abbrev tk : Took b p (items - c) d (slotOf i) (keyOf (part b f t)) k a q₀
     tk = took b p (items - c) d (slotOf i) (keyOf (part b f t)) k a q₀ (sym e ∙ q)
 
-    walked : Walked b items (members (slotOf i) (tk .lead)) [] (pred d) (suc around) q₀ (suc c) w tab tab₁
+    walked : Walked b items (members (slotOf i) (tk .lead)) [] (pred d) (suc around) q₀ (suc c) w (both (tab .items) res) tab₁
     walked = rw (← inside-is (slotOf i) (tk .lead), tk .kind-is, tk .arg-is, ← add-one c) m
 
     -- the bytes of the head, if it is a reference
@@ -90,16 +98,25 @@ module _ (b : List ℕ) (bs : all isByte b ≡ true) (items : ℕ) (s₀ : Slot)
         omega (arith, ap length (tk .passed .string), length-take-le (stringSize (tk .lead)) r (tk .passed .there), tk .after-is))
 
     -- a member is refused
-    pub breaks : {r y : ℕ} → w ≡ Refused r y → {z : List ℕ} → Walked b items (due s₀ n₀) prev₀ d₀ around₀ p₀ c₀ w t₀ z
+    pub breaks : {r y : ℕ} → w ≡ Refused r y → {z : Tables} → Walked b items (due s₀ n₀) prev₀ d₀ around₀ p₀ c₀ w t₀ z
     breaks {r} {y} g {z} =
         rw g (lead .then (broken b bs items (slotOf i) n (keyOf (part b f t)) d around p c k a q₀ tk (rw g at walked)))
 
-    module _ {q₁ e₁ : ℕ} (g : w ≡ Read q₁ e₁) {tab₂ : List ℕ} (put : tab₂ ≡ set tab₁ c (packed p q₁ around i (headBy i k a (q₀ - p)))) where
+    -- whether it is one
+    reference-is : isReference (slotOf i) (tk .lead) ≡ referenceBy i k a
+    reference-is = reference-by i k a (tk .lead) (tk .kind-is) (tk .arg-is)
+
+    module _ {q₁ e₁ : ℕ} (g : w ≡ Read q₁ e₁) {pl : ℕ} {tab₂ : Tables} (taken : res ≡ reservedFor i k a (tab .references)) (at : pl ≡ placeFor i k a (tab .references))
+        (put : tab₂ .items ≡ set (tab₁ .items) c (packed p q₁ around i (headBy i k a (q₀ - p))))
+        (fill : tab₂ .references ≡ references.filled (tab₁ .references) pl (packed p q₁ around i (q₀ - p))) where
+      own : referenceBy i k a ≡ true → packed p q₁ around i (q₀ - p) ≡ packed p q₁ around (slotNumber (slotOf i)) (referenceHead (slotOf i) (tk .lead))
+      own y = rw (number-slot i v, ← head-is, y)
+
       -- what follows the item ends the level
-      item : {u : Walk} {z : List ℕ} → Walked b items (rule (slotOf i) .next (tk .lead .arg) n) (prevAfter (slotOf i) (keyOf (part b f t)) (tk .lead) (tk .str)) d around q₁ e₁ u tab₂ z
+      item : {u : Walk} {z : Tables} → Walked b items (rule (slotOf i) .next (tk .lead .arg) n) (prevAfter (slotOf i) (keyOf (part b f t)) (tk .lead) (tk .str)) d around q₁ e₁ u tab₂ z
           → Walked b items (due s₀ n₀) prev₀ d₀ around₀ p₀ c₀ u t₀ z
       item y =
-          lead .then (onward b bs items (slotOf i) n (keyOf (part b f t)) d around p c k a q₀ tk (rw g at walked) (put ∙ rw (number-slot i v, head-is)) y)
+          lead .then (onward b bs items (slotOf i) n (keyOf (part b f t)) d around p c k a q₀ tk i reference-is taken at (rw g at walked) (put ∙ rw (number-slot i v, head-is)) fill own y)
 
       module _ (kk : k ≤ 9) (fit : fitsCode i k a ≡ true) {nx : Next} (nn : nx ≡ nextCode i a n) where
         next-is : levelOf nx ≡ rule (slotOf i) .next (tk .lead .arg) n
@@ -132,29 +149,29 @@ pub later-turn : {alone : Bool} → alone ≡ false → {s₀ d₀ p₀ c₀ f t
 later-turn e = record { first = λ g. absurd (true≢false (sym g ∙ e)) }
 
 -- a level that is walked
-pub levelled : {b : List ℕ} {items : ℕ} {s : Slot} {n d around p c : ℕ} {w : Walk} {t t′ : List ℕ} → WalkedBy false b items s n d around p c w t t′
+pub levelled : {b : List ℕ} {items : ℕ} {s : Slot} {n d around p c : ℕ} {w : Walk} {t t′ : Tables} → WalkedBy false b items s n d around p c w t t′
     → Walked b items (due s n) [] d around p c w t t′
 levelled v = v .level refl
 
-pub on-level : {alone : Bool} → alone ≡ false → {b : List ℕ} {items : ℕ} {s : Slot} {n d around p c : ℕ} {w : Walk} {t t′ : List ℕ}
+pub on-level : {alone : Bool} → alone ≡ false → {b : List ℕ} {items : ℕ} {s : Slot} {n d around p c : ℕ} {w : Walk} {t t′ : Tables}
     → Walked b items (due s n) [] d around p c w t t′ → WalkedBy alone b items s n d around p c w t t′
 on-level e v = record { level = λ _. v; head = λ g. absurd (true≢false (sym g ∙ e)) }
 
-module _ {alone : Bool} (b : List ℕ) (items i₀ n₀ d₀ around p₀ c₀ : ℕ) (t₀ : List ℕ) {i f t d p c : ℕ} (first : First alone i₀ d₀ p₀ c₀ f t i d p c)
+module _ {alone : Bool} (b : List ℕ) (items i₀ n₀ d₀ around p₀ c₀ : ℕ) (t₀ : Tables) {i f t d p c : ℕ} (first : First alone i₀ d₀ p₀ c₀ f t i d p c)
     {x : Step} (e : x ≡ stepAt b p (slotOf i) (keyOf (part b f t)) (items - c) d) where
   here : alone ≡ true → x ≡ stepAt b p₀ (slotOf i₀) [] (items - c₀) d₀
   unfolding keyOf getHead
   here g = let (y₁, y₂, y₃, y₄, y₅, y₆) = first .first g in rw (y₁, y₂, y₃, y₄, y₅, y₆) at e
 
   -- the head is taken, and nothing else is asked
-  pub head-alone : alone ≡ true → {k a q : ℕ} → x ≡ Taken k a q → {z : List ℕ} → WalkedBy alone b items (slotOf i₀) n₀ d₀ around p₀ c₀ (Read q (c + 1)) t₀ z
+  pub head-alone : alone ≡ true → {k a q : ℕ} → x ≡ Taken k a q → {z : Tables} → WalkedBy alone b items (slotOf i₀) n₀ d₀ around p₀ c₀ (Read q (c + 1)) t₀ z
   head-alone g {k} {a} {q} u = record {
     level = λ n. absurd (true≢false (sym g ∙ n));
     head = λ _. let y₃ = first .first g .2 in rw (← here g, u, y₃);
   }
 
   -- or refused, alone or not
-  pub stops : {r y : ℕ} → x ≡ step.Refused r y → {w : Walk} → w ≡ stoppedOf x → {z : List ℕ} → Walked b items (due (slotOf i₀) n₀) [] d₀ around p₀ c₀ w t₀ z
+  pub stops : {r y : ℕ} → x ≡ step.Refused r y → {w : Walk} → w ≡ stoppedOf x → {z : Tables} → Walked b items (due (slotOf i₀) n₀) [] d₀ around p₀ c₀ w t₀ z
       → WalkedBy alone b items (slotOf i₀) n₀ d₀ around p₀ c₀ w t₀ z
   stops u v level = record { level = λ _. level; head = λ g. v ∙ rw (← here g, u) }
 

@@ -16,19 +16,21 @@ use Rattle.ari.specs.Table.{Slot, Level, done, due, rule, members}
 use Rattle.cbor.specs.Head.{keyBytes}
 use Rattle.ari.specs.Reader.{Dues, end, frame, push, behind, keyAfter, judge, judgeGot, Answer, refuse, takeStep, visit, run}
 use Rattle.ari.specs.Reader as reader
-use Rattle.ari.specs.Items.{Items, none, item, encode, heads, spots, insideAt, spotAt}
+use Rattle.ari.specs.Items.{Items, none, item, encode, heads, Spot, spots, insideAt}
 use Rattle.ari.specs.Due.{Due, Good}
 use Rattle.ari.proofs.Due.{prevAfter}
 use Rattle.ari.proofs.Central.{Judged, judged}
 use Rattle.grammar.specs.Code.{slotNumber}
-use Rattle.item_table.specs.Entries.{packed, referenceHead, entryOf}
+use Rattle.ari.specs.Table.{isReference}
+use Rattle.item_table.specs.Entries.{packed, referenceHead, entryOf, referenceBy}
+use Rattle.item_table.specs.References.{filled, placeFor, reservedFor}
 use Rattle.reader.specs.declared.Step.the-variants.{Taken}
 use Rattle.reader.specs.declared.Step.the-variants as step
 use Rattle.reader.specs.declared.Walk.{Walk}
 use Rattle.reader.specs.declared.Walk.the-variants.{Read, Refused}
 use Rattle.reader.specs.Steps.{stepAnswer, stepAt}
-use Rattle.reader.specs.Walks.{entries, afterWalk, Held, OnRead, Walked}
-use Rattle.reader.proofs.Tables.{spots-heads, item-entries}
+use Rattle.reader.specs.Walks.{Tables, both, keptIn, afterWalk, Held, OnRead, Walked}
+use Rattle.reader.proofs.Tables.{spots-heads, item-kept}
 
 -- a head that was taken
 pub record Took (b : List ℕ) (p left d : ℕ) (s : Slot) (prev : List ℕ) (k a q : ℕ) : Type 0 where
@@ -79,7 +81,7 @@ unfolding run visit takeStep
 run-taken left s n prev d ds p x l str e = rw e
 
 -- the level has ended
-pub ended : (b : List ℕ) (items : ℕ) (prev : List ℕ) (d around p c : ℕ) (t : List ℕ) → p ≤ length b → c ≤ items
+pub ended : (b : List ℕ) (items : ℕ) (prev : List ℕ) (d around p c : ℕ) (t : Tables) → p ≤ length b → c ≤ items
     → Walked b items done prev d around p c (Read p c) t t
 ended b items prev d around p c t h g = record {
   runs = λ ds. refl;
@@ -87,7 +89,7 @@ ended b items prev d around p c t h g = record {
 }
 
 -- a head is refused
-pub stopped : (b : List ℕ) (items : ℕ) (s : Slot) (n : ℕ) (prev : List ℕ) (d around p c r x : ℕ) (t t′ : List ℕ)
+pub stopped : (b : List ℕ) (items : ℕ) (s : Slot) (n : ℕ) (prev : List ℕ) (d around p c r x : ℕ) (t t′ : Tables)
     → stepAt b p s prev (items - c) d ≡ step.Refused r x → Walked b items (due s n) prev d around p c (Refused r x) t t′
 unfolding stepAt
 stopped b items s n prev d around p c r x t t′ e = go (judgeGot (items - c) d s prev (getHead (drop p b)) (drop p b)) refl e
@@ -118,7 +120,7 @@ module _ (b : List ℕ) (bs : all isByte b ≡ true) (items : ℕ) (s : Slot) (n
       rw (left-is, run-taken (items - suc c) s n prev d ds p (drop p b) (h .lead) (h .str) e, drop-drop (size (h .lead) + length (h .str)) p b, f)
 
   -- a member is refused
-  pub broken : {r x : ℕ} {t t₁ t′ : List ℕ} → Walked b items (members s (h .lead)) [] (pred d) (suc around) q₀ (suc c) (Refused r x) t t₁
+  pub broken : {r x : ℕ} {t tᵣ t₁ t′ : Tables} → Walked b items (members s (h .lead)) [] (pred d) (suc around) q₀ (suc c) (Refused r x) tᵣ t₁
       → Walked b items (due s n) prev d around p c (Refused r x) t t′
   broken w = record { runs = λ ds. runs-in ds ∙ w .runs (behind s (h .lead) (h .str) n prev d ds); held = tt }
 
@@ -145,39 +147,45 @@ module _ (b : List ℕ) (bs : all isByte b ≡ true) (items : ℕ) (s : Slot) (n
       ∙ rw (← h .passed .string, drop-drop (stringSize l) (size l) (drop p b), drop-drop (size l + stringSize l) p b, ← z, e) in
       f ∙ ap (λ (x : List ℕ). leadBytes l ++ x) u
 
+  abbrev next : Level
+  next = rule s .next (h .lead .arg) n
+
+  abbrev after : List ℕ
+  after = prevAfter s prev (h .lead) (h .str)
+
   -- what follows the item finishes the whole
-  module _ {q e : ℕ} {t t₁ t₂ : List ℕ} (w : Walked b items (members s (h .lead)) [] (pred d) (suc around) q₀ (suc c) (Read q e) t t₁)
-      (put : t₂ ≡ set t₁ c (packed p q around (slotNumber s) (referenceHead s (h .lead)))) where
-    abbrev next : Level
-    next = rule s .next (h .lead .arg) n
-
-    abbrev after : List ℕ
-    after = prevAfter s prev (h .lead) (h .str)
-
-    together : {q′ e′ : ℕ} {z : List ℕ} → Held b next after d around q e q′ e′ t₂ z → Held b (due s n) prev d around p c q′ e′ t z
+  module _ (i : ℕ) {q e : ℕ} {t t₁ t₂ : Tables} {v pl : ℕ} {res : List ℕ} (is : isReference s (h .lead) ≡ referenceBy i k a) (taken : res ≡ reservedFor i k a (t .references))
+      (at : pl ≡ placeFor i k a (t .references))
+      (w : Walked b items (members s (h .lead)) [] (pred d) (suc around) q₀ (suc c) (Read q e) (both (t .items) res) t₁)
+      (put : t₂ .items ≡ set (t₁ .items) c (packed p q around (slotNumber s) (referenceHead s (h .lead))))
+      (fill : t₂ .references ≡ filled (t₁ .references) pl v)
+      (own : referenceBy i k a ≡ true → v ≡ packed p q around (slotNumber s) (referenceHead s (h .lead))) where
+    together : {q′ e′ : ℕ} {z : Tables} → Held b next after d around q e q′ e′ t₂ z → Held b (due s n) prev d around p c q′ e′ t z
     unfolding entryOf
-    together {q′} {e′} {z} v =
+    together {q′} {e′} {z} f =
         let m = w .held .0 in
         let l = h .lead in
         let str = h .str in
         let ms = m .tree in
-        let rs = v .tree in
-        let i : insideAt p l str ≡ q₀ = h .after-is in
-        let x : insideAt p l str + length (encode ms) ≡ q = rw i (sym (m .place)) in
+        let rs = f .tree in
+        let j : insideAt p l str ≡ q₀ = h .after-is in
+        let x : insideAt p l str + length (encode ms) ≡ q = rw j (sym (m .place)) in
         let xs = spots ms false (members s l) q₀ (suc around) in
         let hx : length xs ≡ heads ms = spots-heads ms (members s l) [] (pred d) q₀ (suc around) (m .fit) in
-        let ce : e ≡ suc c + heads ms = m .count in
         let ll : length (leadBytes l) ≡ size l = length-lead l in
+        let y : Spot = record { slot = s; first = p; after = q; around = around; lead = l; str = str; inside = ms } in
         record {
           tree = item l str ms rs;
-          fit = (good, h .passed .shallow, m .fit, v .fit);
-          bytes = head-bytes ∙ rw (m .bytes, v .bytes) (simp append-assoc);
-          place = simp (length-append) (omega (arith, m .place, v .place, i, ll));
-          count = omega (arith, m .count, v .count);
-          table = v .table ∙ rw (put, m .table, ce, x, i) (item-entries t c (heads ms) (packed p q around (slotNumber s) (referenceHead s l)) xs (spots rs false next q around) hx);
+          fit = (good, h .passed .shallow, m .fit, f .fit);
+          bytes = head-bytes ∙ rw (m .bytes, f .bytes) (simp append-assoc);
+          place = simp (length-append) (omega (arith, m .place, f .place, j, ll));
+          count = omega (arith, m .count, f .count);
+          table = f .table
+              ∙ rw (x, j)
+              (item-kept t c (heads ms) i k a y xs (spots rs false next q around) hx (m .count) is taken at (m .table) put fill own);
         }
 
-    onward-of : (v : Walk) {z : List ℕ} → Walked b items next after d around q e v t₂ z → Walked b items (due s n) prev d around p c v t z
+    onward-of : (u : Walk) {z : Tables} → Walked b items next after d around q e u t₂ z → Walked b items (due s n) prev d around p c u t z
     onward-of (Read q′ e′) y = record {
       runs = λ ds. runs-in ds ∙ w .runs (behind s (h .lead) (h .str) n prev d ds) ∙ y .runs ds;
       held = (together (y .held .0), y .held .1, y .held .2);
@@ -185,5 +193,5 @@ module _ (b : List ℕ) (bs : all isByte b ≡ true) (items : ℕ) (s : Slot) (n
     onward-of (Refused r x) y =
         record { runs = λ ds. runs-in ds ∙ w .runs (behind s (h .lead) (h .str) n prev d ds) ∙ y .runs ds; held = tt }
 
-    pub onward : {v : Walk} {z : List ℕ} → Walked b items next after d around q e v t₂ z → Walked b items (due s n) prev d around p c v t z
-    onward {v} y = onward-of v y
+    pub onward : {u : Walk} {z : Tables} → Walked b items next after d around q e u t₂ z → Walked b items (due s n) prev d around p c u t z
+    onward {u} y = onward-of u y

@@ -27,15 +27,19 @@ use Rattle.ari.proofs.Join.{encode-join, heads-join}
 use Rattle.ari.proofs.Central.{paste}
 use Rattle.ari.proofs.Weight.{decodes}
 use Rattle.grammar.specs.Code.{slotOf}
+use Rattle.ari.specs.Listing.{referring}
+use Rattle.ari.proofs.Referring.{referring-append}
 use Rattle.item_table.specs.Entries.{entryOf}
+use Rattle.item_table.specs.References.{noted}
+use Rattle.item_table.proofs.References.{noted-append}
 use Rattle.reader.specs.declared.Walk.{Walk}
 use Rattle.reader.specs.declared.Walk.the-variants.{Read, Refused}
 use Rattle.reader.specs.declared.Answer.{Answer as OutAnswer}
 use Rattle.reader.specs.declared.Answer.the-variants.{Accepted}
 use Rattle.reader.specs.declared.Answer.the-variants as answers
-use Rattle.reader.specs.Walks.{entries, Held, Walked, SetsHeld, SetsWalked, afterWalk, afterSets}
-use Rattle.reader.specs.Answers.{answerOf, refusalOf, Kept}
-use Rattle.reader.proofs.Tables.{spots-heads}
+use Rattle.reader.specs.Walks.{Tables, both, keptIn, Held, Walked, SetsHeld, SetsWalked, afterWalk, afterSets}
+use Rattle.reader.specs.Answers.{answerOf, refusalOf, Kept, Noted}
+use Rattle.reader.proofs.Tables.{spots-heads, both-are}
 
 -- a level and the sets behind it
 spots-join : (g h : Items) (v : Level) (prev : List ℕ) (d p around : ℕ) → Due g (push v prev d end)
@@ -51,13 +55,17 @@ spots-join (item l str ms rs) h (due s n) prev d p around f =
     rw (i, e) (ap (λ (x : List Spot). spotAt s p around l str ms ∷ x) (sym (append-assoc (spots ms false (members s l) (insideAt p l str) (suc around)) _ _)))
 
 -- the table of a level and of the sets behind it
-join-table : (v : Level) (g h : Items) (d p c q e : ℕ) (t : List ℕ) {t₁ z : List ℕ} → Due g (push v [] d end) → q ≡ p + length (encode g) → e ≡ c + heads g
-    → t₁ ≡ stored t c (entries g v p 0) → z ≡ stored t₁ e (map entryOf (spots h true done q 0)) → z ≡ stored t c (map entryOf (spots (join g h) true v p 0))
+join-table : (v : Level) (g h : Items) (d p c q e : ℕ) (t : Tables) {t₁ z : Tables} → Due g (push v [] d end) → q ≡ p + length (encode g) → e ≡ c + heads g
+    → t₁ ≡ keptIn t c (spots g false v p 0) → z ≡ keptIn t₁ e (spots h true done q 0) → z ≡ keptIn t c (spots (join g h) true v p 0)
 join-table v g h d p c q e t {t₁} {z} f pl ce e₁ e₂ =
     let xs = spots g false v p 0 in
     let n : c + length (map entryOf xs) ≡ e = omega (arith, length-map xs entryOf, spots-heads g v [] d p 0 f) in
     let s : spots (join g h) true v p 0 ≡ xs ++ spots h true done q 0 = rw pl (spots-join g h v [] d p 0 f) in
-    rw (e₂, e₁, s, map-append entryOf xs (spots h true done q 0), sets-append t c (map entryOf xs) (map entryOf (spots h true done q 0)), n)
+    let ys = spots h true done q 0 in
+    rw (e₂, e₁, s)
+    (both-are
+    (rw (map-append entryOf xs ys, sets-append (t .items) c (map entryOf xs) (map entryOf ys), n))
+    (rw (referring-append xs ys, map-append entryOf (referring xs) (referring ys), noted-append (t .references) (map entryOf (referring xs)) (map entryOf (referring ys)))))
 
 -- one more set is due where the sets go on
 one-more : (g : Items) (d p around : ℕ) → Due g (frame (ari message) 0 [] d (sets d)) → spots g true done p around ≡ spots g true (due (ari message) 0) p around
@@ -89,7 +97,7 @@ module _ (b : List ℕ) (items d p c : ℕ) where
   at-set : p < length b → (left : ℕ) → run left (sets d) p (drop p b) ≡ run left (frame (ari message) 0 [] d (sets d)) p (drop p b)
   at-set h left = rw (drop-cons b p 0 h) (run-sets left d p (getD b p 0) (drop (suc p) b))
 
-  pub sets-ended : {t : List ℕ} → length b ≤ p → p ≤ length b → c ≤ items → SetsWalked b items d p c (Read p c) t t
+  pub sets-ended : {t : Tables} → length b ≤ p → p ≤ length b → c ≤ items → SetsWalked b items d p c (Read p c) t t
   sets-ended h g n =
       let e : drop p b ≡ [] = drop-of-length-le b h in
       record {
@@ -97,8 +105,8 @@ module _ (b : List ℕ) (items d p c : ℕ) where
         held = (record { tree = none; fit = tt; bytes = e; count = omega arith; table = refl }, n);
       }
 
-  module _ (h : p < length b) {w : Walk} {t t₁ : List ℕ} (v : Walked b items (due (ari message) 0) [] d 0 p c w t t₁) where
-    pub sets-stopped : {r x : ℕ} → w ≡ Refused r x → {z : List ℕ} → SetsWalked b items d p c w t z
+  module _ (h : p < length b) {w : Walk} {t t₁ : Tables} (v : Walked b items (due (ari message) 0) [] d 0 p c w t t₁) where
+    pub sets-stopped : {r x : ℕ} → w ≡ Refused r x → {z : Tables} → SetsWalked b items d p c w t z
     sets-stopped {r} {x} g {z} =
         let y = rw g at v in
         rw g (record { runs = at-set h (items - c) ∙ y .runs (sets d); held = tt })
@@ -107,8 +115,8 @@ module _ (b : List ℕ) (items d p c : ℕ) where
       abbrev y : Walked b items (due (ari message) 0) [] d 0 p c (Read q e) t t₁
       y = rw g at v
 
-      both : {e′ : ℕ} {z : List ℕ} → SetsHeld b d q e e′ t₁ z → SetsHeld b d p c e′ t z
-      both {e′} {z} u =
+      one-set : {e′ : ℕ} {z : Tables} → SetsHeld b d q e e′ t₁ z → SetsHeld b d p c e′ t z
+      one-set {e′} {z} u =
           let m = y .held .0 in
           let f : Due (join (m .tree) (u .tree)) (frame (ari message) 0 [] d (sets d))
           = paste (m .tree) (u .tree) (due (ari message) 0) [] d (sets d) (m .fit) (u .fit) in
@@ -118,33 +126,33 @@ module _ (b : List ℕ) (items d p c : ℕ) where
             bytes = m .bytes ∙ ap (λ (x : List ℕ). encode (m .tree) ++ x) (u .bytes) ∙ sym (encode-join (m .tree) (u .tree));
             count = omega (arith, m .count, u .count, heads-join (m .tree) (u .tree));
             table = join-table (due (ari message) 0) (m .tree) (u .tree) d p c q e t (m .fit) (m .place) (m .count) (m .table) (u .table)
-                ∙ ap (λ (x : List Spot). stored t c (map entryOf x)) (sym (one-more (join (m .tree) (u .tree)) d p 0 f));
+                ∙ ap (λ (x : List Spot). keptIn t c x) (sym (one-more (join (m .tree) (u .tree)) d p 0 f));
           }
 
-      pub sets-on : {u : Walk} {z : List ℕ} → SetsWalked b items d q e u t₁ z → SetsWalked b items d p c u t z
+      pub sets-on : {u : Walk} {z : Tables} → SetsWalked b items d q e u t₁ z → SetsWalked b items d p c u t z
       sets-on {u} x = sets-of u x
         where
-          sets-of : (u : Walk) {z : List ℕ} → SetsWalked b items d q e u t₁ z → SetsWalked b items d p c u t z
-          sets-of (Read q′ e′) x = record { runs = at-set h (items - c) ∙ y .runs (sets d) ∙ x .runs; held = (both (x .held .0), x .held .1) }
+          sets-of : (u : Walk) {z : Tables} → SetsWalked b items d q e u t₁ z → SetsWalked b items d p c u t z
+          sets-of (Read q′ e′) x = record { runs = at-set h (items - c) ∙ y .runs (sets d) ∙ x .runs; held = (one-set (x .held .0), x .held .1) }
           sets-of (Refused r x′) x = record { runs = at-set h (items - c) ∙ y .runs (sets d) ∙ x .runs; held = tt }
 
 -- The loop over the sets: what ends the rest ends the whole.
-pub record SetsLead (b : List ℕ) (items d p₀ c₀ : ℕ) (t₀ : List ℕ) (p c : ℕ) (t : List ℕ) : Type 0 where
-  pub then : {w : Walk} {z : List ℕ} → SetsWalked b items d p c w t z → SetsWalked b items d p₀ c₀ w t₀ z
+pub record SetsLead (b : List ℕ) (items d p₀ c₀ : ℕ) (t₀ : Tables) (p c : ℕ) (t : Tables) : Type 0 where
+  pub then : {w : Walk} {z : Tables} → SetsWalked b items d p c w t z → SetsWalked b items d p₀ c₀ w t₀ z
 
-pub sets-begin : (b : List ℕ) (items d p c : ℕ) (t : List ℕ) → SetsLead b items d p c t p c t
+pub sets-begin : (b : List ℕ) (items d p c : ℕ) (t : Tables) → SetsLead b items d p c t p c t
 sets-begin b items d p c t = record { then = λ w. w }
 
-pub sets-again : (b : List ℕ) (items d p₀ c₀ : ℕ) (t₀ : List ℕ) (p c : ℕ) (t : List ℕ) → SetsLead b items d p₀ c₀ t₀ p c t → p < length b
-    → {w : Walk} {t₁ : List ℕ} → Walked b items (due (ari message) 0) [] d 0 p c w t t₁ → {q e : ℕ} → w ≡ Read q e → SetsLead b items d p₀ c₀ t₀ q e t₁
+pub sets-again : (b : List ℕ) (items d p₀ c₀ : ℕ) (t₀ : Tables) (p c : ℕ) (t : Tables) → SetsLead b items d p₀ c₀ t₀ p c t → p < length b
+    → {w : Walk} {t₁ : Tables} → Walked b items (due (ari message) 0) [] d 0 p c w t t₁ → {q e : ℕ} → w ≡ Read q e → SetsLead b items d p₀ c₀ t₀ q e t₁
 sets-again b items d p₀ c₀ t₀ p c t i h v g = record { then = λ y. i .then (sets-on b items d p c h v g y) }
 
-pub sets-halt : (b : List ℕ) (items d p₀ c₀ : ℕ) (t₀ : List ℕ) (p c : ℕ) (t : List ℕ) → SetsLead b items d p₀ c₀ t₀ p c t → p < length b
-    → {w : Walk} {t₁ : List ℕ} → Walked b items (due (ari message) 0) [] d 0 p c w t t₁ → {r x : ℕ} → w ≡ Refused r x → {z : List ℕ}
+pub sets-halt : (b : List ℕ) (items d p₀ c₀ : ℕ) (t₀ : Tables) (p c : ℕ) (t : Tables) → SetsLead b items d p₀ c₀ t₀ p c t → p < length b
+    → {w : Walk} {t₁ : Tables} → Walked b items (due (ari message) 0) [] d 0 p c w t t₁ → {r x : ℕ} → w ≡ Refused r x → {z : Tables}
     → SetsWalked b items d p₀ c₀ w t₀ z
 sets-halt b items d p₀ c₀ t₀ p c t i h v g = i .then (sets-stopped b items d p c h v g)
 
-pub sets-done : (b : List ℕ) (items d p₀ c₀ : ℕ) (t₀ : List ℕ) (p c : ℕ) (t : List ℕ) → SetsLead b items d p₀ c₀ t₀ p c t → length b ≤ p → p ≤ length b → c ≤ items
+pub sets-done : (b : List ℕ) (items d p₀ c₀ : ℕ) (t₀ : Tables) (p c : ℕ) (t : Tables) → SetsLead b items d p₀ c₀ t₀ p c t → length b ≤ p → p ≤ length b → c ≤ items
     → SetsWalked b items d p₀ c₀ (Read p c) t₀ t
 sets-done b items d p₀ c₀ t₀ p c t i h g n = i .then (sets-ended b items d p c h g n)
 
@@ -177,16 +185,16 @@ module _ (b : List ℕ) (m : Limits) where
     accepts i {c} e n = let k : items - (items - c) ≡ c = omega arith in rw (read-is i e, k)
 
     -- what was walked from the start of the input
-    from-start : (s : Slot) {w : Walk} {t t₁ : List ℕ} → Walked b items (due s 0) [] d 0 0 0 w t t₁ → (ds : Dues)
+    from-start : (s : Slot) {w : Walk} {t t₁ : Tables} → Walked b items (due s 0) [] d 0 0 0 w t t₁ → (ds : Dues)
         → run items (frame s 0 [] d ds) 0 b ≡ afterWalk b items w ds
     from-start s v ds = rw (sub-zero items) at (v .runs ds)
 
-    module _ {w : Walk} {t t₁ : List ℕ} (v : Walked b items (due (ari alone) 0) [] d 0 0 0 w t t₁) where
+    module _ {w : Walk} {t u t₁ u₁ : List ℕ} (v : Walked b items (due (ari alone) 0) [] d 0 0 0 w (both t u) (both t₁ u₁)) where
       pub single-refused : {r x : ℕ} → w ≡ Refused r x → {z : OutAnswer} → z ≡ refusalOf w → z ≡ answerOf (read m Single b)
       single-refused g q = refuses Single (rw g at (from-start (ari alone) v end)) g q
 
       module _ {q c : ℕ} (g : w ≡ Read q c) where
-        abbrev one : Walked b items (due (ari alone) 0) [] d 0 0 0 (Read q c) t t₁
+        abbrev one : Walked b items (due (ari alone) 0) [] d 0 0 0 (Read q c) (both t u) (both t₁ u₁)
         one = rw g at v
 
         pub single-more : q < length b → answers.Refused 13 q ≡ answerOf (read m Single b)
@@ -202,46 +210,56 @@ module _ (b : List ℕ) (m : Limits) where
         single-accepted n =
             accepts Single (from-start (ari alone) one end ∙ rw (none-left n) (run-end (items - c) q)) (one .held .2)
 
-        pub single-kept : length b ≤ q → Kept Single b (Accepted c) t t₁
-        single-kept n =
+        single-table : length b ≤ q → both t₁ u₁ ≡ keptIn (both t u) 0 (spotsOf Single (decode b))
+        single-table n =
             let k = one .held .0 in
             let e : encode (k .tree) ≡ b = sym (append-nil (encode (k .tree))) ∙ ap (λ (x : List ℕ). encode (k .tree) ++ x) (sym (none-left n)) ∙ sym (k .bytes) in
             let f : decode b ≡ k .tree = ap decode (sym e) ∙ decodes (k .tree) (frame (ari alone) 0 [] d end) (k .fit) in
-            record { kept = k .table ∙ ap (λ (x : Items). stored t 0 (map entryOf (spotsOf Single x))) (sym f) }
+            k .table ∙ ap (λ (x : Items). keptIn (both t u) 0 (spotsOf Single x)) (sym f)
 
-    module _ {w : Walk} {t t₁ : List ℕ} (v : Walked b items (due version 0) [] d 0 0 0 w t t₁) where
+        pub single-kept : length b ≤ q → Kept Single b (Accepted c) t t₁
+        single-kept n = record { kept = ap (λ (x : Tables). x .items) (single-table n) }
+
+        pub single-noted : length b ≤ q → Noted Single b (Accepted c) u u₁
+        single-noted n = record { noted = ap (λ (x : Tables). x .references) (single-table n) }
+
+    module _ {w : Walk} {t u t₁ u₁ : List ℕ} (v : Walked b items (due version 0) [] d 0 0 0 w (both t u) (both t₁ u₁)) where
       pub message-refused : {r x : ℕ} → w ≡ Refused r x → {z : OutAnswer} → z ≡ refusalOf w → z ≡ answerOf (read m Message b)
       message-refused g q = refuses Message (rw g at (from-start version v (sets d))) g q
 
-      module _ {q c : ℕ} (g : w ≡ Read q c) {u : Walk} {t₂ : List ℕ} (x : SetsWalked b items d q c u t₁ t₂) where
-        abbrev ver : Walked b items (due version 0) [] d 0 0 0 (Read q c) t t₁
+      module _ {q c : ℕ} (g : w ≡ Read q c) {y : Walk} {t₂ u₂ : List ℕ} (x : SetsWalked b items d q c y (both t₁ u₁) (both t₂ u₂)) where
+        abbrev ver : Walked b items (due version 0) [] d 0 0 0 (Read q c) (both t u) (both t₁ u₁)
         ver = rw g at v
 
-        message-runs : run items (frame version 0 [] d (sets d)) 0 b ≡ afterSets items u
+        message-runs : run items (frame version 0 [] d (sets d)) 0 b ≡ afterSets items y
         message-runs = from-start version ver (sets d) ∙ x .runs
 
-        pub message-stopped : {r k : ℕ} → u ≡ Refused r k → {z : OutAnswer} → z ≡ refusalOf u → z ≡ answerOf (read m Message b)
+        pub message-stopped : {r k : ℕ} → y ≡ Refused r k → {z : OutAnswer} → z ≡ refusalOf y → z ≡ answerOf (read m Message b)
         message-stopped f z = refuses Message (rw f at message-runs) f z
 
-        module _ {q′ e : ℕ} (f : u ≡ Read q′ e) where
-          abbrev x′ : SetsWalked b items d q c (Read q′ e) t₁ t₂
+        module _ {q′ e : ℕ} (f : y ≡ Read q′ e) where
+          abbrev x′ : SetsWalked b items d q c (Read q′ e) (both t₁ u₁) (both t₂ u₂)
           x′ = rw f at x
 
           pub message-accepted : Accepted e ≡ answerOf (read m Message b)
           message-accepted = accepts Message (rw f at message-runs) (x′ .held .1)
 
-          pub message-kept : Kept Message b (Accepted e) t t₂
-          message-kept =
+          message-table : both t₂ u₂ ≡ keptIn (both t u) 0 (spotsOf Message (decode b))
+          message-table =
               let k = ver .held .0 in
               let l = x′ .held .0 in
               let g = join (k .tree) (l .tree) in
               let w : Due g (frame version 0 [] d (sets d)) = paste (k .tree) (l .tree) (due version 0) [] d (sets d) (k .fit) (l .fit) in
               let n : encode g ≡ b = encode-join (k .tree) (l .tree) ∙ ap (λ (z : List ℕ). encode (k .tree) ++ z) (sym (l .bytes)) ∙ sym (k .bytes) in
               let r : decode b ≡ g = ap decode (sym n) ∙ decodes g (frame version 0 [] d (sets d)) w in
-              record {
-                kept = join-table (due version 0) (k .tree) (l .tree) d 0 0 q c t (k .fit) (k .place) (k .count) (k .table) (l .table)
-                    ∙ ap (λ (z : Items). stored t 0 (map entryOf (spotsOf Message z))) (sym r);
-              }
+              join-table (due version 0) (k .tree) (l .tree) d 0 0 q c (both t u) (k .fit) (k .place) (k .count) (k .table) (l .table)
+              ∙ ap (λ (z : Items). keptIn (both t u) 0 (spotsOf Message z)) (sym r)
+
+          pub message-kept : Kept Message b (Accepted e) t t₂
+          message-kept = record { kept = ap (λ (z : Tables). z .items) message-table }
+
+          pub message-noted : Noted Message b (Accepted e) u u₂
+          message-noted = record { noted = ap (λ (z : Tables). z .references) message-table }
 
 -- a refusal, handed on
 pub refused : {w : Walk} {r x : ℕ} → w ≡ Refused r x → answers.Refused r x ≡ refusalOf w
@@ -258,9 +276,23 @@ pub unkept-later : (i : Input) (b : List ℕ) {w : Walk} {r x : ℕ} → w ≡ R
     → Kept i b z t t′
 unkept-later i b g e t t₁ t′ l l₁ = unkept-walk i b g e t t′ (l₁ ∙ l)
 
-pub ruleset single-ways = (too-long, single-refused, single-more, single-accepted, single-kept, unkept, unkept-walk)
+-- nor one of references
+pub unnoted : (i : Input) (b : List ℕ) (r x : ℕ) (t t′ : List ℕ) → length t′ ≡ length t → Noted i b (answers.Refused r x) t t′
+unnoted i b r x t t′ l = record { noted = l }
 
-pub ruleset message-ways = (too-long, message-refused, message-stopped, message-accepted, message-kept, unkept, unkept-walk, unkept-later)
+pub unnoted-walk : (i : Input) (b : List ℕ) {w : Walk} {r x : ℕ} → w ≡ Refused r x → {z : OutAnswer} → z ≡ refusalOf w → (t t′ : List ℕ) → length t′ ≡ length t → Noted i b z t t′
+unnoted-walk i b g e t t′ l = rw (e, g) (record { noted = l })
+
+pub unnoted-later : (i : Input) (b : List ℕ) {w : Walk} {r x : ℕ} → w ≡ Refused r x → {z : OutAnswer} → z ≡ refusalOf w → (t t₁ t′ : List ℕ) → length t₁ ≡ length t → length t′ ≡ length t₁
+    → Noted i b z t t′
+unnoted-later i b g e t t₁ t′ l l₁ = unnoted-walk i b g e t t′ (l₁ ∙ l)
+
+pub noted-from : (i : Input) (b : List ℕ) {a : OutAnswer} {t t₁ t′ : List ℕ} → t₁ ≡ t → Noted i b a t₁ t′ → Noted i b a t t′
+noted-from i b e k = rw e at k
+
+pub ruleset single-ways = (too-long, single-refused, single-more, single-accepted, single-kept, single-noted, unkept, unkept-walk, unnoted, unnoted-walk)
+
+pub ruleset message-ways = (too-long, message-refused, message-stopped, message-accepted, message-kept, message-noted, unkept, unkept-walk, unkept-later, unnoted, unnoted-walk, unnoted-later)
 
 -- the answer for one input is the answer for that input
 pub input-read : (m : Limits) (b : List ℕ) {i j : Input} → i ≡ j → {a : OutAnswer} → a ≡ answerOf (read m j b) → a ≡ answerOf (read m i b)
@@ -269,4 +301,7 @@ input-read m b e g = rw e g
 pub input-kept : (b : List ℕ) {a : OutAnswer} {t t′ : List ℕ} {i j : Input} → i ≡ j → Kept j b a t t′ → Kept i b a t t′
 input-kept b e k = rw e k
 
-pub ruleset of-input = (input-read, input-kept)
+pub input-noted : (b : List ℕ) {a : OutAnswer} {t t′ : List ℕ} {i j : Input} → i ≡ j → Noted j b a t t′ → Noted i b a t t′
+input-noted b e k = rw e k
+
+pub ruleset of-input = (input-read, input-kept, input-noted)

@@ -2,7 +2,7 @@
 ghost use mathlib.Core.Path.{_≡_};
 ghost use mathlib.Core.Bool.{Bool, true, false, not, _&&_};
 ghost use Prim.Native.Nat.{_+_, _-_, _*_, _^_, _<_, _≤_};
-ghost use lib.ListN.{length};
+ghost use lib.ListN.{length, set};
 ghost use lib.Dec.{ltb, eqb};
 ghost use mathlib.Core.List.{[]};
 ghost use Prim.Native.Nat.{pred, suc, min};
@@ -18,11 +18,11 @@ ghost use Rattle.grammar.specs.Code.{IsSlot, levelOf, spelledAs, nextCode};
 ghost use Rattle.grammar.specs.Words.{WordOf};
 ghost use Rattle.buffer.specs.Bytes.{part};
 ghost use Rattle.reader.specs.Steps.{standsAt, stringEnd, keyAt, stepAt, contentAt, ContentShown, noHead, stoppedOf, Bounded, keySpan, Quick};
-ghost use Rattle.reader.specs.Walks.{Walked, headWalk, unwalkedOf, WalkedBy, SetsWalked, Opens, LastShown};
+ghost use Rattle.reader.specs.Walks.{both, Walked, headWalk, unwalkedOf, WalkedBy, SetsWalked, Opens, LastShown};
 ghost use Rattle.ari.specs.declared.Input.the-variants.{Single, Message};
 ghost use Rattle.ari.specs.Reader.{read};
 ghost use Rattle.ari.specs.Limits.{gateLimits};
-ghost use Rattle.reader.specs.Answers.{answerOf, refusalOf, Kept};
+ghost use Rattle.reader.specs.Answers.{answerOf, refusalOf, Kept, Noted};
 use ari::Input;
 use ari::Limits;
 
@@ -390,8 +390,8 @@ fn is_quick(s: &[u8], at: usize, slot: u64, count: usize, items: usize) -> bool
     grammar::takes_number(slot, s[at])
 }
 
-// What is inside a container that is the last of its level, where its entry has no room in the table: then nothing is left to do behind it, and the walk
-// goes on inside with no call.
+// What is inside a container that is the last of its level, where it has no room in the table of items and no place in that of references: then nothing
+// is left to do behind it, and the walk goes on inside with no call.
 fn last_inside(
     slot: u64,
     word: u64,
@@ -399,15 +399,19 @@ fn last_inside(
     more: u64,
     room: usize,
     count: usize,
+    taken: usize,
     inner: grammar::Next,
 ) -> grammar::Next
     requires { ⌜ WordOf slot word ⌝ }
-    ensures { λ r. ⌜ LastShown slot arg more room count inner r ⌝ }
+    ensures { λ r. ⌜ LastShown slot arg more room count taken inner r ⌝ }
 {
     let grammar::Next::Due { slot: a, more: b } = inner else {
         return grammar::Next::Done;
     };
     if count < room {
+        return grammar::Next::Done;
+    }
+    if taken != 0 {
         return grammar::Next::Done;
     }
     let n = next_at(slot, word, arg, more);
@@ -427,9 +431,10 @@ fn walk_inside(
     around: usize,
     inner: grammar::Next,
     entries: &mut [u64],
+    references: &mut [u64],
 ) -> Walk
     requires { ⌜ (all isByte (now s) ≡ true) × (depth + around < 2 ^ 64) × Opens inner depth × (at ≤ length (now s)) × (count ≤ items) ⌝ }
-    ensures { λ r. ⌜ Walked (now (s .entry)) items (levelOf inner) [] (pred depth) (suc around) at count r (now (entries .entry)) (now (entries .exit)) ⌝ }
+    ensures { λ r. ⌜ Walked (now (s .entry)) items (levelOf inner) [] (pred depth) (suc around) at count r (both (now (entries .entry)) (now (references .entry))) (both (now (entries .exit)) (now (references .exit))) ⌝ }
 {
     match inner {
         grammar::Next::Done => Walk::Read { next: at, count },
@@ -445,6 +450,7 @@ fn walk_inside(
                 more,
                 false,
                 entries,
+                references,
             )
         }
     }
@@ -462,9 +468,10 @@ fn walk_level(
     more: u64,
     alone: bool,
     entries: &mut [u64],
+    references: &mut [u64],
 ) -> Walk
     requires { ⌜ (all isByte (now s) ≡ true) × (depth + around < 2 ^ 64) × IsSlot slot × (at ≤ length (now s)) × (count ≤ items) ⌝ }
-    ensures { λ r. ⌜ WalkedBy alone (now (s .entry)) items (slotOf slot) more depth around at count r (now (entries .entry)) (now (entries .exit)) ⌝ }
+    ensures { λ r. ⌜ WalkedBy alone (now (s .entry)) items (slotOf slot) more depth around at count r (both (now (entries .entry)) (now (references .entry))) (both (now (entries .exit)) (now (references .exit))) ⌝ }
 {
     let mut p = at;
     let mut c = count;
@@ -522,7 +529,8 @@ fn walk_level(
             continue;
         }
         let inner = grammar::inside(place, kind, arg);
-        let last = last_inside(place, word, arg, left, entries.len(), c, inner);
+        let taken = item_table::reserve(references, place, kind, arg);
+        let last = last_inside(place, word, arg, left, entries.len(), c, taken, inner);
         if let grammar::Next::Due { slot: a, more: b } = last {
             p = after;
             c = c + 1;
@@ -533,11 +541,23 @@ fn walk_level(
             opened = opened + 1;
             continue;
         }
-        let r = walk_inside(s, after, c + 1, items, allowed, opened, inner, entries);
+        let r = walk_inside(
+            s,
+            after,
+            c + 1,
+            items,
+            allowed,
+            opened,
+            inner,
+            entries,
+            references,
+        );
         let Walk::Read { next: q, count: e } = r else {
             return same_walk(r);
         };
-        item_table::put(entries, c, p, q, opened, place, kind, arg, after - p);
+        let head = after - p;
+        item_table::put(entries, c, p, q, opened, place, kind, arg, head);
+        item_table::fill(references, taken, p, q, opened, place, head);
         prev = key_by(place, extra_at(place, word), prev, p, after);
         let n = next_at(place, word, arg, left);
         let grammar::Next::Due { slot: a, more: b } = n else {
@@ -572,8 +592,21 @@ fn first_head(s: &[u8], at: usize, slot: u64, count: usize, items: usize, depth:
     }
     let known = slot_known(slot);
     let c = buffer::least(count, items);
-    let mut none = [0u64; 1];
-    walk_level(s, at, c, items, depth, 0, known, 0, true, &mut none[0..0])
+    let mut entries = [0u64; 1];
+    let mut references = [0u64; 1];
+    walk_level(
+        s,
+        at,
+        c,
+        items,
+        depth,
+        0,
+        known,
+        0,
+        true,
+        &mut entries[0..0],
+        &mut references[0..0],
+    )
 }
 
 // The ends of a key before; none where they are not those of a part of the input.
@@ -671,9 +704,10 @@ fn refusal(w: Walk) -> Answer
 }
 
 // A single ARI within these limits.
-fn read_single(s: &[u8], limits: Limits, entries: &mut [u64]) -> Answer
+fn read_single(s: &[u8], limits: Limits, entries: &mut [u64], references: &mut [u64]) -> Answer
     ensures { λ r. ⌜ r ≡ answerOf (read limits Single (now (s .entry))) ⌝ }
     ensures { λ r. ⌜ Kept Single (now (s .entry)) r (now (entries .entry)) (now (entries .exit)) ⌝ }
+    ensures { λ r. ⌜ Noted Single (now (s .entry)) r (now (references .entry)) (now (references .exit)) ⌝ }
 {
     if limits.bytes < s.len() {
         return Answer::Refused {
@@ -692,6 +726,7 @@ fn read_single(s: &[u8], limits: Limits, entries: &mut [u64]) -> Answer
         0,
         false,
         entries,
+        references,
     );
     let Walk::Read { next, count } = w else {
         return refusal(w);
@@ -719,9 +754,15 @@ fn stands(s: &[u8], at: usize, byte: u8, count: usize, items: usize) -> bool
 }
 
 // A message's version. The byte 01 is the only one that is accepted; of any other head the walk says what is wrong with it.
-fn walk_version(s: &[u8], items: usize, containers: usize, entries: &mut [u64]) -> Walk
+fn walk_version(
+    s: &[u8],
+    items: usize,
+    containers: usize,
+    entries: &mut [u64],
+    references: &mut [u64],
+) -> Walk
     requires { ⌜ (all isByte (now s) ≡ true) ⌝ }
-    ensures { λ r. ⌜ Walked (now (s .entry)) items (due (slotOf 0) 0) [] containers 0 0 0 r (now (entries .entry)) (now (entries .exit)) ⌝ }
+    ensures { λ r. ⌜ Walked (now (s .entry)) items (due (slotOf 0) 0) [] containers 0 0 0 r (both (now (entries .entry)) (now (references .entry))) (both (now (entries .exit)) (now (references .exit))) ⌝ }
 {
     if !stands(s, 0, 0x01, 0, items) {
         return walk_level(
@@ -735,6 +776,7 @@ fn walk_version(s: &[u8], items: usize, containers: usize, entries: &mut [u64]) 
             0,
             false,
             entries,
+            references,
         );
     }
     item_table::put_plain(entries, 0, 0, 1, 0, grammar::VERSION);
@@ -749,9 +791,10 @@ fn walk_set(
     items: usize,
     containers: usize,
     entries: &mut [u64],
+    references: &mut [u64],
 ) -> Walk
     requires { ⌜ (all isByte (now s) ≡ true) × (at ≤ length (now s)) × (count ≤ items) ⌝ }
-    ensures { λ r. ⌜ Walked (now (s .entry)) items (due (slotOf 2) 0) [] containers 0 at count r (now (entries .entry)) (now (entries .exit)) ⌝ }
+    ensures { λ r. ⌜ Walked (now (s .entry)) items (due (slotOf 2) 0) [] containers 0 at count r (both (now (entries .entry)) (now (references .entry))) (both (now (entries .exit)) (now (references .exit))) ⌝ }
 {
     if containers == 0 {
         return walk_level(
@@ -765,6 +808,7 @@ fn walk_set(
             0,
             false,
             entries,
+            references,
         );
     }
     if !stands(s, at, 0x82, count, items) {
@@ -779,6 +823,7 @@ fn walk_set(
             0,
             false,
             entries,
+            references,
         );
     }
     let w = walk_level(
@@ -792,6 +837,7 @@ fn walk_set(
         0,
         false,
         entries,
+        references,
     );
     let Walk::Read { next, count: e } = w else {
         return w;
@@ -808,14 +854,15 @@ fn walk_sets(
     items: usize,
     containers: usize,
     entries: &mut [u64],
+    references: &mut [u64],
 ) -> Walk
     requires { ⌜ (all isByte (now s) ≡ true) × (at ≤ length (now s)) × (count ≤ items) ⌝ }
-    ensures { λ r. ⌜ SetsWalked (now (s .entry)) items containers at count r (now (entries .entry)) (now (entries .exit)) ⌝ }
+    ensures { λ r. ⌜ SetsWalked (now (s .entry)) items containers at count r (both (now (entries .entry)) (now (references .entry))) (both (now (entries .exit)) (now (references .exit))) ⌝ }
 {
     let mut p = at;
     let mut c = count;
     while p < s.len() {
-        let w = walk_set(s, p, c, items, containers, entries);
+        let w = walk_set(s, p, c, items, containers, entries, references);
         let Walk::Read { next, count: e } = w else {
             return w;
         };
@@ -826,9 +873,10 @@ fn walk_sets(
 }
 
 // A message within these limits.
-fn read_message(s: &[u8], limits: Limits, entries: &mut [u64]) -> Answer
+fn read_message(s: &[u8], limits: Limits, entries: &mut [u64], references: &mut [u64]) -> Answer
     ensures { λ r. ⌜ r ≡ answerOf (read limits Message (now (s .entry))) ⌝ }
     ensures { λ r. ⌜ Kept Message (now (s .entry)) r (now (entries .entry)) (now (entries .exit)) ⌝ }
+    ensures { λ r. ⌜ Noted Message (now (s .entry)) r (now (references .entry)) (now (references .exit)) ⌝ }
 {
     if limits.bytes < s.len() {
         return Answer::Refused {
@@ -836,35 +884,70 @@ fn read_message(s: &[u8], limits: Limits, entries: &mut [u64]) -> Answer
             place: 0,
         };
     }
-    let v = walk_version(s, limits.items, limits.containers, entries);
+    let v = walk_version(s, limits.items, limits.containers, entries, references);
     let Walk::Read { next, count } = v else {
         return refusal(v);
     };
-    let w = walk_sets(s, next, count, limits.items, limits.containers, entries);
+    let w = walk_sets(
+        s,
+        next,
+        count,
+        limits.items,
+        limits.containers,
+        entries,
+        references,
+    );
     let Walk::Read { next: _, count: e } = w else {
         return refusal(w);
     };
     Answer::Accepted(e)
 }
 
-// An input is checked, and its items go into the lent table, as many as it has room for. The table is working memory: of a refused input it holds
-// what the walk had come to.
+// An input is checked, and its items and its references go into the lent tables, as many as they have room for. The tables are working memory: of a
+// refused input they hold what the walk had come to.
+fn keep_both(
+    input: Input,
+    limits: Limits,
+    s: &[u8],
+    entries: &mut [u64],
+    references: &mut [u64],
+) -> Answer
+    ensures { λ r. ⌜ r ≡ answerOf (read limits input (now (s .entry))) ⌝ }
+    ensures { λ r. ⌜ Kept input (now (s .entry)) r (now (entries .entry)) (now (entries .exit)) ⌝ }
+    ensures { λ r. ⌜ Noted input (now (s .entry)) r (now (references .entry)) (now (references .exit)) ⌝ }
+{
+    match input {
+        Input::Single => read_single(s, limits, entries, references),
+        Input::Message => read_message(s, limits, entries, references),
+    }
+}
+
+// The table of items alone.
 pub fn keep(input: Input, limits: Limits, s: &[u8], entries: &mut [u64]) -> Answer
     ensures { λ r. ⌜ r ≡ answerOf (read limits input (now (s .entry))) ⌝ }
     ensures { λ r. ⌜ Kept input (now (s .entry)) r (now (entries .entry)) (now (entries .exit)) ⌝ }
 {
-    match input {
-        Input::Single => read_single(s, limits, entries),
-        Input::Message => read_message(s, limits, entries),
-    }
+    let mut none = [0u64; 1];
+    keep_both(input, limits, s, entries, &mut none[0..0])
+}
+
+// The table of references alone, from its start.
+pub fn keep_references(input: Input, limits: Limits, s: &[u8], references: &mut [u64]) -> Answer
+    ensures { λ r. ⌜ r ≡ answerOf (read limits input (now (s .entry))) ⌝ }
+    ensures { λ r. ⌜ Noted input (now (s .entry)) r (set (now (references .entry)) 0 0) (now (references .exit)) ⌝ }
+{
+    item_table::clear(references);
+    let mut none = [0u64; 1];
+    keep_both(input, limits, s, &mut none[0..0], references)
 }
 
 // An input is checked.
 pub fn check(input: Input, limits: Limits, s: &[u8]) -> Answer
     ensures { λ r. ⌜ r ≡ answerOf (read limits input (now (s .entry))) ⌝ }
 {
-    let mut none = [0u64; 1];
-    keep(input, limits, s, &mut none[0..0])
+    let mut entries = [0u64; 1];
+    let mut references = [0u64; 1];
+    keep_both(input, limits, s, &mut entries[0..0], &mut references[0..0])
 }
 
 // A single ARI in binary form, and a message, within the gate's own limits.

@@ -7,5 +7,6 @@ use Rattle.reader.proofs.first_head.Tie as tie
 
 pub first-head-spec : {M : Type 1} → statement M
 first-head-spec = tie.close (tie.spec (λ c. search (past-end, one-head, few, all-bytes, needs)) (λ c κs. search needs) (λ c κs. search needs)
-    (λ c. search needs) (λ c. search needs) (λ c. search needs) (λ c κs. search (past-end, one-head, few, all-bytes, needs))
+    (λ c. search needs) (λ c. search needs) (λ c. search needs) (λ c. search needs) (λ c. search needs) (λ c. search needs)
+    (λ c κs. (all-bytes (c .before .before .before .before .before .before .args .s .now) (c .before .before .before .before .before .shared-slice-known .given), search needs, search needs, search needs, search (few, needs)))
     (λ c. search (past-end, one-head, few, all-bytes, needs)))

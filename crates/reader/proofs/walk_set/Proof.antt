@@ -7,10 +7,11 @@ use Rattle.reader.proofs.walk_set.Statement.{statement}
 use Rattle.reader.proofs.walk_set.Tie as tie
 
 pub walk-set-spec : {M : Type 1} → statement M
-walk-set-spec = tie.close (tie.spec (λ c κs. search needs) (λ c. search (levelled, needs)) (λ c. search (levelled, needs)) (λ c κs. search needs)
-    (λ c κs. search needs) (λ c. search (levelled, needs)) (λ c. search (levelled, needs)) (λ c. search (levelled, needs))
-    (λ c. search (fixed-heads, bounds, levelled, needs)) (λ c. search (levelled, needs))
+walk-set-spec = tie.close (tie.spec (λ c κs. search needs) (λ c. search (levelled, needs)) (λ c. search (levelled, needs))
+    (λ c. search (levelled, needs)) (λ c κs. search needs) (λ c κs. search needs) (λ c. search (levelled, needs)) (λ c. search (levelled, needs))
+    (λ c. search (levelled, needs)) (λ c. search (levelled, needs)) (λ c. search (fixed-heads, bounds, levelled, needs))
+    (λ c. search (levelled, needs))
     (λ c κs. (search needs, search (fixed-heads, bounds, levelled, needs), search needs, search (fixed-heads, needs), search (fixed-heads, needs)))
-    (λ c. search (levelled, needs)) (λ c. search (levelled, needs)) (λ c. search (levelled, needs))
-    (λ c. search (fixed-heads, bounds, levelled, needs)) (λ c κs. search needs) (λ c. search (levelled, needs))
+    (λ c. search (levelled, needs)) (λ c. search (levelled, needs)) (λ c. search (levelled, needs)) (λ c. search (levelled, needs))
+    (λ c. search (fixed-heads, bounds, levelled, needs)) (λ c κs. search needs) (λ c. search (levelled, needs)) (λ c. search (levelled, needs))
     (λ c. search (fixed-heads, bounds, levelled, needs)))
