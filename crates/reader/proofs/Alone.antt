@@ -1,23 +1,30 @@
 -- One head that the walk has taken alone, with no key before it: what it gives after a key. The idea: test 11 is the only one that looks at the key before, and
 -- the tests behind it are of other slots.
-use Prim.Native.Nat.{ℕ, zero, suc, _+_, _-_, _<_, _≤_, min}
+use Prim.Native.Nat.{ℕ, zero, suc, pred, _+_, _-_, _<_, _≤_, min}
 use mathlib.Core.Path.{_≡_, refl, sym, _∙_, ap}
 use mathlib.Core.Bool.{Bool, true, false, not, _&&_, cond, true≢false}
-use mathlib.Core.List.{List, [], _∷_, _++_}
+use mathlib.Core.List.{List, [], _∷_, _++_, append-assoc}
 use native.Mathlib.Omega.{arith}
-use native.Mathlib.Nat.{min-le-right}
-use lib.ListN.{length, take, drop, length-drop}
+use native.Mathlib.Nat.{min-le-left, min-le-right, min-eq-left, min-eq-right}
+use lib.ListN.{length, take, drop, length-append, length-drop}
+use lib.Seq.{length-take-le}
 use lib.Dec.{ltb, eqb}
-use borrow.Author.Tests.{eqb-false}
+use mir.Syntax.{w64}
+use mir.Val.{Fits}
+use borrow.Author.Tests.{eqb-false, ltb-true, ltb-false, ne-eqb, eq-eqb}
 use Rattle.buffer.specs.Bytes.{all, isByte, part}
 use Rattle.buffer.proofs.ByteLaws.{past}
 use Rattle.cbor.specs.Byte.{below}
-use Rattle.cbor.specs.Head.{text, Lead, size, Got, bad, got, getHead, stringSize, isContainer, shortBytes, keyBytes, keyOf}
+use Rattle.cbor.specs.Head.{text, Lead, size, leadBytes, Got, bad, got, getHead, stringSize, isContainer, shortBytes, keyBytes, keyOf}
 use Rattle.cbor.specs.declared.Head.{Head}
 use Rattle.cbor.specs.declared.Head.the-variants.{Bad, Good}
 use Rattle.cbor.specs.Answer.{answer, headAt}
-use Rattle.ari.specs.Table.{Slot, ExtraTest, none, one, rising, filled, rule, fits}
-use Rattle.ari.specs.Reader.{wrongVersion, notGreater, isEmpty, judge, judgeContent, judgeGot}
+use Rattle.cbor.proofs.HeadLaws.{getHead-back, length-lead}
+use Rattle.ari.specs.Table.{Slot, ExtraTest, none, one, rising, filled, rule, fits, due, members, ari, message}
+use Rattle.ari.specs.Items.{Items, item, encode, heads}
+use Rattle.ari.specs.Items as items
+use Rattle.ari.specs.Due.{Due}
+use Rattle.ari.specs.Reader.{wrongVersion, notGreater, isEmpty, judge, judgeContent, judgeGot, Dues, end, sets, frame, push, behind, refuse, takeStep, visit, run}
 use Rattle.ari.specs.Reader as reader
 use Rattle.ari.proofs.Central.{Judged, judged}
 use Rattle.ari.proofs.Prefix.{taken-fits}
@@ -28,8 +35,8 @@ use Rattle.reader.specs.declared.Step.the-variants.{Taken, Refused}
 use Rattle.reader.specs.declared.Walk.{Walk}
 use Rattle.reader.specs.declared.Walk.the-variants as walk
 use Rattle.reader.specs.Steps.{stepAnswer, stepAt, Bounded}
-use Rattle.reader.specs.Walks.{headWalk, unwalkedOf, Tables, WalkedBy}
-use Rattle.reader.proofs.Walking.{Took, took}
+use Rattle.reader.specs.Walks.{headWalk, firstOf, unwalkedOf, Tables, Held, Walked, afterWalk}
+use Rattle.reader.proofs.Walking.{Took, took, stopped, runs-in}
 use Rattle.reader.proofs.Keys.{ordered-kind}
 use Rattle.reader.proofs.Loop.{key-part}
 
@@ -141,7 +148,7 @@ module _ (b : List ℕ) (p c items d i : ℕ) (prev : List ℕ) where
       )
 
 -- The walk over the head alone, and the head looked at again.
-module _ (b : List ℕ) (p i count items d : ℕ) {w : Walk} (e : w ≡ headWalk (min count items) (stepAt b p (slotOf i) [] (items - count) d)) where
+module _ (b : List ℕ) (p i count items d : ℕ) {w : Walk} (e : w ≡ headWalk (stepAt b p (slotOf i) [] (items - count) d)) where
   abbrev left : ℕ
   left = items - count
 
@@ -149,12 +156,12 @@ module _ (b : List ℕ) (p i count items d : ℕ) {w : Walk} (e : w ≡ headWalk
   unfolding headAt stepAt judgeGot
   taken-at {q} {n} {k} {a} {nx} g {h} eh gh = go (getHead (drop p b)) refl (sym gh ∙ eh) (sym e ∙ g)
     where
-      go : (y : Got) → getHead (drop p b) ≡ y → Good k a nx ≡ answer p y → headWalk (min count items) (stepAnswer p (judgeGot left d (slotOf i) [] y (drop p b))) ≡ walk.Read q n
+      go : (y : Got) → getHead (drop p b) ≡ y → Good k a nx ≡ answer p y → headWalk (stepAnswer p (judgeGot left d (slotOf i) [] y (drop p b))) ≡ walk.Read q n
           → stepAnswer p (judgeGot left d (slotOf i) [] y (drop p b)) ≡ Taken k a q
       go (bad r) gy u v = absurd (let z : _≡_ {A = ℕ} 0 1 = cc in omega arith)
       go (got l) gy u v = by (judge left d (slotOf i) [] l (drop (size l) (drop p b))) refl v
         where
-          by : (z : reader.Step) → judge left d (slotOf i) [] l (drop (size l) (drop p b)) ≡ z → headWalk (min count items) (stepAnswer p z) ≡ walk.Read q n → stepAnswer p z ≡ Taken k a q
+          by : (z : reader.Step) → judge left d (slotOf i) [] l (drop (size l) (drop p b)) ≡ z → headWalk (stepAnswer p z) ≡ walk.Read q n → stepAnswer p z ≡ Taken k a q
           by (reader.no r) j v = absurd (let z : _≡_ {A = ℕ} 0 1 = cc in omega arith)
           by (reader.yes m str) j v =
               let (x, _) = judged left d (slotOf i) [] l (drop (size l) (drop p b)) j in
@@ -167,14 +174,14 @@ module _ (b : List ℕ) (p i count items d : ℕ) {w : Walk} (e : w ≡ headWalk
   unfolding headAt stepAt judgeGot
   no-read {q} {n} {r} g {h} eh gh = go (getHead (drop p b)) (sym gh ∙ eh) (sym e ∙ g)
     where
-      go : (y : Got) → Bad r ≡ answer p y → headWalk (min count items) (stepAnswer p (judgeGot left d (slotOf i) [] y (drop p b))) ≡ walk.Read q n → ⊥
+      go : (y : Got) → Bad r ≡ answer p y → headWalk (stepAnswer p (judgeGot left d (slotOf i) [] y (drop p b))) ≡ walk.Read q n → ⊥
       go (bad r′) u v = let z : _≡_ {A = ℕ} 0 1 = cc in omega arith
       go (got l) u v = let z : _≡_ {A = ℕ} 0 1 = cc in omega arith
 
   refused-at : {r x : ℕ} → w ≡ walk.Refused r x → stepAt b p (slotOf i) [] left d ≡ Refused r x
   refused-at {r} {x} g = go (stepAt b p (slotOf i) [] left d) (sym e ∙ g)
     where
-      go : (y : Step) → headWalk (min count items) y ≡ walk.Refused r x → y ≡ Refused r x
+      go : (y : Step) → headWalk y ≡ walk.Refused r x → y ≡ Refused r x
       go (Taken k a q) v = absurd (let z : _≡_ {A = ℕ} 0 1 = cc in omega arith)
       go (Refused r′ x′) v = cc
 
@@ -221,7 +228,7 @@ pub ruleset alone-ways = (take-refused, take-none, take-falls, take-rises, refus
 
 -- the walk's own answer, where it is asked for one head
 module _ (b : List ℕ) (p i count items d : ℕ) where
-  pub past-end : length b < p → walk.Refused 2 p ≡ headWalk (min count items) (stepAt b p (slotOf i) [] (items - count) d)
+  pub past-end : length b < p → walk.Refused 2 p ≡ headWalk (stepAt b p (slotOf i) [] (items - count) d)
   unfolding stepAt judgeGot getHead
   past-end h = rw (nothing b p (omega arith))
     where
@@ -231,14 +238,150 @@ module _ (b : List ℕ) (p i count items d : ℕ) where
       nothing (x ∷ b) zero h = absurd (omega arith)
       nothing (x ∷ b) (suc p) h = nothing b p (omega arith)
 
-  pub one-head : (j : ℕ) {c : ℕ} → slotOf j ≡ slotOf i → c ≡ min count items → {w : Walk} {t t′ : Tables} → WalkedBy true b items (slotOf j) 0 d 0 p c w t t′
-      → w ≡ headWalk (min count items) (stepAt b p (slotOf i) [] (items - count) d)
-  one-head j ej ec v =
-      let z : items - min count items ≡ items - count = omega arith in
-      v .head refl ∙ rw (ec, ej, z)
+-- A walk that may take no head more stops where it is.
+no-more : (s : Slot) (n : ℕ) (prev : List ℕ) (d : ℕ) (ds : Dues) (q : ℕ) (b : List ℕ) (g : Got) → getHead b ≡ g → (z : reader.Step) → judgeGot 0 d s prev g b ≡ z → {r y : ℕ}
+    → takeStep (λ _ p _. refuse 5 p) s n prev d ds q b z ≡ refuse r y → y ≡ q
+unfolding takeStep judgeGot
+no-more s n prev d ds q b g e (reader.no r′) j f = cc
+no-more s n prev d ds q b (bad r′) e (reader.yes l str) j f = absurd (let z : _≡_ {A = ℕ} 0 1 = cc in omega arith)
+no-more s n prev d ds q b (got m) e (reader.yes l str) j f =
+    absurd (true≢false (judged 0 d s prev m (drop (size m) b) j .1 .spare))
+
+stays : (ds : Dues) (q : ℕ) (b : List ℕ) {r y : ℕ} → run 0 ds q b ≡ refuse r y → y ≡ q
+unfolding run visit
+stays end q [] e = absurd (let z : _≡_ {A = ℕ} 0 1 = cc in omega arith)
+stays end q (x ∷ b) e = cc
+stays (sets d) q [] e = absurd (let z : _≡_ {A = ℕ} 0 1 = cc in omega arith)
+stays (sets d) q (x ∷ b) e = no-more (ari message) 0 [] d (sets d) q (x ∷ b) (getHead (x ∷ b)) refl _ refl e
+stays (frame s n prev d ds) q b e = no-more s n prev d ds q b (getHead b) refl _ refl e
+
+headless : (g : Items) → heads g ≡ 0 → encode g ≡ []
+headless items.none e = refl
+headless (item l str ms rs) e = absurd (omega arith)
+
+-- One that may take one head more tells of the first by where it stops.
+module _ (b : List ℕ) (bs : all isByte b ≡ true) (p d : ℕ) (s : Slot) (c most : ℕ) (few : most ≤ c + 1) where
+  beyond : {q n : ℕ} {t t′ : Tables} → Held b (due s 0) [] d 0 p c q n t t′ → (p < q) × (c < n)
+  beyond h = go (h .tree) (h .fit) (h .place) (h .count)
+    where
+      go : (g : Items) → Due g (push (due s 0) [] d end) → {q n : ℕ} → q ≡ p + length (encode g) → n ≡ c + heads g → (p < q) × (c < n)
+      go items.none f e g = absurd f
+      go (item l str ms rs) f e g = (omega (arith, e, length-append (leadBytes l) (str ++ (encode ms ++ encode rs)), length-lead l), omega arith)
+
+  module _ {k a q₀ : ℕ} (tk : Took b p (most - c) d s [] k a q₀) where
+    one-left : most - suc c ≡ 0
+    one-left = omega arith
+
+    ahead : p < q₀
+    ahead = omega (arith, tk .after-is)
+
+    -- the only item is that head's
+    same-end : (g : Items) → Due g (push (due s 0) [] d end) → {q n : ℕ} → drop p b ≡ encode g ++ drop q b → q ≡ p + length (encode g) → n ≡ c + heads g → n ≤ most → q ≡ q₀
+    same-end items.none f e h i j = absurd f
+    same-end (item l str ms rs) f {q} {n} e h i j =
+        let em : encode ms ≡ [] = headless ms (omega arith) in
+        let er : encode rs ≡ [] = headless rs (omega arith) in
+        let whole : drop p b ≡ leadBytes l ++ (str ++ drop q b) = e ∙ rw (em, er) (simp append-assoc) in
+        let z : got l ≡ got (tk .lead) = sym (getHead-back (str ++ drop q b) (f .0 .head)) ∙ ap getHead (sym whole) ∙ tk .head in
+        let el : l ≡ tk .lead = cc in
+        let ls : length str ≡ stringSize l = f .0 .sized in
+        let lt : length (tk .str) ≡ stringSize (tk .lead) = rw (tk .passed .string) (length-take-le (stringSize (tk .lead)) (drop (size (tk .lead)) (drop p b)) (tk .passed .there)) in
+        let u : length (encode (item l str ms rs)) ≡ size l + length str = rw (em, er) (simp length-append (omega (arith, length-lead l))) in
+        omega (arith, h, u, ls, ap stringSize el, ap size el, lt, tk .after-is)
+
+    took-first : (w : Walk) {t t′ : Tables} → Walked b most (due s 0) [] d 0 p c w t t′ → firstOf p w ≡ walk.Read q₀ 1
+    took-first (walk.Read q n) v = let h = v .held .0 in ap (λ (x : ℕ). walk.Read x 1) (same-end (h .tree) (h .fit) (h .bytes) (h .place) (h .count) (v .held .2))
+    took-first (walk.Refused r x) v =
+        let e : run (most - suc c) (push (members s (tk .lead)) [] (pred d) (behind s (tk .lead) (tk .str) 0 [] d end)) q₀ (drop q₀ b) ≡ refuse r x
+        = sym (runs-in b bs most s 0 [] d 0 p c k a q₀ tk end) ∙ v .runs end in
+        let y : x ≡ q₀ = stays _ q₀ (drop q₀ b) (rw one-left at e) in
+        let n : x ≡ p → ⊥ = λ g. omega (arith, ahead) in
+        rw (ne-eqb x p n, y)
+
+  refused-first : (w : Walk) {t t′ : Tables} → Walked b most (due s 0) [] d 0 p c w t t′ → {r x : ℕ} → stepAt b p s [] (most - c) d ≡ Refused r x → x ≡ p → firstOf p w ≡ walk.Refused r x
+  refused-first w {t} {t′} v {r} {x} e ex = go w v (sym (v .runs end) ∙ stopped b most s 0 [] d 0 p c r x t t′ e .runs end)
+    where
+      go : (w : Walk) {t t′ : Tables} → Walked b most (due s 0) [] d 0 p c w t t′ → afterWalk b most w end ≡ refuse r x → firstOf p w ≡ walk.Refused r x
+      go (walk.Refused r′ x′) v f = let er : r′ ≡ r = cc in let e′ : x′ ≡ x = cc in rw (eq-eqb x′ p (e′ ∙ ex), er, e′)
+      go (walk.Read q n) v f =
+          let h = beyond (v .held .0) in
+          let z : most - n ≡ 0 = omega (arith, h .1) in
+          let y : x ≡ q = stays end q (drop q b) (rw z at f) in
+          absurd (omega (arith, h .0))
+
+  pub first-head : {w : Walk} {t t′ : Tables} → Walked b most (due s 0) [] d 0 p c w t t′ → firstOf p w ≡ headWalk (stepAt b p s [] (most - c) d)
+  unfolding stepAt
+  first-head {w} v = go (stepAt b p s [] (most - c) d) refl
+    where
+      placed : (y : reader.Step) {r x : ℕ} → stepAnswer p y ≡ Refused r x → x ≡ p
+      placed (reader.no r′) e = cc
+      placed (reader.yes l str) e = absurd (let z : _≡_ {A = ℕ} 0 1 = cc in omega arith)
+
+      go : (y : Step) → stepAt b p s [] (most - c) d ≡ y → firstOf p w ≡ headWalk y
+      go (Taken k a q₀) e = took-first (took b p (most - c) d s [] k a q₀ e) w v
+      go (Refused r x) e = refused-first w v e (placed (judgeGot (most - c) d s [] (getHead (drop p b)) (drop p b)) e)
+
+-- test 5 asks only whether one more may come
+any-left : (b : List ℕ) (p : ℕ) (s : Slot) (d left left′ : ℕ) → eqb left 0 ≡ eqb left′ 0 → stepAt b p s [] left d ≡ stepAt b p s [] left′ d
+unfolding stepAt judgeGot judge
+any-left b p s d left left′ e = ap (stepAnswer p) (go (getHead (drop p b)))
+  where
+    go : (g : Got) → judgeGot left d s [] g (drop p b) ≡ judgeGot left′ d s [] g (drop p b)
+    go (bad r) = refl
+    go (got l) = rw e
+
+pub one-head : (b : List ℕ) → all isByte b ≡ true → (p i count items d j : ℕ) {c most : ℕ} → slotOf j ≡ slotOf i → c ≡ min count items → {more : ℕ} → more ≡ min (c + 1) 18446744073709551615
+    → most ≡ min items more → Fits w64 items → {w : Walk} {t t′ : Tables} → Walked b most (due (slotOf j) 0) [] d 0 p c w t t′ → {r : Walk} → r ≡ firstOf p w
+    → r ≡ headWalk (stepAt b p (slotOf i) [] (items - count) d)
+one-head b bs p i count items d j {c} {most} ej ec {more} em el fit v er =
+    let few : most ≤ c + 1 = omega (arith, el, em, min-le-right items more, min-le-left (c + 1) 18446744073709551615) in
+    let e : stepAt b p (slotOf j) [] (most - c) d ≡ stepAt b p (slotOf i) [] (items - count) d = rw ej (any-left b p (slotOf i) d (most - c) (items - count) same) in
+    er ∙ first-head b bs p d (slotOf j) c most few v ∙ ap headWalk e
+  where
+    same : eqb (most - c) 0 ≡ eqb (items - count) 0
+    same = go (ltb count items) refl
+      where
+        go : (y : Bool) → ltb count items ≡ y → eqb (most - c) 0 ≡ eqb (items - count) 0
+        go true e =
+            let h : count < items = ltb-true count items e in
+            let a : c ≡ count = ec ∙ min-eq-left (omega arith) in
+            let m : more ≡ c + 1 = em ∙ min-eq-left (omega arith) in
+            let l : most ≡ c + 1 = el ∙ rw m (min-eq-right (omega arith)) in
+            rw (ne-eqb (most - c) 0 (λ z. omega arith), ne-eqb (items - count) 0 (λ z. omega arith))
+        go false e =
+            let h : items ≤ count = ltb-false count items e in
+            let a : c ≡ items = ec ∙ min-eq-right h in
+            rw (eq-eqb (most - c) 0 (omega (arith, el, min-le-left items more)), eq-eqb (items - count) 0 (omega arith))
 
 pub few : (count items : ℕ) {c : ℕ} → c ≡ min count items → c ≤ items
 few count items e = omega (arith, min-le-right count items)
+
+pub enough : (count items : ℕ) {c more most : ℕ} → c ≡ min count items → more ≡ min (c + 1) 18446744073709551615 → most ≡ min items more → Fits w64 c → c ≤ most
+enough count items {c} {more} {most} e f g h = go (ltb items more) refl
+  where
+    go : (y : Bool) → ltb items more ≡ y → c ≤ most
+    go true q = omega (arith, g ∙ min-eq-left (let l = ltb-true items more q in omega arith), few count items e)
+    go false q =
+        let m : c ≤ more = small (ltb (c + 1) 18446744073709551615) refl in
+        omega (arith, g ∙ min-eq-right (ltb-false items more q))
+      where
+        small : (z : Bool) → ltb (c + 1) 18446744073709551615 ≡ z → c ≤ more
+        small true z = omega (arith, f ∙ min-eq-left (let l = ltb-true (c + 1) 18446744073709551615 z in omega arith))
+        small false z = omega (arith, f ∙ min-eq-right (ltb-false (c + 1) 18446744073709551615 z))
+
+-- a walk's answer as the head's, way by way
+module _ (p : ℕ) {w : Walk} where
+  pub first-read : {q n : ℕ} → w ≡ walk.Read q n → walk.Read q 1 ≡ firstOf p w
+  first-read e = rw e
+
+  module _ {r x : ℕ} (e : w ≡ walk.Refused r x) where
+    pub first-refused : x ≡ p → walk.Refused r x ≡ firstOf p w
+    first-refused g = rw (e, eq-eqb x p g)
+
+    pub first-behind : (x ≡ p → ⊥) → walk.Read x 1 ≡ firstOf p w
+    first-behind g = rw (e, ne-eqb x p g)
+
+pub ruleset first-ways = (first-read, first-refused, first-behind)
 
 -- a number that is no slot's
 pub known-slot : (i : ℕ) → i < 72 → IsSlot i × (slotOf i ≡ slotOf i)

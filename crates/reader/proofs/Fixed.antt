@@ -24,7 +24,7 @@ use Rattle.reader.specs.declared.Step.the-variants.{Taken}
 use Rattle.reader.specs.declared.Walk.{Walk}
 use Rattle.reader.specs.declared.Walk.the-variants.{Read, Refused}
 use Rattle.reader.specs.Steps.{standsAt, stepAnswer, stepAt}
-use Rattle.reader.specs.Walks.{Tables, both, Walked, WalkedBy}
+use Rattle.reader.specs.Walks.{Tables, both, Walked}
 use Rattle.reader.proofs.Walking.{ended}
 use Rattle.reader.proofs.Loop.{begins, breaks, ends}
 
@@ -111,12 +111,12 @@ version-read b bs items d e u t refs {z} put =
     ends b bs items version 0 [] d 0 0 0 (both t refs) 0 0 0 0 d 0 0 0 (both t refs) (omega arith) (begins b items version 0 d 0 0 0 (both t refs)) (version-step b items d h) refl inside refl {tab₂ = both z refs} refl refl put refl (omega arith) refl refl refl (h .within) (h .spare)
 
 module _ (b : List ℕ) (bs : all isByte b ≡ true) (items d p c : ℕ) {r : Bool} (e : r ≡ standsAt b p 130 (items - c)) (u : not r ≡ false)
-    (g : d ≡ 0 → ⊥) (t u₀ : List ℕ) {w : Walk} {t₁ u₁ : List ℕ} (m : WalkedBy false b items (slotOf 6) 0 (d - 1) 1 (p + 1) (c + 1) w (both t u₀) (both t₁ u₁)) where
+    (g : d ≡ 0 → ⊥) (t u₀ : List ℕ) {w : Walk} {t₁ u₁ : List ℕ} (m : Walked b items (due (slotOf 6) 0) [] (d - 1) 1 (p + 1) (c + 1) w (both t u₀) (both t₁ u₁)) where
   abbrev there : Stood b p 130 c items
   there = stood b p 130 c items e u
 
   abbrev inside : Walked b items (due (slotOf 6) 0) [] (pred d) 1 (p + 1) (c + 1) w (both t u₀) (both t₁ u₁)
-  inside = rw (← sub-one d) (m .level refl)
+  inside = rw (← sub-one d) m
 
   pub set-stopped : {n x : ℕ} → w ≡ Refused n x → {z : Tables} → Walked b items (due (slotOf 2) 0) [] d 0 p c w (both t u₀) z
   unfolding members rule keyOf getHead

@@ -1,7 +1,7 @@
 -- The walk's loop: one law for each way that a turn ends; the premises are the facts that the code leaves.
 use Prim.Native.Nat.{ℕ, zero, suc, pred, _+_, _-_, _*_, _≤_, _<_}
 use mathlib.Core.Path.{_≡_, refl, sym, _∙_, ap}
-use mathlib.Core.Bool.{Bool, true, false, not, _&&_, cond, true≢false}
+use mathlib.Core.Bool.{Bool, true, false, not, _&&_, cond}
 use mathlib.Core.List.{List, [], _∷_, _++_, append-assoc}
 use native.Mathlib.Omega.{arith}
 use native.Mathlib.Numerals.{add-one, sub-one}
@@ -33,7 +33,7 @@ use Rattle.reader.specs.declared.Walk.{Walk}
 use Rattle.reader.specs.declared.Walk.the-variants.{Read, Refused}
 use Rattle.buffer.specs.Bytes.{part}
 use Rattle.reader.specs.Steps.{stepAt, stoppedOf, Bounded, keySpan}
-use Rattle.reader.specs.Walks.{insideLevel, Tables, both, Walked, WalkedBy, headWalk}
+use Rattle.reader.specs.Walks.{insideLevel, Tables, both, Walked}
 use Rattle.reader.proofs.Walking.{Took, took, ended, stopped, broken, onward}
 use Rattle.reader.proofs.Keys.{ordered-kind, key-bytes}
 
@@ -137,42 +137,5 @@ module _ (b : List ℕ) (bs : all isByte b ≡ true) (items : ℕ) (s₀ : Slot)
             let pv : prevAfter (slotOf i) (keyOf (part b f t)) (tk .lead) (tk .str) ≡ keyOf (part b f′ t′)
             = rw (ef, et) (key-span b (rule (slotOf i) .extra) f t p q₀ (keyBytes (tk .lead) (tk .str)) kp) in
             record { then = λ y. item (rw (← next-is, z, pv) y) }
-
--- A walk over the first head alone is in its first turn.
-pub record First (alone : Bool) (s₀ d₀ p₀ c₀ f t s d p c : ℕ) : Type 0 where
-  pub first : alone ≡ true → (s ≡ s₀) × (p ≡ p₀) × (c ≡ c₀) × (f ≡ 0) × (t ≡ 0) × (d ≡ d₀)
-
-pub first-turn : (alone : Bool) (s d p c : ℕ) → First alone s d p c 0 0 s d p c
-first-turn alone s d p c = record { first = λ e. (refl, refl, refl, refl, refl, refl) }
-
-pub later-turn : {alone : Bool} → alone ≡ false → {s₀ d₀ p₀ c₀ f t s d p c : ℕ} → First alone s₀ d₀ p₀ c₀ f t s d p c
-later-turn e = record { first = λ g. absurd (true≢false (sym g ∙ e)) }
-
--- a level that is walked
-pub levelled : {b : List ℕ} {items : ℕ} {s : Slot} {n d around p c : ℕ} {w : Walk} {t t′ : Tables} → WalkedBy false b items s n d around p c w t t′
-    → Walked b items (due s n) [] d around p c w t t′
-levelled v = v .level refl
-
-pub on-level : {alone : Bool} → alone ≡ false → {b : List ℕ} {items : ℕ} {s : Slot} {n d around p c : ℕ} {w : Walk} {t t′ : Tables}
-    → Walked b items (due s n) [] d around p c w t t′ → WalkedBy alone b items s n d around p c w t t′
-on-level e v = record { level = λ _. v; head = λ g. absurd (true≢false (sym g ∙ e)) }
-
-module _ {alone : Bool} (b : List ℕ) (items i₀ n₀ d₀ around p₀ c₀ : ℕ) (t₀ : Tables) {i f t d p c : ℕ} (first : First alone i₀ d₀ p₀ c₀ f t i d p c)
-    {x : Step} (e : x ≡ stepAt b p (slotOf i) (keyOf (part b f t)) (items - c) d) where
-  here : alone ≡ true → x ≡ stepAt b p₀ (slotOf i₀) [] (items - c₀) d₀
-  unfolding keyOf getHead
-  here g = let (y₁, y₂, y₃, y₄, y₅, y₆) = first .first g in rw (y₁, y₂, y₃, y₄, y₅, y₆) at e
-
-  -- the head is taken, and nothing else is asked
-  pub head-alone : alone ≡ true → {k a q : ℕ} → x ≡ Taken k a q → {z : Tables} → WalkedBy alone b items (slotOf i₀) n₀ d₀ around p₀ c₀ (Read q (c + 1)) t₀ z
-  head-alone g {k} {a} {q} u = record {
-    level = λ n. absurd (true≢false (sym g ∙ n));
-    head = λ _. let y₃ = first .first g .2 in rw (← here g, u, y₃);
-  }
-
-  -- or refused, alone or not
-  pub stops : {r y : ℕ} → x ≡ step.Refused r y → {w : Walk} → w ≡ stoppedOf x → {z : Tables} → Walked b items (due (slotOf i₀) n₀) [] d₀ around p₀ c₀ w t₀ z
-      → WalkedBy alone b items (slotOf i₀) n₀ d₀ around p₀ c₀ w t₀ z
-  stops u v level = record { level = λ _. level; head = λ g. v ∙ rw (← here g, u) }
 
 pub ruleset turns = (begins, halts, breaks, ends, again, next-slotted)

@@ -106,13 +106,13 @@ stopped b items s n prev d around p c r x t t′ e = go (judgeGot (items - c) d 
 module _ (b : List ℕ) (bs : all isByte b ≡ true) (items : ℕ) (s : Slot) (n : ℕ) (prev : List ℕ) (d around p c k a q₀ : ℕ)
     (h : Took b p (items - c) d s prev k a q₀) where
   -- the head is one of the items that may come
-  spare : c < items
+  pub spare : c < items
   spare = let m : items - c ≡ 0 → ⊥ = eqb-false (items - c) 0 (h .passed .spare) in omega arith
 
   left-is : items - c ≡ suc (items - suc c)
   left-is = let m : c < items = spare in omega arith
 
-  runs-in : (ds : Dues) → run (items - c) (frame s n prev d ds) p (drop p b)
+  pub runs-in : (ds : Dues) → run (items - c) (frame s n prev d ds) p (drop p b)
       ≡ run (items - suc c) (push (members s (h .lead)) [] (pred d) (behind s (h .lead) (h .str) n prev d ds)) q₀ (drop q₀ b)
   runs-in ds =
       let e : judgeGot (suc (items - suc c)) d s prev (getHead (drop p b)) (drop p b) ≡ reader.yes (h .lead) (h .str) = rw left-is at (h .judge-is) in

@@ -74,18 +74,18 @@ LastShown i a n room c taken inner next.Done = Unit {0}
 LastShown i a n room c taken inner (next.Due j m) = (inner ≡ next.Due j m) × (nextCode i a n ≡ next.Done) × (room ≤ c) × (taken ≡ 0)
 
 -- one head, as a walk over it alone
-abbrev pub headWalk : ℕ → Step → Walk
-headWalk c (Taken k a q) = Read q (c + 1)
-headWalk c (step.Refused r x) = Refused r x
+abbrev pub headWalk : Step → Walk
+headWalk (Taken k a q) = Read q 1
+headWalk (step.Refused r x) = Refused r x
+
+-- the same from a walk that began at p and could take one head: a refusal elsewhere is that of the next, so it stands where the first one ends
+abbrev pub firstOf : ℕ → Walk → Walk
+firstOf p (Read q c) = Read q 1
+firstOf p (Refused r x) = cond (eqb x p) (Refused r x) (Read x 1)
 
 abbrev pub unwalkedOf : Walk → Step
 unwalkedOf (Refused r x) = step.Refused r x
 unwalkedOf (Read q c) = step.Refused 0 0
-
--- a walk over a level from its first slot on, or over its first head alone
-pub record WalkedBy (alone : Bool) (b : List ℕ) (items : ℕ) (s : Slot) (n d around p c : ℕ) (w : Walk) (t t′ : Tables) : Type 0 where
-  pub level : alone ≡ false → Walked b items (due s n) [] d around p c w t t′
-  pub head : alone ≡ true → w ≡ headWalk c (stepAt b p s [] (items - c) d)
 
 -- the reader's answer behind the sets
 abbrev pub afterSets : ℕ → Walk → Answer

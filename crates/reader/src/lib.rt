@@ -18,7 +18,7 @@ ghost use Rattle.grammar.specs.Code.{IsSlot, levelOf, spelledAs, nextCode};
 ghost use Rattle.grammar.specs.Words.{WordOf};
 ghost use Rattle.buffer.specs.Bytes.{part};
 ghost use Rattle.reader.specs.Steps.{standsAt, stringEnd, keyAt, stepAt, contentAt, ContentShown, noHead, stoppedOf, Bounded, keySpan, Quick};
-ghost use Rattle.reader.specs.Walks.{both, Walked, headWalk, unwalkedOf, WalkedBy, SetsWalked, Opens, LastShown};
+ghost use Rattle.reader.specs.Walks.{both, Walked, headWalk, firstOf, unwalkedOf, SetsWalked, Opens, LastShown};
 ghost use Rattle.ari.specs.declared.Input.the-variants.{Single, Message};
 ghost use Rattle.ari.specs.Reader.{read};
 ghost use Rattle.ari.specs.Limits.{gateLimits};
@@ -448,7 +448,6 @@ fn walk_inside(
                 around + 1,
                 slot,
                 more,
-                false,
                 entries,
                 references,
             )
@@ -456,7 +455,7 @@ fn walk_inside(
     }
 }
 
-// The items of a level from the slot on, leaves in the loop, a call for each container but one that `last_inside` goes on with; or its first head alone.
+// The items of a level from the slot on, leaves in the loop, a call for each container but one that `last_inside` goes on with.
 fn walk_level(
     s: &[u8],
     at: usize,
@@ -466,12 +465,11 @@ fn walk_level(
     around: usize,
     slot: u64,
     more: u64,
-    alone: bool,
     entries: &mut [u64],
     references: &mut [u64],
 ) -> Walk
     requires { ⌜ (all isByte (now s) ≡ true) × (depth + around < 2 ^ 64) × IsSlot slot × (at ≤ length (now s)) × (count ≤ items) ⌝ }
-    ensures { λ r. ⌜ WalkedBy alone (now (s .entry)) items (slotOf slot) more depth around at count r (both (now (entries .entry)) (now (references .entry))) (both (now (entries .exit)) (now (references .exit))) ⌝ }
+    ensures { λ r. ⌜ Walked (now (s .entry)) items (due (slotOf slot) more) [] depth around at count r (both (now (entries .entry)) (now (references .entry))) (both (now (entries .exit)) (now (references .exit))) ⌝ }
 {
     let mut p = at;
     let mut c = count;
@@ -483,12 +481,6 @@ fn walk_level(
     loop {
         let word = grammar::walk_word(place);
         if is_quick(s, p, place, c, items) {
-            if alone {
-                return Walk::Read {
-                    next: p + 1,
-                    count: c + 1,
-                };
-            }
             item_table::put_plain(entries, c, p, p + 1, opened, place);
             let n = next_at(place, word, wide(s[p]) % 32, left);
             let grammar::Next::Due { slot: a, more: b } = n else {
@@ -507,12 +499,6 @@ fn walk_level(
         let Step::Taken { kind, arg, after } = t else {
             return stopped(t);
         };
-        if alone {
-            return Walk::Read {
-                next: after,
-                count: c + 1,
-            };
-        }
         if is_plain(place, word, kind) {
             item_table::put_plain(entries, c, p, after, opened, place);
             let n = next_at(place, word, arg, left);
@@ -580,9 +566,27 @@ fn slot_known(slot: u64) -> u64
     grammar::VERSION
 }
 
+// What a walk gives that could take one head: a refusal elsewhere is that of the next.
+fn first_of(w: Walk, at: usize) -> Walk
+    ensures { λ r. ⌜ r ≡ firstOf at w ⌝ }
+{
+    match w {
+        Walk::Read { next, count: _ } => Walk::Read { next, count: 1 },
+        Walk::Refused { number, place } => {
+            if place == at {
+                return Walk::Refused { number, place };
+            }
+            Walk::Read {
+                next: place,
+                count: 1,
+            }
+        }
+    }
+}
+
 // One head, with no key before it.
 fn first_head(s: &[u8], at: usize, slot: u64, count: usize, items: usize, depth: usize) -> Walk
-    ensures { λ r. ⌜ r ≡ headWalk (min count items) (stepAt (now (s .entry)) at (slotOf slot) [] (items - count) depth) ⌝ }
+    ensures { λ r. ⌜ r ≡ headWalk (stepAt (now (s .entry)) at (slotOf slot) [] (items - count) depth) ⌝ }
 {
     if s.len() < at {
         return Walk::Refused {
@@ -592,21 +596,22 @@ fn first_head(s: &[u8], at: usize, slot: u64, count: usize, items: usize, depth:
     }
     let known = slot_known(slot);
     let c = buffer::least(count, items);
+    let most = buffer::least(items, buffer::saturating_add(c as u64, 1) as usize);
     let mut entries = [0u64; 1];
     let mut references = [0u64; 1];
-    walk_level(
+    let w = walk_level(
         s,
         at,
         c,
-        items,
+        most,
         depth,
         0,
         known,
         0,
-        true,
         &mut entries[0..0],
         &mut references[0..0],
-    )
+    );
+    first_of(w, at)
 }
 
 // The ends of a key before; none where they are not those of a part of the input.
@@ -724,7 +729,6 @@ fn read_single(s: &[u8], limits: Limits, entries: &mut [u64], references: &mut [
         0,
         grammar::ARI_ALONE,
         0,
-        false,
         entries,
         references,
     );
@@ -774,7 +778,6 @@ fn walk_version(
             0,
             grammar::VERSION,
             0,
-            false,
             entries,
             references,
         );
@@ -806,7 +809,6 @@ fn walk_set(
             0,
             grammar::ARI_MESSAGE,
             0,
-            false,
             entries,
             references,
         );
@@ -821,7 +823,6 @@ fn walk_set(
             0,
             grammar::ARI_MESSAGE,
             0,
-            false,
             entries,
             references,
         );
@@ -835,7 +836,6 @@ fn walk_set(
         1,
         grammar::TYPE_MESSAGE,
         0,
-        false,
         entries,
         references,
     );

@@ -2,16 +2,13 @@
 use borrow.Author.Needs.{needs}
 use Rattle.reader.proofs.Bounds.{bounds}
 use Rattle.reader.proofs.Fixed.{fixed-heads}
-use Rattle.reader.proofs.Loop.{levelled}
 use Rattle.reader.proofs.walk_set.Statement.{statement}
 use Rattle.reader.proofs.walk_set.Tie as tie
 
 pub walk-set-spec : {M : Type 1} → statement M
-walk-set-spec = tie.close (tie.spec (λ c κs. search needs) (λ c. search (levelled, needs)) (λ c. search (levelled, needs))
-    (λ c. search (levelled, needs)) (λ c κs. search needs) (λ c κs. search needs) (λ c. search (levelled, needs)) (λ c. search (levelled, needs))
-    (λ c. search (levelled, needs)) (λ c. search (levelled, needs)) (λ c. search (fixed-heads, bounds, levelled, needs))
-    (λ c. search (levelled, needs))
-    (λ c κs. (search needs, search (fixed-heads, bounds, levelled, needs), search needs, search (fixed-heads, needs), search (fixed-heads, needs)))
-    (λ c. search (levelled, needs)) (λ c. search (levelled, needs)) (λ c. search (levelled, needs)) (λ c. search (levelled, needs))
-    (λ c. search (fixed-heads, bounds, levelled, needs)) (λ c κs. search needs) (λ c. search (levelled, needs)) (λ c. search (levelled, needs))
-    (λ c. search (fixed-heads, bounds, levelled, needs)))
+walk-set-spec = tie.close (tie.spec (λ c κs. search needs) (λ c. search needs) (λ c. search needs) (λ c. search needs) (λ c κs. search needs)
+    (λ c κs. search needs) (λ c. search needs) (λ c. search needs) (λ c. search needs) (λ c. search needs)
+    (λ c. search (fixed-heads, bounds, needs)) (λ c. search needs)
+    (λ c κs. (search needs, search (fixed-heads, bounds, needs), search needs, search (fixed-heads, needs), search (fixed-heads, needs)))
+    (λ c. search needs) (λ c. search needs) (λ c. search needs) (λ c. search needs) (λ c. search (fixed-heads, bounds, needs))
+    (λ c κs. search needs) (λ c. search needs) (λ c. search needs) (λ c. search (fixed-heads, bounds, needs)))
