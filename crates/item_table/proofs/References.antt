@@ -1,15 +1,15 @@
 -- The table of references alone. The idea: a place that is taken is written by nothing else, so a reference's word may come after those of the
 -- references inside it.
-use Prim.Native.Nat.{ℕ, zero, suc, _+_, _-_, _≤_, _<_}
+use Prim.Native.Nat.{ℕ, zero, suc, _+_, _-_, _*_, _/_, _%_, _≤_, _<_}
 use mathlib.Core.Path.{_≡_, refl, sym, _∙_, ap}
 use mathlib.Core.Logic.{_≢_}
 use mathlib.Core.Bool.{Bool, true, false, not, cond}
 use mathlib.Core.List.{List, [], _∷_, _++_, map, map-append}
 use native.Mathlib.Omega.{arith}
-use lib.ListN.{length, getD, set, length-set, length-map}
-use lib.Seq.{set-comm, set-out, getD-set-same, getD-set-other}
+use lib.ListN.{length, getD, set, length-set, length-map, List·getD-eq-default}
+use lib.Seq.{set-comm, set-out, set-set, getD-set-same, getD-set-other}
 use lib.Dec.{ltb, eqb}
-use borrow.Author.Tests.{lt-ltb, le-ltb, ltb-true, ltb-false, ne-eqb, eq-eqb, eqb-true, not-true, not-false}
+use borrow.Author.Tests.{lt-ltb, le-ltb, ltb-true, ltb-false, ne-eqb, eq-eqb, eqb-true, eqb-false, not-true, not-false}
 use Rattle.ari.specs.Table.{isReference}
 use Rattle.ari.specs.declared.Limits.{Limits}
 use Rattle.ari.specs.declared.Input.{Input}
@@ -18,8 +18,9 @@ use Rattle.ari.specs.Decode.{decode}
 use Rattle.ari.specs.Rules.{Is}
 use Rattle.ari.specs.Listing.{referring}
 use Rattle.ari.proofs.Referring.{referring-append}
-use Rattle.item_table.specs.Entries.{entryOf, referenceBy, noSpot}
-use Rattle.item_table.specs.References.{hasRoom, placeIn, reserved, filled, noted, placeFor, reservedFor, Referenced}
+use Rattle.item_table.specs.declared.Item.{Item}
+use Rattle.item_table.specs.Entries.{itemOf, entryOf, packed, referenceBy, noSpot}
+use Rattle.item_table.specs.References.{hasRoom, placeIn, reserved, filled, noted, placeFor, reservedFor, withEnd, endedBy, ended, Referenced}
 use Rattle.item_table.proofs.Entries.{getD-entries}
 
 -- a place is taken, way by way
@@ -239,3 +240,201 @@ noted-table {m} {i} {b} {n} t {t′} c s d room e =
           let f : suc (getD z 0 0 + k) ≡ suc k = omega arith in
           rw (e, ← f) (noted-at z ws k fits (omega arith) ∙ getD-entries xs k noSpot h);
     }
+
+-- References that wait for their end. More steps than places change nothing.
+more-steps : (n m k a : ℕ) (t : List ℕ) → k ≤ n → k ≤ m → endedBy n k a t ≡ endedBy m k a t
+more-steps zero zero k a t h g = refl
+more-steps zero (suc m) k a t h g = rw (eq-eqb k 0 (omega arith))
+more-steps (suc n) zero k a t h g = rw (eq-eqb k 0 (omega arith))
+more-steps (suc n) (suc m) k a t h g = go (eqb k 0) (ltb b k) refl (λ q. more-steps n m b a (set t k (withEnd w a)) (omega arith) (omega arith))
+  where
+    w : ℕ
+    w = getD t k 0
+
+    b : ℕ
+    b = w / 65536 % 65536
+
+    go : (x y : Bool) → ltb b k ≡ y → (b < k → endedBy n b a (set t k (withEnd w a)) ≡ endedBy m b a (set t k (withEnd w a)))
+        → cond x t (cond y (endedBy n b a (set t k (withEnd w a))) (set t k (withEnd w a))) ≡ cond x t (cond y (endedBy m b a (set t k (withEnd w a))) (set t k (withEnd w a)))
+    go true y e f = refl
+    go false true e f = f (ltb-true b k e)
+    go false false e f = refl
+
+-- The loop over them: what is left to do gives the whole.
+pub record Ending (t₀ : List ℕ) (p a k : ℕ) (t : List ℕ) : Type 0 where
+  pub steps : ℕ
+  pub enough : k ≤ steps
+  pub same : ended t₀ p a ≡ endedBy steps k a t
+  pub lengths : length t ≡ length t₀
+
+pub ending : (t : List ℕ) (p a : ℕ) → Ending t p a p t
+ending t p a = record { steps = p; enough = omega arith; same = refl; lengths = refl }
+
+module _ (t₀ : List ℕ) (p a k : ℕ) (t : List ℕ) (i : Ending t₀ p a k t) where
+  none-left : (n : ℕ) → k ≡ 0 → endedBy n k a t ≡ t
+  none-left zero e = refl
+  none-left (suc n) e = rw (eq-eqb k 0 e)
+
+  pub all-ended : k ≡ 0 → t ≡ ended t₀ p a
+  all-ended e = sym (i .same ∙ none-left (i .steps) e)
+
+  module _ (n : k ≡ 0 → ⊥) where
+    abbrev w : ℕ
+    w = getD t k 0
+
+    abbrev b : ℕ
+    b = w / 65536 % 65536
+
+    one-step : (s : ℕ) → k ≤ s → endedBy s k a t ≡ cond (ltb b k) (endedBy (s - 1) b a (set t k (withEnd w a))) (set t k (withEnd w a))
+    one-step zero h = absurd (n (omega arith))
+    one-step (suc s) h = let e : suc s - 1 ≡ s = omega arith in rw (ne-eqb k 0 n, e)
+
+    pub past-the-end : length t ≤ k → t ≡ ended t₀ p a
+    past-the-end h =
+        let z : w ≡ 0 = List·getD-eq-default t 0 h in
+        let e : ltb b k ≡ true = lt-ltb b k (omega arith) in
+        sym (i .same ∙ one-step (i .steps) (i .enough) ∙ rw (e, set-out t k (withEnd w a) h) (done (i .steps - 1) (omega arith)))
+      where
+        done : (s : ℕ) → getD t k 0 / 65536 % 65536 ≡ 0 → endedBy s (getD t k 0 / 65536 % 65536) a t ≡ t
+        done zero e = refl
+        done (suc s) e = rw e
+
+    module _ {e : ℕ} (es : e ≡ withEnd w a) {x : Item} (ex : x ≡ itemOf w) where
+      before : x .after ≡ b
+      unfolding itemOf
+      before = ap (λ (y : Item). y .after) ex
+
+      pub last-ended : k ≤ x .after → set t k e ≡ ended t₀ p a
+      last-ended h = sym (i .same ∙ one-step (i .steps) (i .enough) ∙ rw (le-ltb b k (omega (arith, before)), es))
+
+      pub next-ending : x .after < k → Ending t₀ p a (x .after) (set t k e)
+      next-ending h = record {
+        steps = i .steps - 1;
+        enough = omega (arith, i .enough);
+        same = i .same ∙ one-step (i .steps) (i .enough) ∙ rw (lt-ltb b k (omega (arith, before)), es, before);
+        lengths = length-set t k e ∙ i .lengths;
+      }
+
+pub ruleset endings = (ending, all-ended, past-the-end, last-ended, next-ending)
+
+-- a word with another end is that word
+pub with-end : (f b a r s z : ℕ) → withEnd (packed f b r s z) a ≡ packed f a r s z
+with-end f b a r s z = omega arith
+
+pub link-of : (f b r s z : ℕ) → b < 65536 → packed f b r s z / 65536 % 65536 ≡ b
+link-of f b r s z h = omega arith
+
+-- A reference that waits for its end, with those before it: when it gets it the others do.
+pub ends-with : (t : List ℕ) (j k a f r s z : ℕ) (ws : List ℕ) → 0 < j → j ≤ getD t 0 0 → j < length t → k < j → k < 65536
+    → ended (noted (set t j (packed f k r s z)) ws) j a ≡ ended (set (noted t ws) j (packed f a r s z)) k a
+ends-with t j k a f r s z ws low h room less small =
+    let n : List ℕ = noted t ws in
+    let e : noted (set t j (packed f k r s z)) ws ≡ set n j (packed f k r s z) = sym (late t j (packed f k r s z) ws low h) in
+    let there : getD (set n j (packed f k r s z)) j 0 ≡ packed f k r s z = getD-set-same n j (packed f k r s z) 0 (omega (arith, length-noted t ws)) in
+    rw e (go j refl there)
+  where
+    go : (m : ℕ) → j ≡ m → getD (set (noted t ws) j (packed f k r s z)) j 0 ≡ packed f k r s z
+        → endedBy m j a (set (noted t ws) j (packed f k r s z)) ≡ ended (set (noted t ws) j (packed f a r s z)) k a
+    go zero em there = absurd (omega arith)
+    go (suc m) em there =
+        rw (ne-eqb j 0 (λ q. omega arith), there, link-of f k r s z small, lt-ltb k j less, with-end f k a r s z, set-set (noted t ws) j (packed f k r s z) (packed f a r s z))
+        (more-steps m k k a (set (noted t ws) j (packed f a r s z)) (omega arith) (omega arith))
+
+-- the number of references does not fall
+noted-grows : (t ws : List ℕ) → getD t 0 0 ≤ getD (noted t ws) 0 0
+noted-grows t [] = omega arith
+noted-grows t (w ∷ ws) = go (ltb (getD t 0 0 + 1) (length t)) refl (noted-grows (filled (reserved t) (placeIn t) w) ws)
+  where
+    go : (y : Bool) → ltb (getD t 0 0 + 1) (length t) ≡ y → getD (filled (reserved t) (placeIn t) w) 0 0 ≤ getD (noted t (w ∷ ws)) 0 0 → getD t 0 0 ≤ getD (noted t (w ∷ ws)) 0 0
+    go true e h =
+        let r : getD t 0 0 + 1 < length t = ltb-true (getD t 0 0 + 1) (length t) e in
+        omega (arith, h, ap (λ (l : List ℕ). getD l 0 0) (one-more t w r), number-more t w r)
+    go false e h =
+        let r : length t ≤ getD t 0 0 + 1 = ltb-false (getD t 0 0 + 1) (length t) e in
+        omega (arith, h, ap (λ (l : List ℕ). getD l 0 0) (no-more t w r))
+
+-- the last that waits has its place, and a word can name it
+pub record Pending (k : ℕ) (t : List ℕ) : Type 0 where
+  pub placed : k ≤ getD t 0 0
+  pub small : k < 65536
+
+pub none-waits : (t : List ℕ) → Pending 0 t
+none-waits t = record { placed = omega arith; small = omega arith }
+
+-- what a place tells of the table
+module _ (i k a : ℕ) (t : List ℕ) where
+  taken-room : (x : Bool) → hasRoom t ≡ x → (y : Bool) → (cond y (placeIn t) 0 ≡ 0 → ⊥) → (y ≡ true) × (getD t 0 0 + 1 < length t)
+  taken-room true e true n = (refl, ltb-true (getD t 0 0 + 1) (length t) e)
+  taken-room true e false n = absurd (n refl)
+  taken-room false e true n = absurd (n (rw e))
+  taken-room false e false n = absurd (n refl)
+
+  module _ {j : ℕ} (at : j ≡ placeFor i k a t) {u : List ℕ} (taken : u ≡ reservedFor i k a t) where
+    not-taken : j ≡ 0 → u ≡ t
+    not-taken e = taken ∙ go (hasRoom t) refl (referenceBy i k a) (sym at ∙ e)
+      where
+        go : (x : Bool) → hasRoom t ≡ x → (y : Bool) → cond y (placeIn t) 0 ≡ 0 → cond y (reserved t) t ≡ t
+        go true e true z = absurd (let w : getD t 0 0 + 1 ≡ 0 = rw e at z in omega arith)
+        go true e false z = refl
+        go false e true z = rw e
+        go false e false z = refl
+
+    module _ (n : j ≡ 0 → ⊥) where
+      room : (referenceBy i k a ≡ true) × (getD t 0 0 + 1 < length t)
+      room = taken-room (hasRoom t) refl (referenceBy i k a) (λ z. n (at ∙ z))
+
+      place-is : j ≡ getD t 0 0 + 1
+      place-is = at ∙ rw (room .0, lt-ltb (getD t 0 0 + 1) (length t) (room .1))
+
+      table-is : u ≡ set t 0 (getD t 0 0 + 1)
+      table-is = taken ∙ rw (room .0, lt-ltb (getD t 0 0 + 1) (length t) (room .1))
+
+      number-is : getD u 0 0 ≡ j
+      number-is = ap (λ (l : List ℕ). getD l 0 0) table-is ∙ getD-set-same t 0 (getD t 0 0 + 1) 0 (let r = room .1 in omega arith) ∙ sym place-is
+
+      length-is : length u ≡ length t
+      length-is = ap length table-is ∙ length-set t 0 (getD t 0 0 + 1)
+
+    -- a container that waits: when it gets its end those before it do
+    module _ {pend : ℕ} (waits : Pending pend t) (f r s z : ℕ) {u₁ : List ℕ} (fill : u₁ ≡ filled u j (packed f pend r s z)) {pend₁ : ℕ} (last : pend₁ ≡ cond (eqb j 0) pend j) where
+      pub all-get-it : (q : ℕ) (ws : List ℕ) → ended (noted u₁ ws) pend₁ q ≡ ended (filled (noted u ws) j (packed f q r s z)) pend q
+      all-get-it q ws = go (eqb j 0) refl
+        where
+          go : (x : Bool) → eqb j 0 ≡ x → ended (noted u₁ ws) pend₁ q ≡ ended (filled (noted u ws) j (packed f q r s z)) pend q
+          go true e = rw (fill, last, e)
+          go false e =
+              let n : j ≡ 0 → ⊥ = eqb-false j 0 e in
+              rw (fill, last, e)
+              (ends-with u j pend q f r s z ws (omega (arith, n)) (omega (arith, number-is n)) (omega (arith, length-is n, place-is n, room n .1)) (omega (arith, place-is n, waits .placed)) (waits .small))
+
+      pub still-waits : j < 65536 → Pending pend₁ u₁
+      still-waits h = go (eqb j 0) refl
+        where
+          go : (x : Bool) → eqb j 0 ≡ x → Pending pend₁ u₁
+          go true e = rw (fill, last, e, not-taken (eqb-true j 0 e)) waits
+          go false e =
+              let n : j ≡ 0 → ⊥ = eqb-false j 0 e in
+              rw (fill, last, e)
+              (record { placed = omega (arith, same-number u j (packed f pend r s z) (omega (arith, n)), number-is n); small = h })
+
+    -- one that gets its end at once: those before it go on waiting
+    module _ {pend : ℕ} (waits : Pending pend t) where
+      grown : getD t 0 0 ≤ getD u 0 0
+      grown = go (eqb j 0) refl
+        where
+          go : (x : Bool) → eqb j 0 ≡ x → getD t 0 0 ≤ getD u 0 0
+          go true e = omega (arith, ap (λ (l : List ℕ). getD l 0 0) (not-taken (eqb-true j 0 e)))
+          go false e = let n : j ≡ 0 → ⊥ = eqb-false j 0 e in omega (arith, number-is n, place-is n)
+
+      pub waits-on : (ws : List ℕ) {u₁ : List ℕ} → u₁ ≡ noted u ws → (v : ℕ) {u₂ : List ℕ} → u₂ ≡ filled u₁ j v → Pending pend u₂
+      waits-on ws {u₁} e v {u₂} g = record { placed = omega (arith, waits .placed, grown, more, kept); small = waits .small }
+        where
+          more : getD u 0 0 ≤ getD u₁ 0 0
+          more = rw e (noted-grows u ws)
+
+          kept : getD u₂ 0 0 ≡ getD u₁ 0 0
+          kept = rw g (go (eqb j 0) refl)
+            where
+              go : (x : Bool) → eqb j 0 ≡ x → getD (cond x u₁ (set u₁ j v)) 0 0 ≡ getD u₁ 0 0
+              go true q = refl
+              go false q = let n : j ≡ 0 → ⊥ = eqb-false j 0 q in same-number u₁ j v (omega (arith, n))

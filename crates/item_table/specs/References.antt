@@ -1,6 +1,6 @@
 -- The table of an input's references alone: word 0 is how many it keeps, and behind it stand their words in order, as many as there is room for.
--- Interface: noted, Referenced. A reference takes its place when its head is read and its word when its end is known: placeFor, reservedFor, filled.
-use Prim.Native.Nat.{ℕ, suc, _+_, _<_}
+-- Interface: noted, Referenced. A reference takes its place when its head is read and its word when its end is known: placeFor, reservedFor, filled, ended.
+use Prim.Native.Nat.{ℕ, zero, suc, _+_, _*_, _/_, _%_, _<_}
 use mathlib.Core.Path.{_≡_}
 use mathlib.Core.Bool.{Bool, cond}
 use mathlib.Core.List.{List, [], _∷_}
@@ -31,6 +31,21 @@ filled t k w = cond (eqb k 0) t (set t k w)
 abbrev pub noted : List ℕ → List ℕ → List ℕ
 noted t [] = t
 noted t (w ∷ ws) = noted (filled (reserved t) (placeIn t) w) ws
+
+-- References that wait for their end: the word of each has, where its end is due, the place of the one before. So many of them get it.
+abbrev pub withEnd : ℕ → ℕ → ℕ
+withEnd w a = w % 65536 + a % 65536 * 65536 + w / 4294967296 * 4294967296
+
+abbrev pub endedBy : ℕ → ℕ → ℕ → List ℕ → List ℕ
+endedBy zero k a t = t
+endedBy (suc n) k a t =
+    let w = getD t k 0 in
+    let b = w / 65536 % 65536 in
+    cond (eqb k 0) t (cond (ltb b k) (endedBy n b a (set t k (withEnd w a))) (set t k (withEnd w a)))
+
+-- all that wait, from the last on
+abbrev pub ended : List ℕ → ℕ → ℕ → List ℕ
+ended t k a = endedBy k k a t
 
 -- for a head of this kind and argument at a slot: what is no reference takes no place
 abbrev pub placeFor : ℕ → ℕ → ℕ → List ℕ → ℕ

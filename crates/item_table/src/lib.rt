@@ -3,7 +3,7 @@
 ghost use mathlib.Core.Path.{_≡_};
 ghost use lib.ListN.{set};
 ghost use Rattle.item_table.specs.Entries.{packed, itemOf, headOf, headBy, referenceBy};
-ghost use Rattle.item_table.specs.References.{placeFor, reservedFor, filled};
+ghost use Rattle.item_table.specs.References.{placeFor, reservedFor, filled, withEnd, ended};
 
 // An item: its first byte, the byte after its last, the open containers around it, and the number of its slot.
 pub struct Item {
@@ -148,5 +148,31 @@ pub fn fill(
     }
     if place < references.len() {
         references[place] = pack(first, after, around, slot, head);
+    }
+}
+
+// A word with another end.
+fn with_end(entry: u64, after: usize) -> u64
+    ensures { λ r. ⌜ r ≡ withEnd entry after ⌝ }
+{
+    entry % 65536 + (after % 65536) as u64 * 65536 + entry / 4294967296 * 4294967296
+}
+
+// References that wait for their end get it, from the last one on: where it is due each one's word has the place of the one before, or 0.
+pub fn end_all(references: &mut [u64], pending: usize, after: usize)
+    ensures { λ _. ⌜ now (references .exit) ≡ ended (now (references .entry)) pending after ⌝ }
+{
+    let mut k = pending;
+    while k != 0 {
+        if references.len() <= k {
+            return;
+        }
+        let entry = references[k];
+        let x = item_of(entry);
+        references[k] = with_end(entry, after);
+        if k <= x.after {
+            return;
+        }
+        k = x.after;
     }
 }

@@ -108,7 +108,7 @@ unfolding members rule fitsCode nextCode keyOf getHead
 version-read b bs items d e u t refs {z} put =
     let h = stood b 0 1 0 items e u in
     let inside = ended b items [] (pred d) 1 1 1 (both t refs) (h .within) (h .spare) in
-    ends b bs items version 0 [] d 0 0 0 (both t refs) 0 0 0 0 d 0 0 0 (both t refs) (omega arith) (begins b items version 0 d 0 0 0 (both t refs)) (version-step b items d h) refl inside refl {tab₂ = both z refs} refl refl put refl (omega arith) refl refl refl (h .within) (h .spare)
+    ends b bs items version 0 [] d 0 0 0 (both t refs) 0 0 0 0 d 0 0 0 (both t refs) 0 (omega arith) (begins b items version 0 d 0 0 0 (both t refs)) (version-step b items d h) refl inside refl {tab₂ = both z refs} refl refl put refl (omega arith) refl refl refl (h .within) (h .spare) refl
 
 module _ (b : List ℕ) (bs : all isByte b ≡ true) (items d p c : ℕ) {r : Bool} (e : r ≡ standsAt b p 130 (items - c)) (u : not r ≡ false)
     (g : d ≡ 0 → ⊥) (t u₀ : List ℕ) {w : Walk} {t₁ u₁ : List ℕ} (m : Walked b items (due (slotOf 6) 0) [] (d - 1) 1 (p + 1) (c + 1) w (both t u₀) (both t₁ u₁)) where
@@ -121,12 +121,12 @@ module _ (b : List ℕ) (bs : all isByte b ≡ true) (items d p c : ℕ) {r : Bo
   pub set-stopped : {n x : ℕ} → w ≡ Refused n x → {z : Tables} → Walked b items (due (slotOf 2) 0) [] d 0 p c w (both t u₀) z
   unfolding members rule keyOf getHead
   set-stopped v =
-      breaks b bs items (ari message) 0 [] d 0 p c (both t u₀) 2 0 0 0 d 0 p c (both t u₀) (omega arith) (begins b items (ari message) 0 d 0 p c (both t u₀)) (set-step b p c items d there g) refl inside v
+      breaks b bs items (ari message) 0 [] d 0 p c (both t u₀) 2 0 0 0 d 0 p c (both t u₀) 0 (omega arith) (begins b items (ari message) 0 d 0 p c (both t u₀)) (set-step b p c items d there g) refl inside v
 
   pub set-read : {q f : ℕ} → w ≡ Read q f → {z : List ℕ} → z ≡ set t₁ c (packed p q 0 2 0) → Walked b items (due (slotOf 2) 0) [] d 0 p c (Read q f) (both t u₀) (both z u₁)
   unfolding members rule fitsCode nextCode keyOf getHead
   set-read v {z} put =
       let within = (rw v at inside) .held in
-      ends b bs items (ari message) 0 [] d 0 p c (both t u₀) 2 0 0 0 d 0 p c (both t u₀) (omega arith) (begins b items (ari message) 0 d 0 p c (both t u₀)) (set-step b p c items d there g) refl inside v {tab₂ = both z u₁} refl refl put refl (omega arith) refl refl refl (within .1) (within .2)
+      ends b bs items (ari message) 0 [] d 0 p c (both t u₀) 2 0 0 0 d 0 p c (both t u₀) 0 (omega arith) (begins b items (ari message) 0 d 0 p c (both t u₀)) (set-step b p c items d there g) refl inside v {tab₂ = both z u₁} refl refl put refl (omega arith) refl refl refl (within .1) (within .2) refl
 
 pub ruleset fixed-heads = (stood-in, stood-few, stood-fits, version-read, set-stopped, set-read)

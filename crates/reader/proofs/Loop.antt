@@ -47,15 +47,24 @@ reference-by : (i k a : ℕ) (l : Lead) → l .kind ≡ k → l .arg ≡ a → i
 unfolding isReference
 reference-by i k a l ek ea = rw (← ek, ← ea)
 
+-- The tables when the references that wait have their end.
+abbrev pub settled : ℕ → Walk → Tables → Tables
+settled k (Read q c) z = both (z .items) (references.ended (z .references) k q)
+settled k (Refused r x) z = z
+
 -- What is due at p after the key before leads on: whatever ends it from here ends the whole from where the level began.
 pub record Leads (b : List ℕ) (items : ℕ) (s₀ : Slot) (n₀ : ℕ) (prev₀ : List ℕ) (d₀ around₀ p₀ c₀ : ℕ) (t₀ : Tables) (s : Slot) (n : ℕ) (prev : List ℕ)
-    (d around p c : ℕ) (t : Tables) : Type 0 where
-  pub then : {v : Walk} {z : Tables} → Walked b items (due s n) prev d around p c v t z → Walked b items (due s₀ n₀) prev₀ d₀ around₀ p₀ c₀ v t₀ z
+    (d around p c : ℕ) (t : Tables) (pend : ℕ) : Type 0 where
+  pub then : {v : Walk} {z : Tables} → Walked b items (due s n) prev d around p c v t z → Walked b items (due s₀ n₀) prev₀ d₀ around₀ p₀ c₀ v t₀ (settled pend v z)
 
 -- where a level begins there is no key before
-pub begins : (b : List ℕ) (items : ℕ) (s : Slot) (n d around p c : ℕ) (t : Tables) → Leads b items s n [] d around p c t s n (keyOf (part b 0 0)) d around p c t
+pub begins : (b : List ℕ) (items : ℕ) (s : Slot) (n d around p c : ℕ) (t : Tables) → Leads b items s n [] d around p c t s n (keyOf (part b 0 0)) d around p c t 0
 unfolding keyOf getHead
-begins b items s n d around p c t = record { then = λ w. w }
+begins b items s n d around p c t = record { then = λ {v} w. go v w }
+  where
+    go : (v : Walk) {z : Tables} → Walked b items (due s n) [] d around p c v t z → Walked b items (due s n) [] d around p c v t (settled 0 v z)
+    go (Read q e) w = w
+    go (Refused r x) w = w
 
 -- the bytes of a key are its head's and its string's
 pub key-part : (b : List ℕ) → all isByte b ≡ true → (left : ℕ) (s : Slot) (prev : List ℕ) (d p k a q : ℕ) (h : Took b p left d s prev k a q)
@@ -75,8 +84,8 @@ key-span b rising f t p q kb e = e refl
 key-span b filled f t p q kb e = refl
 
 module _ (b : List ℕ) (bs : all isByte b ≡ true) (items : ℕ) (s₀ : Slot) (n₀ : ℕ) (prev₀ : List ℕ) (d₀ around₀ p₀ c₀ : ℕ) (t₀ : Tables)
-    (i n f t d around p c : ℕ) (tab : Tables) (v : IsSlot i)
-    (lead : Leads b items s₀ n₀ prev₀ d₀ around₀ p₀ c₀ t₀ (slotOf i) n (keyOf (part b f t)) d around p c tab)
+    (i n f t d around p c : ℕ) (tab : Tables) (pend : ℕ) (v : IsSlot i)
+    (lead : Leads b items s₀ n₀ prev₀ d₀ around₀ p₀ c₀ t₀ (slotOf i) n (keyOf (part b f t)) d around p c tab pend)
     {x : Step} (e : x ≡ stepAt b p (slotOf i) (keyOf (part b f t)) (items - c) d) where
   -- the head is refused
   pub halts : {r y : ℕ} → x ≡ step.Refused r y → {w : Walk} → w ≡ stoppedOf x → {z : Tables} → Walked b items (due s₀ n₀) prev₀ d₀ around₀ p₀ c₀ w t₀ z
@@ -114,7 +123,7 @@ module _ (b : List ℕ) (bs : all isByte b ≡ true) (items : ℕ) (s₀ : Slot)
 
       -- what follows the item ends the level
       item : {u : Walk} {z : Tables} → Walked b items (rule (slotOf i) .next (tk .lead .arg) n) (prevAfter (slotOf i) (keyOf (part b f t)) (tk .lead) (tk .str)) d around q₁ e₁ u tab₂ z
-          → Walked b items (due s₀ n₀) prev₀ d₀ around₀ p₀ c₀ u t₀ z
+          → Walked b items (due s₀ n₀) prev₀ d₀ around₀ p₀ c₀ u t₀ (settled pend u z)
       item y =
           lead .then (onward b bs items (slotOf i) n (keyOf (part b f t)) d around p c k a q₀ tk i reference-is taken at (rw g at walked) (put ∙ rw (number-slot i v, head-is)) fill own y)
 
@@ -122,15 +131,16 @@ module _ (b : List ℕ) (bs : all isByte b ≡ true) (items : ℕ) (s₀ : Slot)
         next-is : levelOf nx ≡ rule (slotOf i) .next (tk .lead .arg) n
         next-is = rw (nn, tk .arg-is) (next-right i k a n v kk fit .level)
 
-        pub ends : nx ≡ Done → q₁ ≤ length b → e₁ ≤ items → Walked b items (due s₀ n₀) prev₀ d₀ around₀ p₀ c₀ (Read q₁ e₁) t₀ tab₂
-        ends z h h′ =
-            item (rw (← next-is, z) (ended b items _ d around q₁ e₁ tab₂ h h′))
+        pub ends : nx ≡ Done → q₁ ≤ length b → e₁ ≤ items → {refs : List ℕ} → refs ≡ references.ended (tab₂ .references) pend q₁
+            → Walked b items (due s₀ n₀) prev₀ d₀ around₀ p₀ c₀ (Read q₁ e₁) t₀ (both (tab₂ .items) refs)
+        ends z h h′ all =
+            rw all (item (rw (← next-is, z) (ended b items _ d around q₁ e₁ tab₂ h h′)))
 
         pub next-slotted : {j m′ : ℕ} → nx ≡ Due j m′ → IsSlot j
         next-slotted z = let s = next-right i k a n v kk fit .slotted in rw (← nn, z) at s
 
         pub again : {j m′ : ℕ} → nx ≡ Due j m′ → {f′ t′ : ℕ} → f′ ≡ keySpan (rule (slotOf i) .extra) f p → t′ ≡ keySpan (rule (slotOf i) .extra) t q₀
-            → Leads b items s₀ n₀ prev₀ d₀ around₀ p₀ c₀ t₀ (slotOf j) m′ (keyOf (part b f′ t′)) d around q₁ e₁ tab₂
+            → Leads b items s₀ n₀ prev₀ d₀ around₀ p₀ c₀ t₀ (slotOf j) m′ (keyOf (part b f′ t′)) d around q₁ e₁ tab₂ pend
         again {j} {m′} z {f′} {t′} ef et =
             let kp : rule (slotOf i) .extra ≡ rising → keyBytes (tk .lead) (tk .str) ≡ keyOf (part b p q₀) = λ o.
             key-part b bs (items - c) (slotOf i) (keyOf (part b f t)) d p k a q₀ tk (ordered-kind (slotOf i) (tk .lead .kind) (tk .lead .arg) o (tk .passed .fitting)) in

@@ -17,7 +17,7 @@ use Rattle.grammar.specs.Code.{slotOf, IsSlot, extraOf, nextCode}
 use Rattle.grammar.proofs.Right.{extra-right}
 use Rattle.grammar.proofs.TableWays.{below-containers}
 use Rattle.item_table.specs.Entries.{packed, headBy, referenceBy}
-use Rattle.item_table.specs.References.{placeFor, reservedFor}
+use Rattle.item_table.specs.References.{placeFor, reservedFor, ended}
 use Rattle.item_table.proofs.Entries.{leaf-head, not-array}
 use Rattle.reader.specs.declared.Step.{Step}
 use Rattle.reader.specs.declared.Step.the-variants.{Taken}
@@ -55,8 +55,8 @@ pub ruleset plain-ways = (plain-below, plain-above)
 
 -- The turn that such a head ends: its level, or what is due next.
 module _ (b : List ℕ) (bs : all isByte b ≡ true) (items : ℕ) (s₀ : Slot) (n₀ : ℕ) (prev₀ : List ℕ) (d₀ around₀ p₀ c₀ : ℕ) (t₀ : Tables)
-    (i n f t d around p c : ℕ) (tab refs : List ℕ) (v : IsSlot i)
-    (lead : Leads b items s₀ n₀ prev₀ d₀ around₀ p₀ c₀ t₀ (slotOf i) n (keyOf (part b f t)) d around p c (both tab refs))
+    (i n f t d around p c : ℕ) (tab refs : List ℕ) (pend : ℕ) (v : IsSlot i)
+    (lead : Leads b items s₀ n₀ prev₀ d₀ around₀ p₀ c₀ t₀ (slotOf i) n (keyOf (part b f t)) d around p c (both tab refs) pend)
     {x : Step} (e : x ≡ stepAt b p (slotOf i) (keyOf (part b f t)) (items - c) d) (h : Bounded b p c items d i x) {k a q₀ : ℕ} (q : x ≡ Taken k a q₀)
     {r : Bool} (y : r ≡ (ltb k 4 && eqb (extraOf i) 0)) (u : r ≡ true) {tab₂ : List ℕ} (put : tab₂ ≡ set tab c (packed p q₀ around i 0))
     {nx : Next} (nn : nx ≡ nextCode i a n) where
@@ -76,14 +76,14 @@ module _ (b : List ℕ) (bs : all isByte b ≡ true) (items : ℕ) (s₀ : Slot)
   no-place : 0 ≡ placeFor i k a refs
   no-place = rw (← no-reference)
 
-  pub plain-ends : nx ≡ Done → Walked b items (due s₀ n₀) prev₀ d₀ around₀ p₀ c₀ (Read q₀ (c + 1)) t₀ (both tab₂ refs)
-  plain-ends z =
-      ends b bs items s₀ n₀ prev₀ d₀ around₀ p₀ c₀ t₀ i n f t d around p c (both tab refs) v lead e q nothing refl {tab₂ = both tab₂ refs} as-it-was no-place kept refl (taken-kind b p c items d i h q) (taken-fits b p c items d i h q) nn z (taken-in b p c items d i h q) (taken-more b p c items d i h q)
+  pub plain-ends : nx ≡ Done → {refs₂ : List ℕ} → refs₂ ≡ ended refs pend q₀ → Walked b items (due s₀ n₀) prev₀ d₀ around₀ p₀ c₀ (Read q₀ (c + 1)) t₀ (both tab₂ refs₂)
+  plain-ends z all =
+      ends b bs items s₀ n₀ prev₀ d₀ around₀ p₀ c₀ t₀ i n f t d around p c (both tab refs) pend v lead e q nothing refl {tab₂ = both tab₂ refs} as-it-was no-place kept refl (taken-kind b p c items d i h q) (taken-fits b p c items d i h q) nn z (taken-in b p c items d i h q) (taken-more b p c items d i h q) all
 
   pub plain-slotted : {j m : ℕ} → nx ≡ Due j m → IsSlot j
   plain-slotted z =
-      next-slotted b bs items s₀ n₀ prev₀ d₀ around₀ p₀ c₀ t₀ i n f t d around p c (both tab refs) v lead e q nothing refl {tab₂ = both tab₂ refs} as-it-was no-place kept refl (taken-kind b p c items d i h q) (taken-fits b p c items d i h q) nn z
+      next-slotted b bs items s₀ n₀ prev₀ d₀ around₀ p₀ c₀ t₀ i n f t d around p c (both tab refs) pend v lead e q nothing refl {tab₂ = both tab₂ refs} as-it-was no-place kept refl (taken-kind b p c items d i h q) (taken-fits b p c items d i h q) nn z
 
-  pub plain-again : {j m : ℕ} → nx ≡ Due j m → Leads b items s₀ n₀ prev₀ d₀ around₀ p₀ c₀ t₀ (slotOf j) m (keyOf (part b f t)) d around q₀ (c + 1) (both tab₂ refs)
+  pub plain-again : {j m : ℕ} → nx ≡ Due j m → Leads b items s₀ n₀ prev₀ d₀ around₀ p₀ c₀ t₀ (slotOf j) m (keyOf (part b f t)) d around q₀ (c + 1) (both tab₂ refs) pend
   plain-again z =
-      again b bs items s₀ n₀ prev₀ d₀ around₀ p₀ c₀ t₀ i n f t d around p c (both tab refs) v lead e q nothing refl {tab₂ = both tab₂ refs} as-it-was no-place kept refl (taken-kind b p c items d i h q) (taken-fits b p c items d i h q) nn z (plain-span i k y u f p) (plain-span i k y u t q₀)
+      again b bs items s₀ n₀ prev₀ d₀ around₀ p₀ c₀ t₀ i n f t d around p c (both tab refs) pend v lead e q nothing refl {tab₂ = both tab₂ refs} as-it-was no-place kept refl (taken-kind b p c items d i h q) (taken-fits b p c items d i h q) nn z (plain-span i k y u f p) (plain-span i k y u t q₀)

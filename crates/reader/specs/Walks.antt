@@ -68,10 +68,11 @@ abbrev pub Opens : Next → ℕ → Type 0
 Opens next.Done d = Unit {0}
 Opens (next.Due i n) d = IsSlot i × (0 < d)
 
--- what is due inside a head behind which nothing is due at the slot, where the table of items has no room for its entry and that of references no place
+-- what is due inside a head behind which nothing is due at the slot, where the table of items has no room for its entry; its place in that of references,
+-- if it takes one, fits a word
 abbrev pub LastShown : ℕ → ℕ → ℕ → ℕ → ℕ → ℕ → Next → Next → Type 0
 LastShown i a n room c taken inner next.Done = Unit {0}
-LastShown i a n room c taken inner (next.Due j m) = (inner ≡ next.Due j m) × (nextCode i a n ≡ next.Done) × (room ≤ c) × (taken ≡ 0)
+LastShown i a n room c taken inner (next.Due j m) = (inner ≡ next.Due j m) × (nextCode i a n ≡ next.Done) × (room ≤ c) × (taken < 65536)
 
 -- one head, as a walk over it alone
 abbrev pub headWalk : Step → Walk

@@ -1,6 +1,6 @@
 // The reading: one walk over the input, head by head, in the order of the tests. The walk may keep a table of the items.
 ghost use mathlib.Core.Path.{_≡_};
-ghost use mathlib.Core.Bool.{Bool, true, false, not, _&&_};
+ghost use mathlib.Core.Bool.{Bool, true, false, not, _&&_, cond};
 ghost use Prim.Native.Nat.{_+_, _-_, _*_, _^_, _<_, _≤_};
 ghost use lib.ListN.{length, set};
 ghost use lib.Dec.{ltb, eqb};
@@ -390,8 +390,8 @@ fn is_quick(s: &[u8], at: usize, slot: u64, count: usize, items: usize) -> bool
     grammar::takes_number(slot, s[at])
 }
 
-// What is inside a container that is the last of its level, where it has no room in the table of items and no place in that of references: then nothing
-// is left to do behind it, and the walk goes on inside with no call.
+// What is inside a container that is the last of its level, where it has no room in the table of items: then the walk goes on inside with no call. Behind it
+// nothing is left to do but to end it in the table of references, where its word can name the one that waited before.
 fn last_inside(
     slot: u64,
     word: u64,
@@ -411,7 +411,7 @@ fn last_inside(
     if count < room {
         return grammar::Next::Done;
     }
-    if taken != 0 {
+    if 65535 < taken {
         return grammar::Next::Done;
     }
     let n = next_at(slot, word, arg, more);
@@ -419,6 +419,16 @@ fn last_inside(
         grammar::Next::Done => grammar::Next::Due { slot: a, more: b },
         grammar::Next::Due { slot: _, more: _ } => grammar::Next::Done,
     }
+}
+
+// The last reference that waits for its end, after a head that took this place or none.
+fn latest(taken: usize, pending: usize) -> usize
+    ensures { λ r. ⌜ r ≡ cond (eqb taken 0) pending taken ⌝ }
+{
+    if taken == 0 {
+        return pending;
+    }
+    taken
 }
 
 // What is due inside a head: nothing, or a level that is walked with a container more around it.
@@ -455,7 +465,8 @@ fn walk_inside(
     }
 }
 
-// The items of a level from the slot on, leaves in the loop, a call for each container but one that `last_inside` goes on with.
+// The items of a level from the slot on, leaves in the loop, a call for each container but one that `last_inside` goes on with. References among those
+// wait for their end, each with the place of the one before in its word.
 fn walk_level(
     s: &[u8],
     at: usize,
@@ -478,12 +489,14 @@ fn walk_level(
     let mut prev = Span { from: 0, to: 0 };
     let mut allowed = depth;
     let mut opened = around;
+    let mut pending = 0;
     loop {
         let word = grammar::walk_word(place);
         if is_quick(s, p, place, c, items) {
             item_table::put_plain(entries, c, p, p + 1, opened, place);
             let n = next_at(place, word, wide(s[p]) % 32, left);
             let grammar::Next::Due { slot: a, more: b } = n else {
+                item_table::end_all(references, pending, p + 1);
                 return Walk::Read {
                     next: p + 1,
                     count: c + 1,
@@ -503,6 +516,7 @@ fn walk_level(
             item_table::put_plain(entries, c, p, after, opened, place);
             let n = next_at(place, word, arg, left);
             let grammar::Next::Due { slot: a, more: b } = n else {
+                item_table::end_all(references, pending, after);
                 return Walk::Read {
                     next: after,
                     count: c + 1,
@@ -518,6 +532,8 @@ fn walk_level(
         let taken = item_table::reserve(references, place, kind, arg);
         let last = last_inside(place, word, arg, left, entries.len(), c, taken, inner);
         if let grammar::Next::Due { slot: a, more: b } = last {
+            item_table::fill(references, taken, p, pending, opened, place, after - p);
+            pending = latest(taken, pending);
             p = after;
             c = c + 1;
             place = a;
@@ -547,6 +563,7 @@ fn walk_level(
         prev = key_by(place, extra_at(place, word), prev, p, after);
         let n = next_at(place, word, arg, left);
         let grammar::Next::Due { slot: a, more: b } = n else {
+            item_table::end_all(references, pending, q);
             return Walk::Read { next: q, count: e };
         };
         p = q;

@@ -18,7 +18,7 @@ use Rattle.reader.proofs.Bounds.{bounds, inside-due, none-due, level-du
 use Rattle.reader.proofs.Loop.{Leads, breaks, ends, again, next-slotted, turns}
 use Rattle.reader.proofs.Plain.{plain-ends, plain-slotted, plain-again}
 use Rattle.reader.proofs.Quick.{number-step, number-shown, number-plain}
-use Rattle.reader.proofs.Last.{last-due, last-opens, goes-inside, fewer}
+use Rattle.reader.proofs.Last.{last-due, last-opens, goes-inside, goes-waiting, waits-behind, fewer}
 use Rattle.reader.proofs.walk_inside.Reads as walk-inside
 use Rattle.reader.proofs.walk_inside.Kinds as walk-inside-kinds
 use Rattle.reader.proofs.+walk_inside+walk_level.Lts-walk_inside as walk-inside-lts
@@ -27,6 +27,8 @@ use Rattle.reader.proofs.walk_level.Kinds as walk-level-kinds
 use Rattle.reader.proofs.+walk_inside+walk_level.Lts-walk_level as walk-level-lts
 use Rattle.grammar.proofs.inside.Reads as inside-reads
 use Rattle.grammar.proofs.walk_word.Reads as walk-word-reads
+use Rattle.item_table.proofs.References.{Pending, none-waits}
+use Rattle.item_table.proofs.end_all.Reads as end-all-reads
 use Rattle.item_table.proofs.fill.Reads as fill-reads
 use Rattle.item_table.proofs.put.Reads as put-reads
 use Rattle.item_table.proofs.put_plain.Reads as put-plain-reads
@@ -36,6 +38,7 @@ use Rattle.reader.proofs.is_plain.Reads as is-plain-reads
 use Rattle.reader.proofs.is_quick.Reads as is-quick-reads
 use Rattle.reader.proofs.key_by.Reads as key-by-reads
 use Rattle.reader.proofs.last_inside.Reads as last-inside-reads
+use Rattle.reader.proofs.latest.Reads as latest-reads
 use Rattle.reader.proofs.next_at.Reads as next-at-reads
 use Rattle.reader.proofs.same_walk.Reads as same-walk-reads
 use Rattle.reader.proofs.stopped.Reads as stopped-reads
@@ -67,14 +70,14 @@ walk-level-below t =
     and 3 walk-level-kinds.ps (falls 3 walk-level-kinds.ps _<_ μ-walk-level t) walk-level.Pre
 
 abbrev walk-level-Inv-loop : walk-level-lts.InvT-loop
-walk-level-Inv-loop s at count items depth around slot more table₀ refs₀ p₀ c₀ place₀ left₀ prev₀ allowed₀ opened₀ table refs p c place left prev allowed opened =
-    Leads s items (slotOf slot) more [] depth around at count (both table₀ refs₀) (slotOf place) left (keyOf (part s (prev .from) (prev .to))) allowed opened p c (both table refs)
+walk-level-Inv-loop s at count items depth around slot more table₀ refs₀ p₀ c₀ place₀ left₀ prev₀ allowed₀ opened₀ pending₀ table refs p c place left prev allowed opened pending =
+    Leads s items (slotOf slot) more [] depth around at count (both table₀ refs₀) (slotOf place) left (keyOf (part s (prev .from) (prev .to))) allowed opened p c (both table refs) pending
     × IsSlot place × (prev .from ≤ prev .to) × (prev .to ≤ length s) × (p ≤ length s) × (c ≤ items) × (length table ≡ length table₀)
     × (all isByte s ≡ true) × (allowed + opened < 2 ^ 64) × (allowed ≤ depth)
-    × (length refs ≡ length refs₀)
+    × (length refs ≡ length refs₀) × Pending pending refs
 
 abbrev walk-level-μ-loop : walk-level-lts.MeasureT-loop
-walk-level-μ-loop s at count items depth around slot more table₀ refs₀ p₀ c₀ place₀ left₀ prev₀ allowed₀ opened₀ table refs p c place left prev allowed opened = length s - p
+walk-level-μ-loop s at count items depth around slot more table₀ refs₀ p₀ c₀ place₀ left₀ prev₀ allowed₀ opened₀ pending₀ table refs p c place left prev allowed opened pending = length s - p
 
 pub +walk-inside+walk-level-spec : {M : Type 1} → statement M
 +walk-inside+walk-level-spec = close μ-walk-inside μ-walk-level (λ t. walk-inside-lts.spec (walk-level-below t, walk-level.Post)
@@ -83,12 +86,12 @@ pub +walk-inside+walk-level-spec : {M : Type 1} → statement M
     (λ c. search needs) (λ c. search needs) (λ c. search (inside-due, needs)) (λ c. search (one-fits, inside-due, needs))
     (λ c κs. (search (less-deep, inside-due, needs), (search needs, search (one-in, inside-due, needs), search (inside-due, needs), search needs, search needs)))
     (λ c. search (none-due, needs)) (λ c. search needs) (λ c. search needs) (λ c. search (level-due, needs)))
-    λ t. walk-level-lts.spec (walk-word-reads.Asked, walk-word-reads.Learnt, is-quick-reads.Asked, is-quick-reads.Learnt, put-plain-reads.Asked, put-plain-reads.Learnt, wide-reads.Asked, wide-reads.Learnt, next-at-reads.Asked, next-at-reads.Learnt, take-head-reads.Asked, take-head-reads.Learnt, stopped-reads.Asked, stopped-reads.Learnt, is-plain-reads.Asked, is-plain-reads.Learnt, inside-reads.Asked, inside-reads.Learnt, reserve-reads.Asked, reserve-reads.Learnt, last-inside-reads.Asked, last-inside-reads.Learnt, walk-inside-below t, walk-inside.Post, same-walk-reads.Asked, same-walk-reads.Learnt, put-reads.Asked, put-reads.Learnt, fill-reads.Asked, fill-reads.Learnt, extra-at-reads.Asked, extra-at-reads.Learnt, key-by-reads.Asked, key-by-reads.Learnt)
+    λ t. walk-level-lts.spec (walk-word-reads.Asked, walk-word-reads.Learnt, is-quick-reads.Asked, is-quick-reads.Learnt, put-plain-reads.Asked, put-plain-reads.Learnt, wide-reads.Asked, wide-reads.Learnt, next-at-reads.Asked, next-at-reads.Learnt, end-all-reads.Asked, end-all-reads.Learnt, take-head-reads.Asked, take-head-reads.Learnt, stopped-reads.Asked, stopped-reads.Learnt, is-plain-reads.Asked, is-plain-reads.Learnt, inside-reads.Asked, inside-reads.Learnt, reserve-reads.Asked, reserve-reads.Learnt, last-inside-reads.Asked, last-inside-reads.Learnt, fill-reads.Asked, fill-reads.Learnt, latest-reads.Asked, latest-reads.Learnt, walk-inside-below t, walk-inside.Post, same-walk-reads.Asked, same-walk-reads.Learnt, put-reads.Asked, put-reads.Learnt, extra-at-reads.Asked, extra-at-reads.Learnt, key-by-reads.Asked, key-by-reads.Learnt)
     (walk-level-at t)
     walk-level.Post
     walk-level-Inv-loop
     walk-level-μ-loop
-    (λ c. (search turns, search needs, search needs, search needs, search needs, search needs, search needs, search needs, search needs, search needs, search needs))
+    (λ c. (search turns, search needs, search needs, search needs, search needs, search needs, search needs, search needs, search needs, search needs, search needs, none-waits _))
     (λ c κs. search needs) (λ c κs. search needs)
     (λ c. let h = c .before .before .is-quick .ensures (c .before .if1 .taken) in
     let t = h .there in search needs)
@@ -96,19 +99,23 @@ pub +walk-inside+walk-level-spec : {M : Type 1} → statement M
     (λ c. let h = c .before .before .before .before .before .before .is-quick .ensures (c .before .before .before .before .before .if1 .taken) in
     h .there)
     (λ c κs. search needs) (λ c κs. search needs) (λ c. search needs) (λ c. search needs)
-    (λ c. let h = c .before .before .before .before .before .before .before .before .before .before .is-quick .ensures (c .before .before .before .before .before .before .before .before .before .if1 .taken) in
+    (λ c. let h = c .before .before .before .before .before .before .before .before .before .before .before .is-quick .ensures (c .before .before .before .before .before .before .before .before .before .before .if1 .taken) in
     let t = h .there in search needs)
-    (λ c. let h = c .before .before .before .before .before .before .before .before .before .before .is-quick .ensures (c .before .before .before .before .before .before .before .before .before .if1 .taken) in
+    (λ c κs. search needs)
+    (λ c. let h = c .before .before .before .before .before .before .before .before .before .before .before .before .before .before .is-quick .ensures (c .before .before .before .before .before .before .before .before .before .before .before .before .before .if1 .taken) in
+    let t = h .there in search needs)
+    (λ c. let h = c .before .before .before .before .before .before .before .before .before .before .before .before .before .before .is-quick .ensures (c .before .before .before .before .before .before .before .before .before .before .before .before .before .if1 .taken) in
     let t = h .few in search needs)
-    (λ c. search needs) (λ c. search needs)
-    (λ c. let l = c .before .before .before .before .before .before .before .before .before .before .before .before .loop .inv in
-    let sp = c .before .before .before .before .before .before .before .before .before .before .before .before .loop .prev in
-    let h = c .before .before .before .before .before .before .before .before .before .before .is-quick .ensures (c .before .before .before .before .before .before .before .before .before .if1 .taken) in
-    let w = c .before .before .before .wide .ensures in
-    let step = number-step _ (l .7) _ _ _ _ h w (keyOf (part _ (sp .from) (sp .to))) (c .before .before .before .before .before .before .before .before .before .before .before .before .loop .allowed) in
-    let shown = number-shown _ (l .7) _ _ _ _ h w (c .before .before .before .before .before .before .before .before .before .before .before .before .loop .allowed) in
+    (λ c. search needs)
+    (λ c. omega (arith, c .before .before .end-all .kept .0, c .before .before .before .before .before .before .before .before .before .before .before .before .before .before .before .before .loop .inv .10))
+    (λ c. let l = c .before .before .before .before .before .before .before .before .before .before .before .before .before .before .before .before .loop .inv in
+    let sp = c .before .before .before .before .before .before .before .before .before .before .before .before .before .before .before .before .loop .prev in
+    let h = c .before .before .before .before .before .before .before .before .before .before .before .before .before .before .is-quick .ensures (c .before .before .before .before .before .before .before .before .before .before .before .before .before .if1 .taken) in
+    let w = c .before .before .before .before .before .before .before .wide .ensures in
+    let step = number-step _ (l .7) _ _ _ _ h w (keyOf (part _ (sp .from) (sp .to))) (c .before .before .before .before .before .before .before .before .before .before .before .before .before .before .before .before .loop .allowed) in
+    let shown = number-shown _ (l .7) _ _ _ _ h w (c .before .before .before .before .before .before .before .before .before .before .before .before .before .before .before .before .loop .allowed) in
     let plain = number-plain _ (l .7) _ _ _ _ h w in
-    (plain-ends _ (l .7) _ _ _ _ _ _ _ _ _ _ _ (sp .from) (sp .to) _ _ _ _ _ _ (l .1) (l .0) step shown refl plain refl (c .before .before .before .before .before .before .before .put-plain .ensures) (c .before .before .next-at .ensures) (search needs)))
+    (plain-ends _ (l .7) _ _ _ _ _ _ _ _ _ _ _ (sp .from) (sp .to) _ _ _ _ _ _ _ (l .1) (l .0) step shown refl plain refl (c .before .before .before .before .before .before .before .before .before .before .before .put-plain .ensures) (c .before .before .before .before .before .before .next-at .ensures) (search needs) (c .before .before .end-all .ensures)))
     (λ c. let h = c .before .before .before .before .before .before .before .before .before .before .before .is-quick .ensures (c .before .before .before .before .before .before .before .before .before .before .if1 .taken) in
     let t = h .there in search needs)
     (λ c. let h = c .before .before .before .before .before .before .before .before .before .before .before .is-quick .ensures (c .before .before .before .before .before .before .before .before .before .before .if1 .taken) in
@@ -127,8 +134,8 @@ pub +walk-inside+walk-level-spec : {M : Type 1} → statement M
     let put = c .before .before .before .before .before .before .before .before .put-plain .ensures in
     let nn = c .before .before .before .next-at .ensures in
     let z = c .before .n .given .1 in (
-      plain-again _ (l .7) _ _ _ _ _ _ _ _ _ _ _ (sp .from) (sp .to) _ _ _ _ _ _ (l .1) (l .0) step shown refl plain refl put nn z,
-      plain-slotted _ (l .7) _ _ _ _ _ _ _ _ _ _ _ (sp .from) (sp .to) _ _ _ _ _ _ (l .1) (l .0) step shown refl plain refl put nn z,
+      plain-again _ (l .7) _ _ _ _ _ _ _ _ _ _ _ (sp .from) (sp .to) _ _ _ _ _ _ _ (l .1) (l .0) step shown refl plain refl put nn z,
+      plain-slotted _ (l .7) _ _ _ _ _ _ _ _ _ _ _ (sp .from) (sp .to) _ _ _ _ _ _ _ (l .1) (l .0) step shown refl plain refl put nn z,
       l .2,
       l .3,
       shown .1,
@@ -138,18 +145,21 @@ pub +walk-inside+walk-level-spec : {M : Type 1} → statement M
       l .8,
       l .9,
       l .10,
+      l .11,
     ))
     (λ c κs. search needs) (λ c. search needs) (λ c. search needs) (λ c κs. search needs) (λ c. search needs) (λ c. search needs)
     (λ c. search (turns, needs)) (λ c κs. search needs) (λ c κs. search needs) (λ c κs. search needs) (λ c. search needs) (λ c. search needs)
-    (λ c. let h = c .before .before .before .before .before .before .before .before .before .before .before .before .take-head .ensures in
-    let q = c .before .before .before .before .before .before .before .before .before .before .t .given .1 in
-    taken-few-fits _ _ _ _ _ _ (h .1) q (c .before .before .before .before .before .before .before .before .before .before .before .before .before .before .before .before .before .before .before .before .fits .items))
-    (λ c. search needs) (λ c. search needs)
-    (λ c. let l = c .before .before .before .before .before .before .before .before .before .before .before .before .before .before .before .before .loop .inv in
-    let sp = c .before .before .before .before .before .before .before .before .before .before .before .before .before .before .before .before .loop .prev in
-    let h = c .before .before .before .before .before .before .before .before .before .before .before .before .take-head .ensures in
-    let q = c .before .before .before .before .before .before .before .before .before .before .t .given .1 in
-    (plain-ends _ (l .7) _ _ _ _ _ _ _ _ _ _ _ (sp .from) (sp .to) _ _ _ _ _ _ (l .1) (l .0) (h .0) (h .1) q (c .before .before .before .before .before .before .before .before .is-plain .ensures) (c .before .before .before .before .before .before .before .if2 .taken) (c .before .before .before .before .before .put-plain2 .ensures) (c .before .before .next-at2 .ensures) (search needs)))
+    (λ c κs. search needs)
+    (λ c. let h = c .before .before .before .before .before .before .before .before .before .before .before .before .before .before .before .before .take-head .ensures in
+    let q = c .before .before .before .before .before .before .before .before .before .before .before .before .before .before .t .given .1 in
+    taken-few-fits _ _ _ _ _ _ (h .1) q (c .before .before .before .before .before .before .before .before .before .before .before .before .before .before .before .before .before .before .before .before .before .before .before .before .fits .items))
+    (λ c. search needs)
+    (λ c. omega (arith, c .before .before .end-all2 .kept .0, c .before .before .before .before .before .before .before .before .before .before .before .before .before .before .before .before .before .before .before .before .loop .inv .10))
+    (λ c. let l = c .before .before .before .before .before .before .before .before .before .before .before .before .before .before .before .before .before .before .before .before .loop .inv in
+    let sp = c .before .before .before .before .before .before .before .before .before .before .before .before .before .before .before .before .before .before .before .before .loop .prev in
+    let h = c .before .before .before .before .before .before .before .before .before .before .before .before .before .before .before .before .take-head .ensures in
+    let q = c .before .before .before .before .before .before .before .before .before .before .before .before .before .before .t .given .1 in
+    (plain-ends _ (l .7) _ _ _ _ _ _ _ _ _ _ _ (sp .from) (sp .to) _ _ _ _ _ _ _ (l .1) (l .0) (h .0) (h .1) q (c .before .before .before .before .before .before .before .before .before .before .before .before .is-plain .ensures) (c .before .before .before .before .before .before .before .before .before .before .before .if2 .taken) (c .before .before .before .before .before .before .before .before .before .put-plain2 .ensures) (c .before .before .before .before .before .before .next-at2 .ensures) (search needs) (c .before .before .end-all2 .ensures)))
     (λ c. let h = c .before .before .before .before .before .before .before .before .before .before .before .before .before .take-head .ensures in
     let q = c .before .before .before .before .before .before .before .before .before .before .before .t .given .1 in
     taken-few-fits _ _ _ _ _ _ (h .1) q (c .before .before .before .before .before .before .before .before .before .before .before .before .before .before .before .before .before .before .before .before .before .fits .items))
@@ -165,8 +175,8 @@ pub +walk-inside+walk-level-spec : {M : Type 1} → statement M
     let put = c .before .before .before .before .before .before .put-plain2 .ensures in
     let nn = c .before .before .before .next-at2 .ensures in
     let z = c .before .n2 .given .1 in (
-      plain-again _ (l .7) _ _ _ _ _ _ _ _ _ _ _ (sp .from) (sp .to) _ _ _ _ _ _ (l .1) (l .0) (h .0) (h .1) q plain taken put nn z,
-      plain-slotted _ (l .7) _ _ _ _ _ _ _ _ _ _ _ (sp .from) (sp .to) _ _ _ _ _ _ (l .1) (l .0) (h .0) (h .1) q plain taken put nn z,
+      plain-again _ (l .7) _ _ _ _ _ _ _ _ _ _ _ (sp .from) (sp .to) _ _ _ _ _ _ _ (l .1) (l .0) (h .0) (h .1) q plain taken put nn z,
+      plain-slotted _ (l .7) _ _ _ _ _ _ _ _ _ _ _ (sp .from) (sp .to) _ _ _ _ _ _ _ (l .1) (l .0) (h .0) (h .1) q plain taken put nn z,
       l .2,
       l .3,
       taken-in _ _ _ _ _ _ (h .1) q,
@@ -176,37 +186,42 @@ pub +walk-inside+walk-level-spec : {M : Type 1} → statement M
       l .8,
       l .9,
       l .10,
+      l .11,
     ))
     (λ c κs. search needs) (λ c κs. search needs) (λ c κs. search needs) (λ c. search needs)
-    (λ c. let h = c .before .before .before .before .before .before .before .before .before .before .before .before .before .before .take-head .ensures in
-    let q = c .before .before .before .before .before .before .before .before .before .before .before .before .t .given .1 in
-    taken-few-fits _ _ _ _ _ _ (h .1) q (c .before .before .before .before .before .before .before .before .before .before .before .before .before .before .before .before .before .before .before .before .before .before .fits .items))
-    (λ c. let h = c .before .before .before .before .before .before .before .before .before .before .before .before .before .before .take-head .ensures in
-    let q = c .before .before .before .before .before .before .before .before .before .before .before .before .t .given .1 in
-    let i = c .before .before .before .before .before .before .before .before .inside .ensures in
-    let shown = c .before .before .before .last-inside .ensures in
-    let z = c .before .last .given .1 in
+    (λ c. let h = c .before .before .before .before .before .before .before .before .before .before .before .before .before .before .before .take-head .ensures in
+    let q = c .before .before .before .before .before .before .before .before .before .before .before .before .before .t .given .1 in
+    le-of-lt (taken-on _ _ _ _ _ _ (h .1) q))
+    (λ c κs. search needs) (λ c κs. search needs)
+    (λ c. let h = c .before .before .before .before .before .before .before .before .before .before .before .before .before .before .before .before .before .before .before .take-head .ensures in
+    let q = c .before .before .before .before .before .before .before .before .before .before .before .before .before .before .before .before .before .t .given .1 in
+    taken-few-fits _ _ _ _ _ _ (h .1) q (c .before .before .before .before .before .before .before .before .before .before .before .before .before .before .before .before .before .before .before .before .before .before .before .before .before .before .before .fits .items))
+    (λ c. let h = c .before .before .before .before .before .before .before .before .before .before .before .before .before .before .before .before .before .before .before .take-head .ensures in
+    let q = c .before .before .before .before .before .before .before .before .before .before .before .before .before .before .before .before .before .t .given .1 in
+    let i = c .before .before .before .before .before .before .before .before .before .before .before .before .before .inside .ensures in
+    let shown = c .before .before .before .before .before .before .before .before .last-inside .ensures in
+    let z = c .before .before .before .before .before .before .last .given .1 in
     last-opens _ _ _ i _ _ _ _ shown z _ (taken-shallow _ _ _ _ _ _ (h .1) q))
-    (λ c. let l = c .before .before .before .before .before .before .before .before .before .before .before .before .before .before .before .before .before .before .loop .inv in
-    let h = c .before .before .before .before .before .before .before .before .before .before .before .before .before .before .take-head .ensures in
-    let q = c .before .before .before .before .before .before .before .before .before .before .before .before .t .given .1 in
-    let i = c .before .before .before .before .before .before .before .before .inside .ensures in
-    let shown = c .before .before .before .last-inside .ensures in
-    let z = c .before .last .given .1 in
+    (λ c. let l = c .before .before .before .before .before .before .before .before .before .before .before .before .before .before .before .before .before .before .before .before .before .before .before .loop .inv in
+    let h = c .before .before .before .before .before .before .before .before .before .before .before .before .before .before .before .before .before .before .before .take-head .ensures in
+    let q = c .before .before .before .before .before .before .before .before .before .before .before .before .before .before .before .before .before .t .given .1 in
+    let i = c .before .before .before .before .before .before .before .before .before .before .before .before .before .inside .ensures in
+    let shown = c .before .before .before .before .before .before .before .before .last-inside .ensures in
+    let z = c .before .before .before .before .before .before .last .given .1 in
     one-fits _ _ (last-opens _ _ _ i _ _ _ _ shown z _ (taken-shallow _ _ _ _ _ _ (h .1) q)) (l .8))
-    (λ c. let h = c .before .before .before .before .before .before .before .before .before .before .before .before .before .before .take-head .ensures in
-    let q = c .before .before .before .before .before .before .before .before .before .before .before .before .t .given .1 in
+    (λ c. let h = c .before .before .before .before .before .before .before .before .before .before .before .before .before .before .before .before .before .before .before .take-head .ensures in
+    let q = c .before .before .before .before .before .before .before .before .before .before .before .before .before .before .before .before .before .t .given .1 in
     falls-to _ _ _ (taken-on _ _ _ _ _ _ (h .1) q) (taken-in _ _ _ _ _ _ (h .1) q))
-    (λ c. let l = c .before .before .before .before .before .before .before .before .before .before .before .before .before .before .before .before .before .before .loop .inv in
-    let sp = c .before .before .before .before .before .before .before .before .before .before .before .before .before .before .before .before .before .before .loop .prev in
-    let h = c .before .before .before .before .before .before .before .before .before .before .before .before .before .before .take-head .ensures in
-    let q = c .before .before .before .before .before .before .before .before .before .before .before .before .t .given .1 in
-    let i = c .before .before .before .before .before .before .before .before .inside .ensures in
-    let y = c .before .before .before .before .before .before .reserve .ensures in
-    let shown = c .before .before .before .last-inside .ensures in
-    let z = c .before .last .given .1 in
+    (λ c. let l = c .before .before .before .before .before .before .before .before .before .before .before .before .before .before .before .before .before .before .before .before .before .before .before .loop .inv in
+    let sp = c .before .before .before .before .before .before .before .before .before .before .before .before .before .before .before .before .before .before .before .before .before .before .before .loop .prev in
+    let h = c .before .before .before .before .before .before .before .before .before .before .before .before .before .before .before .before .before .before .before .take-head .ensures in
+    let q = c .before .before .before .before .before .before .before .before .before .before .before .before .before .before .before .before .before .t .given .1 in
+    let i = c .before .before .before .before .before .before .before .before .before .before .before .before .before .inside .ensures in
+    let y = c .before .before .before .before .before .before .before .before .before .before .before .reserve .ensures in
+    let shown = c .before .before .before .before .before .before .before .before .last-inside .ensures in
+    let z = c .before .before .before .before .before .before .last .given .1 in
     let deep = last-opens _ _ _ i _ _ _ _ shown z _ (taken-shallow _ _ _ _ _ _ (h .1) q) in (
-      goes-inside _ (l .7) _ _ _ _ _ _ _ _ _ _ _ (sp .from) (sp .to) _ _ _ _ _ _ (l .1) (l .0) (h .0) (h .1) q i (y .0) (y .1) shown z,
+      goes-inside _ (l .7) _ _ _ _ _ _ _ _ _ _ _ (sp .from) (sp .to) _ _ _ _ _ _ _ (l .1) (l .0) (l .11) (h .0) (h .1) q i (y .0) (y .1) shown z (c .before .before .before .fill .ensures) (c .latest .ensures),
       inner-slot _ _ _ i (l .1) (last-due _ _ _ _ _ _ shown z),
       search needs,
       search needs,
@@ -216,7 +231,8 @@ pub +walk-inside+walk-level-spec : {M : Type 1} → statement M
       l .7,
       one-in _ _ deep (l .8),
       fewer _ _ (l .9),
-      omega (arith, c .before .before .before .before .before .before .reserve .kept .0, l .10),
+      omega (arith, c .before .before .before .fill .kept .0, c .before .before .before .before .before .before .before .before .before .before .before .reserve .kept .0, l .10),
+      goes-waiting _ (l .7) _ _ _ _ _ _ _ _ _ _ _ (sp .from) (sp .to) _ _ _ _ _ _ _ (l .1) (l .0) (l .11) (h .0) (h .1) q i (y .0) (y .1) shown z (c .before .before .before .fill .ensures) (c .latest .ensures),
     ))
     (λ c. search needs)
     (λ c. let h = c .before .before .before .before .before .before .before .before .before .before .before .before .before .take-head .ensures in
@@ -237,7 +253,7 @@ pub +walk-inside+walk-level-spec : {M : Type 1} → statement M
     let i = c .before .before .before .before .before .before .before .before .before .before .before .before .before .before .before .before .before .inside .ensures in
     let m = by-level _ _ _ i _ _ (c .before .before .before .before .before .before .before .before .before .before .before .before .before .before .before .before .before .before .before .before .before .before .before .before .before .before .before .loop .allowed) (c .before .before .before .before .before .before .before .before .before .before .before .before .before .before .before .before .before .before .before .before .before .before .before .before .before .before .before .loop .opened) _ _ (l .1) (c .before .before .before .before .before .before .before .walk-inside .ensures) in
     let g = c .before .enum-told5 .given .1 in
-    rw (c .same-walk .ensures) (breaks _ (l .7) _ _ _ _ _ _ _ _ _ _ _ (sp .from) (sp .to) _ _ _ _ _ (l .1) (l .0) (h .0) q m g))
+    rw (c .same-walk .ensures) (breaks _ (l .7) _ _ _ _ _ _ _ _ _ _ _ (sp .from) (sp .to) _ _ _ _ _ _ (l .1) (l .0) (h .0) q m g))
     (λ c. let h = c .before .before .before .before .before .before .before .before .before .before .before .before .before .before .before .before .before .before .before .before .before .before .before .take-head .ensures in
     let q = c .before .before .before .before .before .before .before .before .before .before .before .before .before .before .before .before .before .before .before .before .before .t .given .1 in
     le-of-lt (taken-on _ _ _ _ _ _ (h .1) q))
@@ -245,20 +261,20 @@ pub +walk-inside+walk-level-spec : {M : Type 1} → statement M
     (λ c κs. c .before .before .before .before .before .before .before .before .before .before .before .before .before .before .before .before .before .before .before .before .before .before .before .before .before .before .before .before .before .before .before .before .before .before .walk-word .ensures)
     (λ c κs. search needs)
     (λ c κs. c .before .before .before .before .before .before .before .before .before .before .before .before .before .before .before .before .before .before .before .before .before .before .before .before .before .before .before .before .before .before .before .before .before .before .before .before .walk-word .ensures)
-    (λ c. search needs) (λ c. search needs)
-    (λ c. omega (arith, c .before .before .before .before .before .before .before .before .before .before .before .put .kept .0, c .before .before .before .before .before .before .before .before .before .before .before .before .before .before .before .before .before .before .before .before .walk-inside .kept .1 .1 .1 .1 .1 .1 .1 .0, c .before .before .before .before .before .before .before .before .before .before .before .before .before .before .before .before .before .before .before .before .before .before .before .before .before .before .before .before .before .before .before .before .before .before .before .before .before .before .before .before .loop .inv .6))
-    (λ c. omega (arith, c .before .before .before .before .before .before .before .fill .kept .0, c .before .before .before .before .before .before .before .before .before .before .before .before .before .before .before .before .before .before .before .before .walk-inside .kept .1 .1 .1 .1 .1 .1 .1 .1 .0, c .before .before .before .before .before .before .before .before .before .before .before .before .before .before .before .before .before .before .before .before .before .before .before .before .before .before .before .before .reserve .kept .0, c .before .before .before .before .before .before .before .before .before .before .before .before .before .before .before .before .before .before .before .before .before .before .before .before .before .before .before .before .before .before .before .before .before .before .before .before .before .before .before .before .loop .inv .10))
-    (λ c. let l = c .before .before .before .before .before .before .before .before .before .before .before .before .before .before .before .before .before .before .before .before .before .before .before .before .before .before .before .before .before .before .before .before .before .before .before .before .before .before .before .before .loop .inv in
-    let sp = c .before .before .before .before .before .before .before .before .before .before .before .before .before .before .before .before .before .before .before .before .before .before .before .before .before .before .before .before .before .before .before .before .before .before .before .before .before .before .before .before .loop .prev in
-    let h = c .before .before .before .before .before .before .before .before .before .before .before .before .before .before .before .before .before .before .before .before .before .before .before .before .before .before .before .before .before .before .before .before .before .before .before .before .take-head .ensures in
-    let q = c .before .before .before .before .before .before .before .before .before .before .before .before .before .before .before .before .before .before .before .before .before .before .before .before .before .before .before .before .before .before .before .before .before .before .t .given .1 in
-    let i = c .before .before .before .before .before .before .before .before .before .before .before .before .before .before .before .before .before .before .before .before .before .before .before .before .before .before .before .before .before .before .inside .ensures in
-    let y = c .before .before .before .before .before .before .before .before .before .before .before .before .before .before .before .before .before .before .before .before .before .before .before .before .before .before .before .before .reserve .ensures in
-    let m = by-level _ _ _ i _ _ (c .before .before .before .before .before .before .before .before .before .before .before .before .before .before .before .before .before .before .before .before .before .before .before .before .before .before .before .before .before .before .before .before .before .before .before .before .before .before .before .before .loop .allowed) (c .before .before .before .before .before .before .before .before .before .before .before .before .before .before .before .before .before .before .before .before .before .before .before .before .before .before .before .before .before .before .before .before .before .before .before .before .before .before .before .before .loop .opened) _ _ (l .1) (c .before .before .before .before .before .before .before .before .before .before .before .before .before .before .before .before .before .before .before .before .walk-inside .ensures) in
-    let g = c .before .before .before .before .before .before .before .before .before .before .before .before .before .before .r .given .1 in
+    (λ c. search needs) (λ c. search needs) (λ c κs. search needs)
+    (λ c. omega (arith, c .before .before .before .before .before .before .before .before .before .before .before .before .before .before .before .put .kept .0, c .before .before .before .before .before .before .before .before .before .before .before .before .before .before .before .before .before .before .before .before .before .before .before .before .walk-inside .kept .1 .1 .1 .1 .1 .1 .1 .0, c .before .before .before .before .before .before .before .before .before .before .before .before .before .before .before .before .before .before .before .before .before .before .before .before .before .before .before .before .before .before .before .before .before .before .before .before .before .before .before .before .before .before .before .before .loop .inv .6))
+    (λ c. omega (arith, c .before .before .end-all3 .kept .0, c .before .before .before .before .before .before .before .before .before .before .before .fill2 .kept .0, c .before .before .before .before .before .before .before .before .before .before .before .before .before .before .before .before .before .before .before .before .before .before .before .before .walk-inside .kept .1 .1 .1 .1 .1 .1 .1 .1 .0, c .before .before .before .before .before .before .before .before .before .before .before .before .before .before .before .before .before .before .before .before .before .before .before .before .before .before .before .before .before .before .before .before .reserve .kept .0, c .before .before .before .before .before .before .before .before .before .before .before .before .before .before .before .before .before .before .before .before .before .before .before .before .before .before .before .before .before .before .before .before .before .before .before .before .before .before .before .before .before .before .before .before .loop .inv .10))
+    (λ c. let l = c .before .before .before .before .before .before .before .before .before .before .before .before .before .before .before .before .before .before .before .before .before .before .before .before .before .before .before .before .before .before .before .before .before .before .before .before .before .before .before .before .before .before .before .before .loop .inv in
+    let sp = c .before .before .before .before .before .before .before .before .before .before .before .before .before .before .before .before .before .before .before .before .before .before .before .before .before .before .before .before .before .before .before .before .before .before .before .before .before .before .before .before .before .before .before .before .loop .prev in
+    let h = c .before .before .before .before .before .before .before .before .before .before .before .before .before .before .before .before .before .before .before .before .before .before .before .before .before .before .before .before .before .before .before .before .before .before .before .before .before .before .before .before .take-head .ensures in
+    let q = c .before .before .before .before .before .before .before .before .before .before .before .before .before .before .before .before .before .before .before .before .before .before .before .before .before .before .before .before .before .before .before .before .before .before .before .before .before .before .t .given .1 in
+    let i = c .before .before .before .before .before .before .before .before .before .before .before .before .before .before .before .before .before .before .before .before .before .before .before .before .before .before .before .before .before .before .before .before .before .before .inside .ensures in
+    let y = c .before .before .before .before .before .before .before .before .before .before .before .before .before .before .before .before .before .before .before .before .before .before .before .before .before .before .before .before .before .before .before .before .reserve .ensures in
+    let m = by-level _ _ _ i _ _ (c .before .before .before .before .before .before .before .before .before .before .before .before .before .before .before .before .before .before .before .before .before .before .before .before .before .before .before .before .before .before .before .before .before .before .before .before .before .before .before .before .before .before .before .before .loop .allowed) (c .before .before .before .before .before .before .before .before .before .before .before .before .before .before .before .before .before .before .before .before .before .before .before .before .before .before .before .before .before .before .before .before .before .before .before .before .before .before .before .before .before .before .before .before .loop .opened) _ _ (l .1) (c .before .before .before .before .before .before .before .before .before .before .before .before .before .before .before .before .before .before .before .before .before .before .before .before .walk-inside .ensures) in
+    let g = c .before .before .before .before .before .before .before .before .before .before .before .before .before .before .before .before .before .before .r .given .1 in
     let kk = taken-kind _ _ _ _ _ _ (h .1) q in
     let fit = taken-fits _ _ _ _ _ _ (h .1) q in
-    (ends _ (l .7) _ _ _ _ _ _ _ _ _ _ _ (sp .from) (sp .to) _ _ _ _ _ (l .1) (l .0) (h .0) q m g (y .1) (y .0) (c .before .before .before .before .before .before .before .before .before .before .before .put .ensures) (c .before .before .before .before .before .before .before .fill .ensures) kk fit (c .before .before .next-at3 .ensures) (search needs) (read-in _ _ _ _ _ _ _ _ m g) (read-few _ _ _ _ _ _ _ _ m g)))
+    (ends _ (l .7) _ _ _ _ _ _ _ _ _ _ _ (sp .from) (sp .to) _ _ _ _ _ _ (l .1) (l .0) (h .0) q m g (y .1) (y .0) (c .before .before .before .before .before .before .before .before .before .before .before .before .before .before .before .put .ensures) (c .before .before .before .before .before .before .before .before .before .before .before .fill2 .ensures) kk fit (c .before .before .before .before .before .before .next-at3 .ensures) (search needs) (read-in _ _ _ _ _ _ _ _ m g) (read-few _ _ _ _ _ _ _ _ m g) (c .before .before .end-all3 .ensures)))
     (λ c. let l = c .before .before .before .before .before .before .before .before .before .before .before .before .before .before .before .before .before .before .before .before .before .before .before .before .before .before .before .before .before .before .before .before .before .before .before .before .before .before .before .before .before .loop .inv in
     let h = c .before .before .before .before .before .before .before .before .before .before .before .before .before .before .before .before .before .before .before .before .before .before .before .before .before .before .before .before .before .before .before .before .before .before .before .before .before .take-head .ensures in
     let q = c .before .before .before .before .before .before .before .before .before .before .before .before .before .before .before .before .before .before .before .before .before .before .before .before .before .before .before .before .before .before .before .before .before .before .before .t .given .1 in
@@ -277,13 +293,13 @@ pub +walk-inside+walk-level-spec : {M : Type 1} → statement M
     let kk = taken-kind _ _ _ _ _ _ (h .1) q in
     let fit = taken-fits _ _ _ _ _ _ (h .1) q in
     let put = c .before .before .before .before .before .before .before .before .before .before .before .before .put .ensures in
-    let fill = c .before .before .before .before .before .before .before .before .fill .ensures in
+    let fill = c .before .before .before .before .before .before .before .before .fill2 .ensures in
     let k = c .before .before .before .before .key-by .ensures in
     let nn = c .before .before .before .next-at3 .ensures in
     let z = c .before .n3 .given .1 in
     let extra = rule (slotOf (c .before .before .before .before .before .before .before .before .before .before .before .before .before .before .before .before .before .before .before .before .before .before .before .before .before .before .before .before .before .before .before .before .before .before .before .before .before .before .before .before .before .loop .place)) .extra in (
-      again _ (l .7) _ _ _ _ _ _ _ _ _ _ _ (sp .from) (sp .to) _ _ _ _ _ (l .1) (l .0) (h .0) q m g (y .1) (y .0) put fill kk fit nn z (k .0) (k .1),
-      next-slotted _ (l .7) _ _ _ _ _ _ _ _ _ _ _ (sp .from) (sp .to) _ _ _ _ _ (l .1) (l .0) (h .0) q m g {tab₂ = both _ _} (y .1) (y .0) put fill kk fit nn z,
+      again _ (l .7) _ _ _ _ _ _ _ _ _ _ _ (sp .from) (sp .to) _ _ _ _ _ _ (l .1) (l .0) (h .0) q m g (y .1) (y .0) put fill kk fit nn z (k .0) (k .1),
+      next-slotted _ (l .7) _ _ _ _ _ _ _ _ _ _ _ (sp .from) (sp .to) _ _ _ _ _ _ (l .1) (l .0) (h .0) q m g {tab₂ = both _ _} (y .1) (y .0) put fill kk fit nn z,
       rw (k .0, k .1) (span-order extra _ _ _ _ (l .2) (le-of-lt (taken-on _ _ _ _ _ _ (h .1) q))),
       rw (k .1) (span-within extra _ _ _ (l .3) (taken-in _ _ _ _ _ _ (h .1) q)),
       read-in _ _ _ _ _ _ _ _ m g,
@@ -292,5 +308,6 @@ pub +walk-inside+walk-level-spec : {M : Type 1} → statement M
       l .7,
       l .8,
       l .9,
-      omega (arith, c .before .before .before .before .before .before .before .before .fill .kept .0, c .before .before .before .before .before .before .before .before .before .before .before .before .before .before .before .before .before .before .before .before .before .walk-inside .kept .1 .1 .1 .1 .1 .1 .1 .1 .0, c .before .before .before .before .before .before .before .before .before .before .before .before .before .before .before .before .before .before .before .before .before .before .before .before .before .before .before .before .before .reserve .kept .0, l .10),
+      omega (arith, c .before .before .before .before .before .before .before .before .fill2 .kept .0, c .before .before .before .before .before .before .before .before .before .before .before .before .before .before .before .before .before .before .before .before .before .walk-inside .kept .1 .1 .1 .1 .1 .1 .1 .1 .0, c .before .before .before .before .before .before .before .before .before .before .before .before .before .before .before .before .before .before .before .before .before .before .before .before .before .before .before .before .before .reserve .kept .0, l .10),
+      waits-behind (c .before .before .before .before .before .before .before .before .before .before .before .before .before .before .before .before .before .before .before .before .before .before .before .before .before .before .before .before .before .before .before .before .before .before .before .before .before .before .before .before .before .loop .place) q _ (y .0) (y .1) (l .11) _ _ _ _ _ _ _ _ m g _ fill,
     ))
