@@ -20,7 +20,7 @@ use Rattle.ari.specs.Listing.{referring}
 use Rattle.ari.proofs.Referring.{referring-append}
 use Rattle.item_table.specs.declared.Item.{Item}
 use Rattle.item_table.specs.Entries.{itemOf, entryOf, packed, referenceBy, noSpot}
-use Rattle.item_table.specs.References.{hasRoom, placeIn, reserved, filled, noted, placeFor, reservedFor, withEnd, endedBy, ended, Referenced}
+use Rattle.item_table.specs.References.{hasRoom, placeIn, reserved, filled, noted, placeFor, reservedFor, latest, withEnd, endedBy, ended, Referenced}
 use Rattle.item_table.proofs.Entries.{getD-entries}
 
 -- a place is taken, way by way
@@ -315,7 +315,20 @@ module _ (t₀ : List ℕ) (p a k : ℕ) (t : List ℕ) (i : Ending t₀ p a k t
         lengths = length-set t k e ∙ i .lengths;
       }
 
-pub ruleset endings = (ending, all-ended, past-the-end, last-ended, next-ending)
+pub none-ended : (t : List ℕ) (p a : ℕ) → p ≡ 0 → t ≡ ended t p a
+none-ended t p a e = all-ended t p a p t (ending t p a) e
+
+-- which waits last
+module _ (k before : ℕ) where
+  pub still-last : k ≡ 0 → before ≡ latest k before
+  still-last e = rw (eq-eqb k 0 e)
+
+  pub now-last : (k ≡ 0 → ⊥) → k ≡ latest k before
+  now-last n = rw (ne-eqb k 0 n)
+
+pub ruleset wait-ways = (still-last, now-last, not-filled, filled-out, filled-in)
+
+pub ruleset endings = (none-ended, ending, all-ended, past-the-end, last-ended, next-ending)
 
 -- a word with another end is that word
 pub with-end : (f b a r s z : ℕ) → withEnd (packed f b r s z) a ≡ packed f a r s z
@@ -396,7 +409,7 @@ module _ (i k a : ℕ) (t : List ℕ) where
       length-is = ap length table-is ∙ length-set t 0 (getD t 0 0 + 1)
 
     -- a container that waits: when it gets its end those before it do
-    module _ {pend : ℕ} (waits : Pending pend t) (f r s z : ℕ) {u₁ : List ℕ} (fill : u₁ ≡ filled u j (packed f pend r s z)) {pend₁ : ℕ} (last : pend₁ ≡ cond (eqb j 0) pend j) where
+    module _ {pend : ℕ} (waits : Pending pend t) (f r s z : ℕ) {u₁ : List ℕ} (fill : u₁ ≡ filled u j (packed f pend r s z)) {pend₁ : ℕ} (last : pend₁ ≡ latest j pend) where
       pub all-get-it : (q : ℕ) (ws : List ℕ) → ended (noted u₁ ws) pend₁ q ≡ ended (filled (noted u ws) j (packed f q r s z)) pend q
       all-get-it q ws = go (eqb j 0) refl
         where

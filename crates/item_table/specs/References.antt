@@ -1,5 +1,5 @@
 -- The table of an input's references alone: word 0 is how many it keeps, and behind it stand their words in order, as many as there is room for.
--- Interface: noted, Referenced. A reference takes its place when its head is read and its word when its end is known: placeFor, reservedFor, filled, ended.
+-- Interface: noted, Referenced. A reference takes its place when its head is read and its word when its end is known: placeFor, reservedFor, filled, latest, ended.
 use Prim.Native.Nat.{ℕ, zero, suc, _+_, _*_, _/_, _%_, _<_}
 use mathlib.Core.Path.{_≡_}
 use mathlib.Core.Bool.{Bool, cond}
@@ -32,7 +32,12 @@ abbrev pub noted : List ℕ → List ℕ → List ℕ
 noted t [] = t
 noted t (w ∷ ws) = noted (filled (reserved t) (placeIn t) w) ws
 
--- References that wait for their end: the word of each has, where its end is due, the place of the one before. So many of them get it.
+-- References that wait for their end: the word of each has, where its end is due, the place of the one before. The last of them, after one that took
+-- this place or none:
+abbrev pub latest : ℕ → ℕ → ℕ
+latest k before = cond (eqb k 0) before k
+
+-- so many of them get it
 abbrev pub withEnd : ℕ → ℕ → ℕ
 withEnd w a = w % 65536 + a % 65536 * 65536 + w / 4294967296 * 4294967296
 

@@ -3,7 +3,7 @@
 ghost use mathlib.Core.Path.{_≡_};
 ghost use lib.ListN.{set};
 ghost use Rattle.item_table.specs.Entries.{packed, itemOf, headOf, headBy, referenceBy};
-ghost use Rattle.item_table.specs.References.{placeFor, reservedFor, filled, withEnd, ended};
+ghost use Rattle.item_table.specs.References.{placeFor, reservedFor, filled, latest, withEnd, ended};
 
 // An item: its first byte, the byte after its last, the open containers around it, and the number of its slot.
 pub struct Item {
@@ -158,10 +158,35 @@ fn with_end(entry: u64, after: usize) -> u64
     entry % 65536 + (after % 65536) as u64 * 65536 + entry / 4294967296 * 4294967296
 }
 
+// The reference at its place, while its end is not known: it waits, with the place of the one that waited before, and is the last one that does.
+pub fn wait(
+    references: &mut [u64],
+    place: usize,
+    first: usize,
+    pending: usize,
+    around: usize,
+    slot: u64,
+    head: usize,
+) -> usize
+    ensures { λ r. ⌜ r ≡ latest place pending ⌝ }
+    ensures { λ _. ⌜ now (references .exit) ≡ filled (now (references .entry)) place (packed first pending around slot head) ⌝ }
+{
+    if place == 0 {
+        return pending;
+    }
+    if place < references.len() {
+        references[place] = pack(first, pending, around, slot, head);
+    }
+    place
+}
+
 // References that wait for their end get it, from the last one on: where it is due each one's word has the place of the one before, or 0.
 pub fn end_all(references: &mut [u64], pending: usize, after: usize)
     ensures { λ _. ⌜ now (references .exit) ≡ ended (now (references .entry)) pending after ⌝ }
 {
+    if pending == 0 {
+        return;
+    }
     let mut k = pending;
     while k != 0 {
         if references.len() <= k {

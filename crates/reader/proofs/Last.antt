@@ -17,7 +17,7 @@ use Rattle.grammar.specs.declared.Next.{Next}
 use Rattle.grammar.specs.declared.Next.the-variants.{Done, Due}
 use Rattle.grammar.specs.Code.{slotOf, IsSlot, insideCode}
 use Rattle.item_table.specs.Entries.{packed, headBy, entryOf}
-use Rattle.item_table.specs.References.{placeFor, reservedFor, filled, noted, ended}
+use Rattle.item_table.specs.References.{placeFor, reservedFor, filled, latest, noted, ended}
 use Rattle.item_table.proofs.References.{Pending, all-get-it, still-waits, waits-on}
 use Rattle.reader.specs.declared.Step.{Step}
 use Rattle.reader.specs.declared.Step.the-variants.{Taken}
@@ -55,7 +55,7 @@ module _ (b : List ℕ) (bs : all isByte b ≡ true) (items : ℕ) (s₀ : Slot)
     {x : Step} (e : x ≡ stepAt b p (slotOf i) (keyOf (part b f t)) (items - c) d) (h : Bounded b p c items d i x) {k a q₀ : ℕ} (q : x ≡ Taken k a q₀)
     {y : Next} (ey : y ≡ insideCode i k a) {pl : ℕ} (at : pl ≡ placeFor i k a refs) {res : List ℕ} (taken : res ≡ reservedFor i k a refs)
     {z : Next} (last : LastShown i a n (length tab) c pl y z) {j m : ℕ} (ez : z ≡ Due j m)
-    {refs₁ : List ℕ} (fill : refs₁ ≡ filled res pl (packed p pend around i (q₀ - p))) {pend₁ : ℕ} (latest : pend₁ ≡ cond (eqb pl 0) pend pl) where
+    {refs₁ : List ℕ} (fill : refs₁ ≡ filled res pl (packed p pend around i (q₀ - p))) {pend₁ : ℕ} (last-one : pend₁ ≡ latest pl pend) where
   abbrev shown : LastShown i a n (length tab) c pl y (Due j m)
   shown = rw ez at last
 
@@ -72,7 +72,7 @@ module _ (b : List ℕ) (bs : all isByte b ≡ true) (items : ℕ) (s₀ : Slot)
       let put : sets tab (c + 1) es ≡ set (sets tab (c + 1) es) c word = sym (set-out (sets tab (c + 1) es) c word (omega (arith, length-sets tab (c + 1) es))) in
       let w₁ = elsewhere b items (due (slotOf j) m) [] (d - 1) (around + 1) q₀ (c + 1) w (both tab res) in
       let all : ended (noted refs₁ ws) pend₁ q₁ ≡ ended (filled (noted res ws) pl (packed p q₁ around i (q₀ - p))) pend q₁
-      = all-get-it i k a refs at taken waits p around i (q₀ - p) fill latest q₁ ws in
+      = all-get-it i k a refs at taken waits p around i (q₀ - p) fill last-one q₁ ws in
       rw (w .held .0 .table)
       (ends b bs items s₀ n₀ prev₀ d₀ around₀ p₀ c₀ t₀ i n f t d around p c (both tab refs) pend v lead e q (opened i k a ey b items d around q₀ (c + 1) v (shown .0) w₁) refl
       {tab₂ = both (sets tab (c + 1) es) (filled (noted res ws) pl (packed p q₁ around i (q₀ - p)))} taken at put refl (taken-kind b p c items d i h q) (taken-fits b p c items d i h q) (sym (shown .1)) refl (w .held .1) (w .held .2) all)
@@ -82,7 +82,7 @@ module _ (b : List ℕ) (bs : all isByte b ≡ true) (items : ℕ) (s₀ : Slot)
   goes-inside = record { then = λ {v} w. finishes v w }
 
   pub goes-waiting : Pending pend₁ refs₁
-  goes-waiting = still-waits i k a refs at taken waits p around i (q₀ - p) fill latest (shown .3)
+  goes-waiting = still-waits i k a refs at taken waits p around i (q₀ - p) fill last-one (shown .3)
 
 -- a reference that gets its end at once: those before it go on waiting
 pub waits-behind : (i : ℕ) {x : Step} {k a q₀ : ℕ} → x ≡ Taken k a q₀ → (refs : List ℕ) {pl : ℕ} → pl ≡ placeFor i k a refs → {res : List ℕ} → res ≡ reservedFor i k a refs → {pend : ℕ} → Pending pend refs

@@ -1,6 +1,6 @@
 // The reading: one walk over the input, head by head, in the order of the tests. The walk may keep a table of the items.
 ghost use mathlib.Core.Path.{_≡_};
-ghost use mathlib.Core.Bool.{Bool, true, false, not, _&&_, cond};
+ghost use mathlib.Core.Bool.{Bool, true, false, not, _&&_};
 ghost use Prim.Native.Nat.{_+_, _-_, _*_, _^_, _<_, _≤_};
 ghost use lib.ListN.{length, set};
 ghost use lib.Dec.{ltb, eqb};
@@ -421,16 +421,6 @@ fn last_inside(
     }
 }
 
-// The last reference that waits for its end, after a head that took this place or none.
-fn latest(taken: usize, pending: usize) -> usize
-    ensures { λ r. ⌜ r ≡ cond (eqb taken 0) pending taken ⌝ }
-{
-    if taken == 0 {
-        return pending;
-    }
-    taken
-}
-
 // What is due inside a head: nothing, or a level that is walked with a container more around it.
 fn walk_inside(
     s: &[u8],
@@ -532,8 +522,7 @@ fn walk_level(
         let taken = item_table::reserve(references, place, kind, arg);
         let last = last_inside(place, word, arg, left, entries.len(), c, taken, inner);
         if let grammar::Next::Due { slot: a, more: b } = last {
-            item_table::fill(references, taken, p, pending, opened, place, after - p);
-            pending = latest(taken, pending);
+            pending = item_table::wait(references, taken, p, pending, opened, place, after - p);
             p = after;
             c = c + 1;
             place = a;

@@ -11,6 +11,6 @@ abbrev μ-loop : tie.MeasureT-loop
 μ-loop t₀ pending after k₀ t k = k
 
 pub end-all-spec : {M : Type 1} → statement M
-end-all-spec = tie.close (tie.spec Inv-loop μ-loop (λ c. search (endings, needs)) (λ c. search (endings, needs)) (λ c. search (endings, needs)) (λ c. search needs)
+end-all-spec = tie.close (tie.spec Inv-loop μ-loop (λ c. search (endings, needs)) (λ c. search (endings, needs)) (λ c. search (endings, needs)) (λ c. search (endings, needs)) (λ c. search needs)
     (λ c. search needs) (λ c κs. search needs) (λ c κs. search needs) (λ c. search needs) (λ c. search needs) (λ c. search (endings, needs))
     (λ c. search (endings, needs)) (λ c. search needs) (λ c. search (endings, needs)) (λ c. search (endings, needs)) (λ c. search (endings, needs)))

@@ -33,12 +33,12 @@ use Rattle.item_table.proofs.fill.Reads as fill-reads
 use Rattle.item_table.proofs.put.Reads as put-reads
 use Rattle.item_table.proofs.put_plain.Reads as put-plain-reads
 use Rattle.item_table.proofs.reserve.Reads as reserve-reads
+use Rattle.item_table.proofs.wait.Reads as wait-reads
 use Rattle.reader.proofs.extra_at.Reads as extra-at-reads
 use Rattle.reader.proofs.is_plain.Reads as is-plain-reads
 use Rattle.reader.proofs.is_quick.Reads as is-quick-reads
 use Rattle.reader.proofs.key_by.Reads as key-by-reads
 use Rattle.reader.proofs.last_inside.Reads as last-inside-reads
-use Rattle.reader.proofs.latest.Reads as latest-reads
 use Rattle.reader.proofs.next_at.Reads as next-at-reads
 use Rattle.reader.proofs.same_walk.Reads as same-walk-reads
 use Rattle.reader.proofs.stopped.Reads as stopped-reads
@@ -86,7 +86,7 @@ pub +walk-inside+walk-level-spec : {M : Type 1} → statement M
     (λ c. search needs) (λ c. search needs) (λ c. search (inside-due, needs)) (λ c. search (one-fits, inside-due, needs))
     (λ c κs. (search (less-deep, inside-due, needs), (search needs, search (one-in, inside-due, needs), search (inside-due, needs), search needs, search needs)))
     (λ c. search (none-due, needs)) (λ c. search needs) (λ c. search needs) (λ c. search (level-due, needs)))
-    λ t. walk-level-lts.spec (walk-word-reads.Asked, walk-word-reads.Learnt, is-quick-reads.Asked, is-quick-reads.Learnt, put-plain-reads.Asked, put-plain-reads.Learnt, wide-reads.Asked, wide-reads.Learnt, next-at-reads.Asked, next-at-reads.Learnt, end-all-reads.Asked, end-all-reads.Learnt, take-head-reads.Asked, take-head-reads.Learnt, stopped-reads.Asked, stopped-reads.Learnt, is-plain-reads.Asked, is-plain-reads.Learnt, inside-reads.Asked, inside-reads.Learnt, reserve-reads.Asked, reserve-reads.Learnt, last-inside-reads.Asked, last-inside-reads.Learnt, fill-reads.Asked, fill-reads.Learnt, latest-reads.Asked, latest-reads.Learnt, walk-inside-below t, walk-inside.Post, same-walk-reads.Asked, same-walk-reads.Learnt, put-reads.Asked, put-reads.Learnt, extra-at-reads.Asked, extra-at-reads.Learnt, key-by-reads.Asked, key-by-reads.Learnt)
+    λ t. walk-level-lts.spec (walk-word-reads.Asked, walk-word-reads.Learnt, is-quick-reads.Asked, is-quick-reads.Learnt, put-plain-reads.Asked, put-plain-reads.Learnt, wide-reads.Asked, wide-reads.Learnt, next-at-reads.Asked, next-at-reads.Learnt, end-all-reads.Asked, end-all-reads.Learnt, take-head-reads.Asked, take-head-reads.Learnt, stopped-reads.Asked, stopped-reads.Learnt, is-plain-reads.Asked, is-plain-reads.Learnt, inside-reads.Asked, inside-reads.Learnt, reserve-reads.Asked, reserve-reads.Learnt, last-inside-reads.Asked, last-inside-reads.Learnt, wait-reads.Asked, wait-reads.Learnt, walk-inside-below t, walk-inside.Post, same-walk-reads.Asked, same-walk-reads.Learnt, put-reads.Asked, put-reads.Learnt, fill-reads.Asked, fill-reads.Learnt, extra-at-reads.Asked, extra-at-reads.Learnt, key-by-reads.Asked, key-by-reads.Learnt)
     (walk-level-at t)
     walk-level.Post
     walk-level-Inv-loop
@@ -192,36 +192,36 @@ pub +walk-inside+walk-level-spec : {M : Type 1} → statement M
     (λ c. let h = c .before .before .before .before .before .before .before .before .before .before .before .before .before .before .before .take-head .ensures in
     let q = c .before .before .before .before .before .before .before .before .before .before .before .before .before .t .given .1 in
     le-of-lt (taken-on _ _ _ _ _ _ (h .1) q))
-    (λ c κs. search needs) (λ c κs. search needs)
-    (λ c. let h = c .before .before .before .before .before .before .before .before .before .before .before .before .before .before .before .before .before .before .before .take-head .ensures in
-    let q = c .before .before .before .before .before .before .before .before .before .before .before .before .before .before .before .before .before .t .given .1 in
-    taken-few-fits _ _ _ _ _ _ (h .1) q (c .before .before .before .before .before .before .before .before .before .before .before .before .before .before .before .before .before .before .before .before .before .before .before .before .before .before .before .fits .items))
-    (λ c. let h = c .before .before .before .before .before .before .before .before .before .before .before .before .before .before .before .before .before .before .before .take-head .ensures in
-    let q = c .before .before .before .before .before .before .before .before .before .before .before .before .before .before .before .before .before .t .given .1 in
-    let i = c .before .before .before .before .before .before .before .before .before .before .before .before .before .inside .ensures in
-    let shown = c .before .before .before .before .before .before .before .before .last-inside .ensures in
-    let z = c .before .before .before .before .before .before .last .given .1 in
+    (λ c κs. search needs)
+    (λ c. let h = c .before .before .before .before .before .before .before .before .before .before .before .before .before .before .before .before .before .before .take-head .ensures in
+    let q = c .before .before .before .before .before .before .before .before .before .before .before .before .before .before .before .before .t .given .1 in
+    taken-few-fits _ _ _ _ _ _ (h .1) q (c .before .before .before .before .before .before .before .before .before .before .before .before .before .before .before .before .before .before .before .before .before .before .before .before .before .before .fits .items))
+    (λ c. let h = c .before .before .before .before .before .before .before .before .before .before .before .before .before .before .before .before .before .before .take-head .ensures in
+    let q = c .before .before .before .before .before .before .before .before .before .before .before .before .before .before .before .before .t .given .1 in
+    let i = c .before .before .before .before .before .before .before .before .before .before .before .before .inside .ensures in
+    let shown = c .before .before .before .before .before .before .before .last-inside .ensures in
+    let z = c .before .before .before .before .before .last .given .1 in
     last-opens _ _ _ i _ _ _ _ shown z _ (taken-shallow _ _ _ _ _ _ (h .1) q))
-    (λ c. let l = c .before .before .before .before .before .before .before .before .before .before .before .before .before .before .before .before .before .before .before .before .before .before .before .loop .inv in
-    let h = c .before .before .before .before .before .before .before .before .before .before .before .before .before .before .before .before .before .before .before .take-head .ensures in
-    let q = c .before .before .before .before .before .before .before .before .before .before .before .before .before .before .before .before .before .t .given .1 in
-    let i = c .before .before .before .before .before .before .before .before .before .before .before .before .before .inside .ensures in
-    let shown = c .before .before .before .before .before .before .before .before .last-inside .ensures in
-    let z = c .before .before .before .before .before .before .last .given .1 in
+    (λ c. let l = c .before .before .before .before .before .before .before .before .before .before .before .before .before .before .before .before .before .before .before .before .before .before .loop .inv in
+    let h = c .before .before .before .before .before .before .before .before .before .before .before .before .before .before .before .before .before .before .take-head .ensures in
+    let q = c .before .before .before .before .before .before .before .before .before .before .before .before .before .before .before .before .t .given .1 in
+    let i = c .before .before .before .before .before .before .before .before .before .before .before .before .inside .ensures in
+    let shown = c .before .before .before .before .before .before .before .last-inside .ensures in
+    let z = c .before .before .before .before .before .last .given .1 in
     one-fits _ _ (last-opens _ _ _ i _ _ _ _ shown z _ (taken-shallow _ _ _ _ _ _ (h .1) q)) (l .8))
-    (λ c. let h = c .before .before .before .before .before .before .before .before .before .before .before .before .before .before .before .before .before .before .before .take-head .ensures in
-    let q = c .before .before .before .before .before .before .before .before .before .before .before .before .before .before .before .before .before .t .given .1 in
+    (λ c. let h = c .before .before .before .before .before .before .before .before .before .before .before .before .before .before .before .before .before .before .take-head .ensures in
+    let q = c .before .before .before .before .before .before .before .before .before .before .before .before .before .before .before .before .t .given .1 in
     falls-to _ _ _ (taken-on _ _ _ _ _ _ (h .1) q) (taken-in _ _ _ _ _ _ (h .1) q))
-    (λ c. let l = c .before .before .before .before .before .before .before .before .before .before .before .before .before .before .before .before .before .before .before .before .before .before .before .loop .inv in
-    let sp = c .before .before .before .before .before .before .before .before .before .before .before .before .before .before .before .before .before .before .before .before .before .before .before .loop .prev in
-    let h = c .before .before .before .before .before .before .before .before .before .before .before .before .before .before .before .before .before .before .before .take-head .ensures in
-    let q = c .before .before .before .before .before .before .before .before .before .before .before .before .before .before .before .before .before .t .given .1 in
-    let i = c .before .before .before .before .before .before .before .before .before .before .before .before .before .inside .ensures in
-    let y = c .before .before .before .before .before .before .before .before .before .before .before .reserve .ensures in
-    let shown = c .before .before .before .before .before .before .before .before .last-inside .ensures in
-    let z = c .before .before .before .before .before .before .last .given .1 in
+    (λ c. let l = c .before .before .before .before .before .before .before .before .before .before .before .before .before .before .before .before .before .before .before .before .before .before .loop .inv in
+    let sp = c .before .before .before .before .before .before .before .before .before .before .before .before .before .before .before .before .before .before .before .before .before .before .loop .prev in
+    let h = c .before .before .before .before .before .before .before .before .before .before .before .before .before .before .before .before .before .before .take-head .ensures in
+    let q = c .before .before .before .before .before .before .before .before .before .before .before .before .before .before .before .before .t .given .1 in
+    let i = c .before .before .before .before .before .before .before .before .before .before .before .before .inside .ensures in
+    let y = c .before .before .before .before .before .before .before .before .before .before .reserve .ensures in
+    let shown = c .before .before .before .before .before .before .before .last-inside .ensures in
+    let z = c .before .before .before .before .before .last .given .1 in
     let deep = last-opens _ _ _ i _ _ _ _ shown z _ (taken-shallow _ _ _ _ _ _ (h .1) q) in (
-      goes-inside _ (l .7) _ _ _ _ _ _ _ _ _ _ _ (sp .from) (sp .to) _ _ _ _ _ _ _ (l .1) (l .0) (l .11) (h .0) (h .1) q i (y .0) (y .1) shown z (c .before .before .before .fill .ensures) (c .latest .ensures),
+      goes-inside _ (l .7) _ _ _ _ _ _ _ _ _ _ _ (sp .from) (sp .to) _ _ _ _ _ _ _ (l .1) (l .0) (l .11) (h .0) (h .1) q i (y .0) (y .1) shown z (c .before .before .wait .ensures .1) (c .before .before .wait .ensures .0),
       inner-slot _ _ _ i (l .1) (last-due _ _ _ _ _ _ shown z),
       search needs,
       search needs,
@@ -231,8 +231,8 @@ pub +walk-inside+walk-level-spec : {M : Type 1} → statement M
       l .7,
       one-in _ _ deep (l .8),
       fewer _ _ (l .9),
-      omega (arith, c .before .before .before .fill .kept .0, c .before .before .before .before .before .before .before .before .before .before .before .reserve .kept .0, l .10),
-      goes-waiting _ (l .7) _ _ _ _ _ _ _ _ _ _ _ (sp .from) (sp .to) _ _ _ _ _ _ _ (l .1) (l .0) (l .11) (h .0) (h .1) q i (y .0) (y .1) shown z (c .before .before .before .fill .ensures) (c .latest .ensures),
+      omega (arith, c .before .before .wait .kept .0, c .before .before .before .before .before .before .before .before .before .before .reserve .kept .0, l .10),
+      goes-waiting _ (l .7) _ _ _ _ _ _ _ _ _ _ _ (sp .from) (sp .to) _ _ _ _ _ _ _ (l .1) (l .0) (l .11) (h .0) (h .1) q i (y .0) (y .1) shown z (c .before .before .wait .ensures .1) (c .before .before .wait .ensures .0),
     ))
     (λ c. search needs)
     (λ c. let h = c .before .before .before .before .before .before .before .before .before .before .before .before .before .take-head .ensures in
@@ -263,7 +263,7 @@ pub +walk-inside+walk-level-spec : {M : Type 1} → statement M
     (λ c κs. c .before .before .before .before .before .before .before .before .before .before .before .before .before .before .before .before .before .before .before .before .before .before .before .before .before .before .before .before .before .before .before .before .before .before .before .before .walk-word .ensures)
     (λ c. search needs) (λ c. search needs) (λ c κs. search needs)
     (λ c. omega (arith, c .before .before .before .before .before .before .before .before .before .before .before .before .before .before .before .put .kept .0, c .before .before .before .before .before .before .before .before .before .before .before .before .before .before .before .before .before .before .before .before .before .before .before .before .walk-inside .kept .1 .1 .1 .1 .1 .1 .1 .0, c .before .before .before .before .before .before .before .before .before .before .before .before .before .before .before .before .before .before .before .before .before .before .before .before .before .before .before .before .before .before .before .before .before .before .before .before .before .before .before .before .before .before .before .before .loop .inv .6))
-    (λ c. omega (arith, c .before .before .end-all3 .kept .0, c .before .before .before .before .before .before .before .before .before .before .before .fill2 .kept .0, c .before .before .before .before .before .before .before .before .before .before .before .before .before .before .before .before .before .before .before .before .before .before .before .before .walk-inside .kept .1 .1 .1 .1 .1 .1 .1 .1 .0, c .before .before .before .before .before .before .before .before .before .before .before .before .before .before .before .before .before .before .before .before .before .before .before .before .before .before .before .before .before .before .before .before .reserve .kept .0, c .before .before .before .before .before .before .before .before .before .before .before .before .before .before .before .before .before .before .before .before .before .before .before .before .before .before .before .before .before .before .before .before .before .before .before .before .before .before .before .before .before .before .before .before .loop .inv .10))
+    (λ c. omega (arith, c .before .before .end-all3 .kept .0, c .before .before .before .before .before .before .before .before .before .before .before .fill .kept .0, c .before .before .before .before .before .before .before .before .before .before .before .before .before .before .before .before .before .before .before .before .before .before .before .before .walk-inside .kept .1 .1 .1 .1 .1 .1 .1 .1 .0, c .before .before .before .before .before .before .before .before .before .before .before .before .before .before .before .before .before .before .before .before .before .before .before .before .before .before .before .before .before .before .before .before .reserve .kept .0, c .before .before .before .before .before .before .before .before .before .before .before .before .before .before .before .before .before .before .before .before .before .before .before .before .before .before .before .before .before .before .before .before .before .before .before .before .before .before .before .before .before .before .before .before .loop .inv .10))
     (λ c. let l = c .before .before .before .before .before .before .before .before .before .before .before .before .before .before .before .before .before .before .before .before .before .before .before .before .before .before .before .before .before .before .before .before .before .before .before .before .before .before .before .before .before .before .before .before .loop .inv in
     let sp = c .before .before .before .before .before .before .before .before .before .before .before .before .before .before .before .before .before .before .before .before .before .before .before .before .before .before .before .before .before .before .before .before .before .before .before .before .before .before .before .before .before .before .before .before .loop .prev in
     let h = c .before .before .before .before .before .before .before .before .before .before .before .before .before .before .before .before .before .before .before .before .before .before .before .before .before .before .before .before .before .before .before .before .before .before .before .before .before .before .before .before .take-head .ensures in
@@ -274,7 +274,7 @@ pub +walk-inside+walk-level-spec : {M : Type 1} → statement M
     let g = c .before .before .before .before .before .before .before .before .before .before .before .before .before .before .before .before .before .before .r .given .1 in
     let kk = taken-kind _ _ _ _ _ _ (h .1) q in
     let fit = taken-fits _ _ _ _ _ _ (h .1) q in
-    (ends _ (l .7) _ _ _ _ _ _ _ _ _ _ _ (sp .from) (sp .to) _ _ _ _ _ _ (l .1) (l .0) (h .0) q m g (y .1) (y .0) (c .before .before .before .before .before .before .before .before .before .before .before .before .before .before .before .put .ensures) (c .before .before .before .before .before .before .before .before .before .before .before .fill2 .ensures) kk fit (c .before .before .before .before .before .before .next-at3 .ensures) (search needs) (read-in _ _ _ _ _ _ _ _ m g) (read-few _ _ _ _ _ _ _ _ m g) (c .before .before .end-all3 .ensures)))
+    (ends _ (l .7) _ _ _ _ _ _ _ _ _ _ _ (sp .from) (sp .to) _ _ _ _ _ _ (l .1) (l .0) (h .0) q m g (y .1) (y .0) (c .before .before .before .before .before .before .before .before .before .before .before .before .before .before .before .put .ensures) (c .before .before .before .before .before .before .before .before .before .before .before .fill .ensures) kk fit (c .before .before .before .before .before .before .next-at3 .ensures) (search needs) (read-in _ _ _ _ _ _ _ _ m g) (read-few _ _ _ _ _ _ _ _ m g) (c .before .before .end-all3 .ensures)))
     (λ c. let l = c .before .before .before .before .before .before .before .before .before .before .before .before .before .before .before .before .before .before .before .before .before .before .before .before .before .before .before .before .before .before .before .before .before .before .before .before .before .before .before .before .before .loop .inv in
     let h = c .before .before .before .before .before .before .before .before .before .before .before .before .before .before .before .before .before .before .before .before .before .before .before .before .before .before .before .before .before .before .before .before .before .before .before .before .before .take-head .ensures in
     let q = c .before .before .before .before .before .before .before .before .before .before .before .before .before .before .before .before .before .before .before .before .before .before .before .before .before .before .before .before .before .before .before .before .before .before .before .t .given .1 in
@@ -293,7 +293,7 @@ pub +walk-inside+walk-level-spec : {M : Type 1} → statement M
     let kk = taken-kind _ _ _ _ _ _ (h .1) q in
     let fit = taken-fits _ _ _ _ _ _ (h .1) q in
     let put = c .before .before .before .before .before .before .before .before .before .before .before .before .put .ensures in
-    let fill = c .before .before .before .before .before .before .before .before .fill2 .ensures in
+    let fill = c .before .before .before .before .before .before .before .before .fill .ensures in
     let k = c .before .before .before .before .key-by .ensures in
     let nn = c .before .before .before .next-at3 .ensures in
     let z = c .before .n3 .given .1 in
@@ -308,6 +308,6 @@ pub +walk-inside+walk-level-spec : {M : Type 1} → statement M
       l .7,
       l .8,
       l .9,
-      omega (arith, c .before .before .before .before .before .before .before .before .fill2 .kept .0, c .before .before .before .before .before .before .before .before .before .before .before .before .before .before .before .before .before .before .before .before .before .walk-inside .kept .1 .1 .1 .1 .1 .1 .1 .1 .0, c .before .before .before .before .before .before .before .before .before .before .before .before .before .before .before .before .before .before .before .before .before .before .before .before .before .before .before .before .before .reserve .kept .0, l .10),
+      omega (arith, c .before .before .before .before .before .before .before .before .fill .kept .0, c .before .before .before .before .before .before .before .before .before .before .before .before .before .before .before .before .before .before .before .before .before .walk-inside .kept .1 .1 .1 .1 .1 .1 .1 .1 .0, c .before .before .before .before .before .before .before .before .before .before .before .before .before .before .before .before .before .before .before .before .before .before .before .before .before .before .before .before .before .reserve .kept .0, l .10),
       waits-behind (c .before .before .before .before .before .before .before .before .before .before .before .before .before .before .before .before .before .before .before .before .before .before .before .before .before .before .before .before .before .before .before .before .before .before .before .before .before .before .before .before .before .loop .place) q _ (y .0) (y .1) (l .11) _ _ _ _ _ _ _ _ m g _ fill,
     ))
