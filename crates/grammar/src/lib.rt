@@ -235,6 +235,31 @@ fn inside_word(slot: u64) -> u64
     }
 }
 
+// The same for the walk alone: what has one caller is put into it, so that the walk looks up what it opens without a call.
+fn walk_inside_word(slot: u64) -> u64
+    ensures { λ r. ⌜ innerMeans r ≡ innerFor (rule (slotOf slot)) ⌝ }
+{
+    match slot {
+        0 | 5 | 7 | 9 | 11 | 13 | 15 | 17 | 21 | 23 | 26 => 0x00000000, // what holds nothing
+        6 | 8 | 10 | 12 | 14 | 18 | 22 => 0x00000000,
+        1 => 0x10000105, // ari alone
+        2 => 0x10000106, // ari message
+        3 | 19 => 0x10000107, // ari inside, entry inside
+        4 | 20 => 0x10000108, // ari param, entry param
+        24 | 27 => 0x10000200, // target, reportSource
+        25 => 0x0000051a, // report
+        28 | 30 | 32 | 34 | 36 | 38 | 40 | 42 | 44 | 46 => 0x03110303, // value 0 to 19 inside
+        29 | 31 | 33 | 35 | 37 | 39 | 41 | 43 | 45 | 47 => 0x03110303,
+        48 => 0x03110415, // value 20 inside
+        49 => 0x03110516, // value 21 inside
+        16 | 50 | 52 | 54 | 56 | 58 | 60 | 62 | 64 | 66 | 68 => 0x03120304, // params, value 0 to 19 param
+        51 | 53 | 55 | 57 | 59 | 61 | 63 | 65 | 67 | 69 => 0x03120304,
+        70 => 0x03120415, // value 20 param
+        71 => 0x03120516, // value 21 param
+        _ => 0x00000000,
+    }
+}
+
 // The arguments below 32 of a range, a bit each. With an arm for every number of five bits, and none that gives what the rest gives, the look-up
 // needs no bound.
 fn small(range: u64) -> u64
@@ -540,6 +565,23 @@ pub fn inside(slot: u64, kind: u8, arg: u64) -> Next
         return Next::Done;
     }
     let word = inside_word(slot);
+    if kind == cbor::ARRAY {
+        return in_array(word, arg);
+    }
+    in_map(word, arg)
+}
+
+// The same for the walk alone.
+pub fn walk_members(slot: u64, kind: u8, arg: u64) -> Next
+    ensures { λ r. ⌜ r ≡ insideCode slot kind arg ⌝ }
+{
+    if kind < cbor::ARRAY {
+        return Next::Done;
+    }
+    if cbor::MAP < kind {
+        return Next::Done;
+    }
+    let word = walk_inside_word(slot);
     if kind == cbor::ARRAY {
         return in_array(word, arg);
     }

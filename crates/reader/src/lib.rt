@@ -518,7 +518,7 @@ fn walk_level(
             left = b;
             continue;
         }
-        let inner = grammar::inside(place, kind, arg);
+        let inner = grammar::walk_members(place, kind, arg);
         let taken = item_table::reserve(references, place, kind, arg);
         let last = last_inside(place, word, arg, left, entries.len(), c, taken, inner);
         if let grammar::Next::Due { slot: a, more: b } = last {

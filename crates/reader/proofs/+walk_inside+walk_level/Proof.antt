@@ -25,7 +25,7 @@ use Rattle.reader.proofs.+walk_inside+walk_level.Lts-walk_inside as wal
 use Rattle.reader.proofs.walk_level.Reads as walk-level
 use Rattle.reader.proofs.walk_level.Kinds as walk-level-kinds
 use Rattle.reader.proofs.+walk_inside+walk_level.Lts-walk_level as walk-level-lts
-use Rattle.grammar.proofs.inside.Reads as inside-reads
+use Rattle.grammar.proofs.walk_members.Reads as walk-members-reads
 use Rattle.grammar.proofs.walk_word.Reads as walk-word-reads
 use Rattle.item_table.proofs.References.{Pending, none-waits}
 use Rattle.item_table.proofs.end_all.Reads as end-all-reads
@@ -86,7 +86,7 @@ pub +walk-inside+walk-level-spec : {M : Type 1} → statement M
     (λ c. search needs) (λ c. search needs) (λ c. search (inside-due, needs)) (λ c. search (one-fits, inside-due, needs))
     (λ c κs. (search (less-deep, inside-due, needs), (search needs, search (one-in, inside-due, needs), search (inside-due, needs), search needs, search needs)))
     (λ c. search (none-due, needs)) (λ c. search needs) (λ c. search needs) (λ c. search (level-due, needs)))
-    λ t. walk-level-lts.spec (walk-word-reads.Asked, walk-word-reads.Learnt, is-quick-reads.Asked, is-quick-reads.Learnt, put-plain-reads.Asked, put-plain-reads.Learnt, wide-reads.Asked, wide-reads.Learnt, next-at-reads.Asked, next-at-reads.Learnt, end-all-reads.Asked, end-all-reads.Learnt, take-head-reads.Asked, take-head-reads.Learnt, stopped-reads.Asked, stopped-reads.Learnt, is-plain-reads.Asked, is-plain-reads.Learnt, inside-reads.Asked, inside-reads.Learnt, reserve-reads.Asked, reserve-reads.Learnt, last-inside-reads.Asked, last-inside-reads.Learnt, wait-reads.Asked, wait-reads.Learnt, walk-inside-below t, walk-inside.Post, same-walk-reads.Asked, same-walk-reads.Learnt, put-reads.Asked, put-reads.Learnt, fill-reads.Asked, fill-reads.Learnt, extra-at-reads.Asked, extra-at-reads.Learnt, key-by-reads.Asked, key-by-reads.Learnt)
+    λ t. walk-level-lts.spec (walk-word-reads.Asked, walk-word-reads.Learnt, is-quick-reads.Asked, is-quick-reads.Learnt, put-plain-reads.Asked, put-plain-reads.Learnt, wide-reads.Asked, wide-reads.Learnt, next-at-reads.Asked, next-at-reads.Learnt, end-all-reads.Asked, end-all-reads.Learnt, take-head-reads.Asked, take-head-reads.Learnt, stopped-reads.Asked, stopped-reads.Learnt, is-plain-reads.Asked, is-plain-reads.Learnt, walk-members-reads.Asked, walk-members-reads.Learnt, reserve-reads.Asked, reserve-reads.Learnt, last-inside-reads.Asked, last-inside-reads.Learnt, wait-reads.Asked, wait-reads.Learnt, walk-inside-below t, walk-inside.Post, same-walk-reads.Asked, same-walk-reads.Learnt, put-reads.Asked, put-reads.Learnt, fill-reads.Asked, fill-reads.Learnt, extra-at-reads.Asked, extra-at-reads.Learnt, key-by-reads.Asked, key-by-reads.Learnt)
     (walk-level-at t)
     walk-level.Post
     walk-level-Inv-loop
@@ -198,14 +198,14 @@ pub +walk-inside+walk-level-spec : {M : Type 1} → statement M
     taken-few-fits _ _ _ _ _ _ (h .1) q (c .before .before .before .before .before .before .before .before .before .before .before .before .before .before .before .before .before .before .before .before .before .before .before .before .before .before .fits .items))
     (λ c. let h = c .before .before .before .before .before .before .before .before .before .before .before .before .before .before .before .before .before .before .take-head .ensures in
     let q = c .before .before .before .before .before .before .before .before .before .before .before .before .before .before .before .before .t .given .1 in
-    let i = c .before .before .before .before .before .before .before .before .before .before .before .before .inside .ensures in
+    let i = c .before .before .before .before .before .before .before .before .before .before .before .before .walk-members .ensures in
     let shown = c .before .before .before .before .before .before .before .last-inside .ensures in
     let z = c .before .before .before .before .before .last .given .1 in
     last-opens _ _ _ i _ _ _ _ shown z _ (taken-shallow _ _ _ _ _ _ (h .1) q))
     (λ c. let l = c .before .before .before .before .before .before .before .before .before .before .before .before .before .before .before .before .before .before .before .before .before .before .loop .inv in
     let h = c .before .before .before .before .before .before .before .before .before .before .before .before .before .before .before .before .before .before .take-head .ensures in
     let q = c .before .before .before .before .before .before .before .before .before .before .before .before .before .before .before .before .t .given .1 in
-    let i = c .before .before .before .before .before .before .before .before .before .before .before .before .inside .ensures in
+    let i = c .before .before .before .before .before .before .before .before .before .before .before .before .walk-members .ensures in
     let shown = c .before .before .before .before .before .before .before .last-inside .ensures in
     let z = c .before .before .before .before .before .last .given .1 in
     one-fits _ _ (last-opens _ _ _ i _ _ _ _ shown z _ (taken-shallow _ _ _ _ _ _ (h .1) q)) (l .8))
@@ -216,7 +216,7 @@ pub +walk-inside+walk-level-spec : {M : Type 1} → statement M
     let sp = c .before .before .before .before .before .before .before .before .before .before .before .before .before .before .before .before .before .before .before .before .before .before .loop .prev in
     let h = c .before .before .before .before .before .before .before .before .before .before .before .before .before .before .before .before .before .before .take-head .ensures in
     let q = c .before .before .before .before .before .before .before .before .before .before .before .before .before .before .before .before .t .given .1 in
-    let i = c .before .before .before .before .before .before .before .before .before .before .before .before .inside .ensures in
+    let i = c .before .before .before .before .before .before .before .before .before .before .before .before .walk-members .ensures in
     let y = c .before .before .before .before .before .before .before .before .before .before .reserve .ensures in
     let shown = c .before .before .before .before .before .before .before .last-inside .ensures in
     let z = c .before .before .before .before .before .last .given .1 in
@@ -241,7 +241,7 @@ pub +walk-inside+walk-level-spec : {M : Type 1} → statement M
     (λ c κs. let l = c .before .before .before .before .before .before .before .before .before .before .before .before .before .before .before .before .before .before .before .loop .inv in
     let h = c .before .before .before .before .before .before .before .before .before .before .before .before .before .before .before .take-head .ensures in
     let q = c .before .before .before .before .before .before .before .before .before .before .before .before .before .t .given .1 in
-    let i = c .before .before .before .before .before .before .before .before .before .inside .ensures in
+    let i = c .before .before .before .before .before .before .before .before .before .walk-members .ensures in
     (shallower _ _ _ (l .9) (c .before .before .before .before .before .before .before .before .before .before .before .before .before .before .before .before .before .before .before .before .before .before .before .pre .0), (l .7, l .8, inner-opens _ _ _ i (l .1) _ (taken-shallow _ _ _ _ _ _ (h .1) q), taken-in _ _ _ _ _ _ (h .1) q, taken-more _ _ _ _ _ _ (h .1) q)))
     (λ c. search needs) (λ c. search needs) (λ c κs. search needs)
     (λ c. omega (arith, c .before .before .before .before .before .before .before .walk-inside .kept .1 .1 .1 .1 .1 .1 .1 .0, c .before .before .before .before .before .before .before .before .before .before .before .before .before .before .before .before .before .before .before .before .before .before .before .before .before .before .before .loop .inv .6))
@@ -250,7 +250,7 @@ pub +walk-inside+walk-level-spec : {M : Type 1} → statement M
     let sp = c .before .before .before .before .before .before .before .before .before .before .before .before .before .before .before .before .before .before .before .before .before .before .before .before .before .before .before .loop .prev in
     let h = c .before .before .before .before .before .before .before .before .before .before .before .before .before .before .before .before .before .before .before .before .before .before .before .take-head .ensures in
     let q = c .before .before .before .before .before .before .before .before .before .before .before .before .before .before .before .before .before .before .before .before .before .t .given .1 in
-    let i = c .before .before .before .before .before .before .before .before .before .before .before .before .before .before .before .before .before .inside .ensures in
+    let i = c .before .before .before .before .before .before .before .before .before .before .before .before .before .before .before .before .before .walk-members .ensures in
     let m = by-level _ _ _ i _ _ (c .before .before .before .before .before .before .before .before .before .before .before .before .before .before .before .before .before .before .before .before .before .before .before .before .before .before .before .loop .allowed) (c .before .before .before .before .before .before .before .before .before .before .before .before .before .before .before .before .before .before .before .before .before .before .before .before .before .before .before .loop .opened) _ _ (l .1) (c .before .before .before .before .before .before .before .walk-inside .ensures) in
     let g = c .before .enum-told5 .given .1 in
     rw (c .same-walk .ensures) (breaks _ (l .7) _ _ _ _ _ _ _ _ _ _ _ (sp .from) (sp .to) _ _ _ _ _ _ (l .1) (l .0) (h .0) q m g))
@@ -268,7 +268,7 @@ pub +walk-inside+walk-level-spec : {M : Type 1} → statement M
     let sp = c .before .before .before .before .before .before .before .before .before .before .before .before .before .before .before .before .before .before .before .before .before .before .before .before .before .before .before .before .before .before .before .before .before .before .before .before .before .before .before .before .before .before .before .before .loop .prev in
     let h = c .before .before .before .before .before .before .before .before .before .before .before .before .before .before .before .before .before .before .before .before .before .before .before .before .before .before .before .before .before .before .before .before .before .before .before .before .before .before .before .before .take-head .ensures in
     let q = c .before .before .before .before .before .before .before .before .before .before .before .before .before .before .before .before .before .before .before .before .before .before .before .before .before .before .before .before .before .before .before .before .before .before .before .before .before .before .t .given .1 in
-    let i = c .before .before .before .before .before .before .before .before .before .before .before .before .before .before .before .before .before .before .before .before .before .before .before .before .before .before .before .before .before .before .before .before .before .before .inside .ensures in
+    let i = c .before .before .before .before .before .before .before .before .before .before .before .before .before .before .before .before .before .before .before .before .before .before .before .before .before .before .before .before .before .before .before .before .before .before .walk-members .ensures in
     let y = c .before .before .before .before .before .before .before .before .before .before .before .before .before .before .before .before .before .before .before .before .before .before .before .before .before .before .before .before .before .before .before .before .reserve .ensures in
     let m = by-level _ _ _ i _ _ (c .before .before .before .before .before .before .before .before .before .before .before .before .before .before .before .before .before .before .before .before .before .before .before .before .before .before .before .before .before .before .before .before .before .before .before .before .before .before .before .before .before .before .before .before .loop .allowed) (c .before .before .before .before .before .before .before .before .before .before .before .before .before .before .before .before .before .before .before .before .before .before .before .before .before .before .before .before .before .before .before .before .before .before .before .before .before .before .before .before .before .before .before .before .loop .opened) _ _ (l .1) (c .before .before .before .before .before .before .before .before .before .before .before .before .before .before .before .before .before .before .before .before .before .before .before .before .walk-inside .ensures) in
     let g = c .before .before .before .before .before .before .before .before .before .before .before .before .before .before .before .before .before .before .r .given .1 in
@@ -278,7 +278,7 @@ pub +walk-inside+walk-level-spec : {M : Type 1} → statement M
     (λ c. let l = c .before .before .before .before .before .before .before .before .before .before .before .before .before .before .before .before .before .before .before .before .before .before .before .before .before .before .before .before .before .before .before .before .before .before .before .before .before .before .before .before .before .loop .inv in
     let h = c .before .before .before .before .before .before .before .before .before .before .before .before .before .before .before .before .before .before .before .before .before .before .before .before .before .before .before .before .before .before .before .before .before .before .before .before .before .take-head .ensures in
     let q = c .before .before .before .before .before .before .before .before .before .before .before .before .before .before .before .before .before .before .before .before .before .before .before .before .before .before .before .before .before .before .before .before .before .before .before .t .given .1 in
-    let i = c .before .before .before .before .before .before .before .before .before .before .before .before .before .before .before .before .before .before .before .before .before .before .before .before .before .before .before .before .before .before .before .inside .ensures in
+    let i = c .before .before .before .before .before .before .before .before .before .before .before .before .before .before .before .before .before .before .before .before .before .before .before .before .before .before .before .before .before .before .before .walk-members .ensures in
     let m = by-level _ _ _ i _ _ (c .before .before .before .before .before .before .before .before .before .before .before .before .before .before .before .before .before .before .before .before .before .before .before .before .before .before .before .before .before .before .before .before .before .before .before .before .before .before .before .before .before .loop .allowed) (c .before .before .before .before .before .before .before .before .before .before .before .before .before .before .before .before .before .before .before .before .before .before .before .before .before .before .before .before .before .before .before .before .before .before .before .before .before .before .before .before .before .loop .opened) _ _ (l .1) (c .before .before .before .before .before .before .before .before .before .before .before .before .before .before .before .before .before .before .before .before .before .walk-inside .ensures) in
     let g = c .before .before .before .before .before .before .before .before .before .before .before .before .before .before .before .r .given .1 in
     falls-on _ _ _ _ (taken-on _ _ _ _ _ _ (h .1) q) (read-on _ _ _ _ _ _ _ _ m g) (read-in _ _ _ _ _ _ _ _ m g))
@@ -286,7 +286,7 @@ pub +walk-inside+walk-level-spec : {M : Type 1} → statement M
     let sp = c .before .before .before .before .before .before .before .before .before .before .before .before .before .before .before .before .before .before .before .before .before .before .before .before .before .before .before .before .before .before .before .before .before .before .before .before .before .before .before .before .before .loop .prev in
     let h = c .before .before .before .before .before .before .before .before .before .before .before .before .before .before .before .before .before .before .before .before .before .before .before .before .before .before .before .before .before .before .before .before .before .before .before .before .before .take-head .ensures in
     let q = c .before .before .before .before .before .before .before .before .before .before .before .before .before .before .before .before .before .before .before .before .before .before .before .before .before .before .before .before .before .before .before .before .before .before .before .t .given .1 in
-    let i = c .before .before .before .before .before .before .before .before .before .before .before .before .before .before .before .before .before .before .before .before .before .before .before .before .before .before .before .before .before .before .before .inside .ensures in
+    let i = c .before .before .before .before .before .before .before .before .before .before .before .before .before .before .before .before .before .before .before .before .before .before .before .before .before .before .before .before .before .before .before .walk-members .ensures in
     let y = c .before .before .before .before .before .before .before .before .before .before .before .before .before .before .before .before .before .before .before .before .before .before .before .before .before .before .before .before .before .reserve .ensures in
     let m = by-level _ _ _ i _ _ (c .before .before .before .before .before .before .before .before .before .before .before .before .before .before .before .before .before .before .before .before .before .before .before .before .before .before .before .before .before .before .before .before .before .before .before .before .before .before .before .before .before .loop .allowed) (c .before .before .before .before .before .before .before .before .before .before .before .before .before .before .before .before .before .before .before .before .before .before .before .before .before .before .before .before .before .before .before .before .before .before .before .before .before .before .before .before .before .loop .opened) _ _ (l .1) (c .before .before .before .before .before .before .before .before .before .before .before .before .before .before .before .before .before .before .before .before .before .walk-inside .ensures) in
     let g = c .before .before .before .before .before .before .before .before .before .before .before .before .before .before .before .r .given .1 in
