@@ -1,4 +1,4 @@
-// The reading: one walk over the input, head by head, in the order of the tests. The walk may keep a table of the items.
+// The reading: one walk over the input, head by head, in the order of the tests. The walk may keep a table of the items, or of the references alone.
 ghost use mathlib.Core.Path.{_≡_};
 ghost use mathlib.Core.Bool.{Bool, true, false, not, _&&_};
 ghost use Prim.Native.Nat.{_+_, _-_, _*_, _^_, _<_, _≤_};
