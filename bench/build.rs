@@ -1,7 +1,10 @@
 //! Links the libcbor shim if bench/run has built it (LIBCBOR_SHIM names its
-//! folder). The archive is linked by the crate `reading`.
+//! folder), and hands on BENCH_PADDING, 0 if it is not set. The archive is linked by the crate `reading`.
 
 fn main() {
+    println!("cargo::rerun-if-env-changed=BENCH_PADDING");
+    let padding = std::env::var("BENCH_PADDING").unwrap_or("0".to_string());
+    println!("cargo::rustc-env=BENCH_PADDING={padding}");
     println!("cargo::rustc-check-cfg=cfg(libcbor)");
     println!("cargo::rerun-if-changed=build.rs");
     println!("cargo::rerun-if-env-changed=LIBCBOR_SHIM");

@@ -4,6 +4,7 @@
 //! for answers are lent again and again without being cleared.
 
 mod callgrind;
+mod padding;
 
 use std::hint::black_box;
 use std::time::Instant;
@@ -678,6 +679,7 @@ fn time_months(few: &[Vec<u8>], largest_few: &[Vec<u8>]) {
 }
 
 fn main() {
+    padding::keep();
     let functions = archive::FUNCTIONS.iter().chain(&[(composer::FUNCTION, composer::IS_THERE)]);
     let missing: Vec<&str> = functions.filter(|(_, there)| !there).map(|(name, _)| *name).collect();
     if !missing.is_empty() {
