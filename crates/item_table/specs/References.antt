@@ -37,10 +37,11 @@ noted t (w ∷ ws) = noted (filled (reserved t) (placeIn t) w) ws
 abbrev pub latest : ℕ → ℕ → ℕ
 latest k before = cond (eqb k 0) before k
 
--- so many of them get it
+-- a word with this end
 abbrev pub withEnd : ℕ → ℕ → ℕ
 withEnd w a = w % 65536 + a % 65536 * 65536 + w / 4294967296 * 4294967296
 
+-- so many of those that wait get theirs, from place k on
 abbrev pub endedBy : ℕ → ℕ → ℕ → List ℕ → List ℕ
 endedBy zero k a t = t
 endedBy (suc n) k a t =

@@ -1,42 +1,12 @@
 -- `grammar::inside_word`: at each number the word means what the rule says, which antt computes arm by arm; beyond them all is as the version.
-use Prim.Native.Nat.{ℕ}
 use mathlib.Core.Path.{refl, ap}
-use mathlib.Core.List.{List, [], _∷_}
-use lib.ListN.{getD}
 use Rattle.ari.specs.Table.{Slot, rule}
-use Rattle.grammar.specs.Code.{slotOf}
-use Rattle.grammar.specs.Words.{Inner, innerMeans, innerFor}
+use Rattle.grammar.specs.Words.{innerMeans, innerFor}
 use Rattle.grammar.proofs.Hits.{arm, left-over}
+use Rattle.grammar.proofs.InnerArms.{word, keys, key}
 use Rattle.grammar.proofs.Right.{no-slot}
 use Rattle.grammar.proofs.inside_word.Statement.{statement}
 use Rattle.grammar.proofs.inside_word.Tie as tie
-
-abbrev word : ℕ → Inner
-word i = innerFor (rule (slotOf i))
-
--- the arms' numbers
-abbrev keys : List (List ℕ)
-keys =
-    (0 ∷ 5 ∷ 7 ∷ 9 ∷ 11 ∷ 13 ∷ 15 ∷ 17 ∷ 21 ∷ 23 ∷ 26 ∷ [])
-    ∷ (6 ∷ 8 ∷ 10 ∷ 12 ∷ 14 ∷ 18 ∷ 22 ∷ [])
-    ∷ (1 ∷ [])
-    ∷ (2 ∷ [])
-    ∷ (3 ∷ 19 ∷ [])
-    ∷ (4 ∷ 20 ∷ [])
-    ∷ (24 ∷ 27 ∷ [])
-    ∷ (25 ∷ [])
-    ∷ (28 ∷ 30 ∷ 32 ∷ 34 ∷ 36 ∷ 38 ∷ 40 ∷ 42 ∷ 44 ∷ 46 ∷ [])
-    ∷ (29 ∷ 31 ∷ 33 ∷ 35 ∷ 37 ∷ 39 ∷ 41 ∷ 43 ∷ 45 ∷ 47 ∷ [])
-    ∷ (48 ∷ [])
-    ∷ (49 ∷ [])
-    ∷ (16 ∷ 50 ∷ 52 ∷ 54 ∷ 56 ∷ 58 ∷ 60 ∷ 62 ∷ 64 ∷ 66 ∷ 68 ∷ [])
-    ∷ (51 ∷ 53 ∷ 55 ∷ 57 ∷ 59 ∷ 61 ∷ 63 ∷ 65 ∷ 67 ∷ 69 ∷ [])
-    ∷ (70 ∷ [])
-    ∷ (71 ∷ [])
-    ∷ []
-
-abbrev key : ℕ → List ℕ
-key n = getD keys n []
 
 pub inside-word-spec : {M : Type 1} → statement M
 unfolding innerMeans innerFor rule
