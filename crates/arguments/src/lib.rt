@@ -1,4 +1,5 @@
 // What the arguments of a program say.
+#![tactic(auto)]
 
 // No argument; the one word that may stand there; or anything else.
 #[derive(Drop)]

@@ -1,4 +1,6 @@
 // The two inputs and their limits, as the definitions and the functions have them. What an ARI and a message are stands in specs/.
+#![tactic(auto)]
+
 ghost use Rattle.std.specs.Prelude.{◌≡◌, ◌≤◌, min};
 ghost use Rattle.ari.specs.Limits.{gate_limits, capped};
 

@@ -1,4 +1,6 @@
 // CBOR item heads (RFC 8949, narrowed by R9 to R19), keys, and UTF-8 (RFC 3629).
+#![tactic(auto)]
+
 ghost use Rattle.std.specs.Prelude.{◌≡◌, ◌+◌, ◌^◌, ◌<◌, ◌≤◌, ◌%◌, ◌/◌, length, drop, get_or};
 ghost use Rattle.buffer.specs.Bytes.{all, part};
 ghost use Rattle.buffer.specs.Put.{Put};

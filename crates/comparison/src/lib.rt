@@ -1,4 +1,5 @@
 // What differs between two messages: an entry for each position of a target or report. Nothing is copied: the two item tables are gone through side by side.
+#![tactic(auto)]
 ghost use Rattle.std.specs.Prelude.{◌≡◌, true, ◌++◌, suc, ◌*◌, ◌/◌, ◌<◌, ◌≤◌, min, max, length, drop};
 ghost use Rattle.buffer.specs.Bytes.{be};
 ghost use Rattle.buffer.specs.Put.{Put};

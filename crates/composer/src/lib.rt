@@ -1,4 +1,5 @@
 // Orders composed at a field console: the message of a nonce and of targets that are given as texts. What is read, judged and handed over is the gate's.
+#![tactic(auto)]
 ghost use Rattle.std.specs.Prelude.{◌≡◌, true, ◌≤◌, ◌<◌, length};
 ghost use Rattle.buffer.specs.Put.{Put};
 ghost use Rattle.buffer.specs.Runs.{RunTo};

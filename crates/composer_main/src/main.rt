@@ -1,5 +1,6 @@
 // `composer NONCE`: reads texts of object references from standard input, a line each, and writes the message of the nonce and these targets, or the line
 // `refused N P`. NONCE is `null`, a number in decimal, or a byte string as h'00ff' or, as in ARI text, h%2700ff%27.
+#![tactic(auto)]
 
 // What NONCE is: nothing that is taken for one, or a nonce; the bytes of a string stand in a room.
 #[derive(Drop)]

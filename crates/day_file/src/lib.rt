@@ -1,4 +1,5 @@
 // The day file: released messages back to back, a table of their offsets, a trailer. It is checked, a message is found by its number, and one is added.
+#![tactic(auto)]
 ghost use Rattle.std.specs.Prelude.{◌≡◌, true, ◌++◌, ◌+◌, ◌*◌, ◌<◌, ◌≤◌, length};
 ghost use Rattle.buffer.specs.Bytes.{be, part};
 ghost use Rattle.buffer.specs.Put.{Put};

@@ -1,5 +1,6 @@
 // `gate compare FILE FILE`: what differs between two messages, a line for each position of a target or report, and under a changed one the two items as
 // `gate items` shows them; or `refused N P` with the name of the refused file on standard error.
+#![tactic(auto)]
 
 ghost use Rattle.std.specs.Prelude.{◌≤◌, length};
 

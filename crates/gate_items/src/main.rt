@@ -1,5 +1,6 @@
 // Reads a message from standard input, or with the argument `single` a single ARI, and writes a line for each item, or the
 // input's refusal.
+#![tactic(auto)]
 
 use arguments::Choice;
 use ari::Input;

@@ -1,4 +1,5 @@
 // Reads a message from standard input and writes its references (R82), or the message's refusal.
+#![tactic(auto)]
 
 fn show(s: &[u8], out: &mut [u8], room: &mut [u8]) {
     match listing::list_message(s, room) {

@@ -1,5 +1,6 @@
 // `gate names PUBLISHED [OWN]`: whether each line of the two lists of names is well-formed: `passes LINES`, or `refused 19 BYTE` and a line that says which
 // line of which file it is and what is wrong with it. `gate names PUBLISHED OWN NAME` writes the line that the name has, if it has one.
+#![tactic(auto)]
 
 ghost use Rattle.std.specs.Prelude.{◌≤◌, length};
 

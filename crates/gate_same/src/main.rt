@@ -1,5 +1,6 @@
 // `gate same FILE FILE`: whether two files hold the same single ARI: `same`, `different`, or `refused N P` with the name of the refused file on standard
 // error.
+#![tactic(auto)]
 
 // The refused file is the first, if it is refused by itself.
 fn show_refused(first: &[u8], number: u8, place: usize) {

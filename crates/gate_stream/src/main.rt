@@ -1,4 +1,5 @@
 // Reads a message from standard input in whatever pieces it comes, and writes what `gate list` writes; a refusal as soon as it stands.
+#![tactic(auto)]
 
 // Feeds what is read until the input ends, true, or a refusal stands and is written. More bytes than the limit are refused, so no more are read.
 fn is_received(state: &mut [u64], message: &mut [u8], piece: &mut [u8], out: &mut [u8]) -> bool {

@@ -1,5 +1,6 @@
 // Reads a message from standard input and writes it without one of its targets or reports, the one of the number that the argument is. A refusal is the
 // line `refused N P`; a message has nothing behind it.
+#![tactic(auto)]
 
 fn send(answer: strike::Struck, room: &[u8]) {
     match answer {

@@ -1,6 +1,7 @@
 // Reads the text of a grant table from standard input and writes whether it passes its check: `passes ROWS`, or `refused 18 ROW`
 // and a line that says which two rows clash. With the argument `pack` it writes the rows as bytes. A text that is no table is said
 // on standard error.
+#![tactic(auto)]
 
 use arguments::Choice;
 

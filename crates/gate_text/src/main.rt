@@ -1,5 +1,6 @@
 // Reads a single ARI in binary form from standard input and writes its text; with the argument `read` the other way round. A
 // refusal is the line `refused N P`; a text and a binary form have nothing behind them.
+#![tactic(auto)]
 
 use arguments::Choice;
 

@@ -1,6 +1,7 @@
 // Reads inputs from standard input, one a line, and writes the answers to them. A line is `single`, `message`, `items-single`,
 // `items-message`, `write` (of an ARI) or `read` (of a text), a space and the input in hex; blank lines and those that start with
 // `#` are skipped.
+#![tactic(auto)]
 ghost use Rattle.std.specs.Prelude.{◌≤◌, length};
 ghost use Rattle.gate_vectors.specs.Within.{Roomy};
 

@@ -1,5 +1,6 @@
 // `gate why TABLE SUBSCRIBER [PUBLISHED [OWN]]`: reads a message from standard input and writes why it is held: `released`; the entry that release names as its
 // text, with the reason in words, and a line for each container from the outermost down to it; or a refusal.
+#![tactic(auto)]
 
 fn main() {
     release_program::run(

@@ -4,6 +4,8 @@
 // range that the argument must lie in (test 7); at 50 the slot that may follow, seven bits; at 57, 58 and 59 how it follows: it takes one of
 // those that are left, those that are left stay, the argument is added to it; at 60 the slot's own test (8, 11 or 12); at 62 how a text string
 // is spelled (10). The words stand here alone: that they say what `rule` of the definitions says is the contract of `walk_word` and `follow_word`.
+#![tactic(auto)]
+
 ghost use Rattle.std.specs.Prelude.{◌≡◌, ◌-◌, ◌%◌, ◌≤◌, ◌<◌, length, drop};
 ghost use Rattle.ari.specs.Table.{reference_level, rule};
 ghost use Rattle.grammar.specs.Code.{IsSlot, slot_of, next_of, type_number, fits_code, extra_of, spelled_as, takes_reference_of, next_code, inside_code};

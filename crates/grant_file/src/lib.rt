@@ -1,5 +1,6 @@
 // A grant table's text from an open file into rows of 16 bytes. What is wrong is said on standard error, after the name that the
 // caller gives.
+#![tactic(auto)]
 ghost use Rattle.std.specs.Prelude.{◌≡◌, length};
 
 // So many rows stand in the room, or what was wrong has been said.

@@ -1,4 +1,5 @@
 // An input from a file that an argument names. What is wrong is said on standard error, after the file's name.
+#![tactic(auto)]
 ghost use Rattle.io.specs.Counts.{IsPrefixLen};
 
 // So many bytes of the file stand in the room, or what was wrong has been said.

@@ -1,5 +1,6 @@
 // What `gate release` and `gate why` do: a message from standard input, judged under the grant table, the lists of names and the subscriber that the arguments
 // name.
+#![tactic(auto)]
 use input_file::Loaded;
 use release::Released;
 use why_held::{Link, Outcome, Why};

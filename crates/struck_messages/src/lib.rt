@@ -1,1 +1,2 @@
 // The theorems about struck messages: no function of its own.
+#![tactic(auto)]

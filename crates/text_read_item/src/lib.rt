@@ -1,4 +1,5 @@
 // What a word of a text means: the head that is due at a slot, read from a text and put as bytes. Lax: the bytes count only if their own text is the text that was read.
+#![tactic(auto)]
 ghost use Rattle.std.specs.Prelude.{◌≡◌, true, not, [], ◌∷◌, ◌++◌, ◌+◌, ◌*◌, ◌<◌, ◌≤◌, ◌^◌, length, drop, get_or};
 ghost use Rattle.buffer.specs.Runs.{past, RunTo};
 ghost use Rattle.buffer.specs.Bytes.{part, within};

@@ -4,6 +4,6 @@ use borrow.Author.Rules.{rules}
 use Rattle.buffer.proofs.load4.Statement.{statement}
 use Rattle.buffer.proofs.load4.Tie as tie
 
-pub load4-spec : {M : Type 1} → statement M
-load4-spec = tie.close (tie.spec (λ c. search (numbers, rules)) (λ c. search rules) (λ c. search (numbers, rules)) (λ c κs. search rules)
+pub load4_spec : {M : Type 1} → statement M
+load4_spec = tie.close (tie.spec (λ c. search (numbers, rules)) (λ c. search rules) (λ c. search (numbers, rules)) (λ c κs. search rules)
     (λ c. search rules) (λ c κs. search rules) (λ c. search rules) (λ c. search (numbers, rules)))

@@ -4,5 +4,5 @@ use borrow.Author.Rules.{rules}
 use Rattle.buffer.proofs.positive.Statement.{statement}
 use Rattle.buffer.proofs.positive.Tie as tie
 
-pub positive-spec : {M : Type 1} → statement M
-positive-spec = tie.close (tie.spec (λ c. search rules) (λ c. search (reading, rules)) (λ c. search rules) (λ c. search (reading, rules)) (λ c. search rules))
+pub positive_spec : {M : Type 1} → statement M
+positive_spec = tie.close (tie.spec (λ c. search rules) (λ c. search (reading, rules)) (λ c. search rules) (λ c. search (reading, rules)) (λ c. search rules))

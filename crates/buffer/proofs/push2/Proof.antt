@@ -4,6 +4,6 @@ use borrow.Author.Rules.{rules}
 use Rattle.buffer.proofs.push2.Statement.{statement}
 use Rattle.buffer.proofs.push2.Tie as tie
 
-pub push2-spec : {M : Type 1} → statement M
-push2-spec = tie.close (tie.spec (λ c. search rules) (λ c. search rules) (λ c κs. search rules) (λ c. search rules) (λ c. search rules)
+pub push2_spec : {M : Type 1} → statement M
+push2_spec = tie.close (tie.spec (λ c. search rules) (λ c. search rules) (λ c κs. search rules) (λ c. search rules) (λ c. search rules)
     (λ c. search rules) (λ c. search rules) (λ c κs. search rules) (λ c. search rules) (λ c. search (numbers, rules)))

@@ -4,6 +4,6 @@ use borrow.Author.Rules.{rules}
 use Rattle.buffer.proofs.put2.Statement.{statement}
 use Rattle.buffer.proofs.put2.Tie as tie
 
-pub put2-spec : {M : Type 1} → statement M
-put2-spec =
+pub put2_spec : {M : Type 1} → statement M
+put2_spec =
     tie.close (tie.spec (λ c. search rules) (λ c κs. search rules) (λ c. search rules) (λ c κs. search rules) (λ c. search rules) (λ c. search (numbers, rules)))

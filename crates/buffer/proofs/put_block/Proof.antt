@@ -7,14 +7,14 @@ use Rattle.buffer.proofs.Putting.{copying, put_next, in_text_lem, in_room, in_le
 use Rattle.buffer.proofs.put_block.Statement.{statement}
 use Rattle.buffer.proofs.put_block.Tie as tie
 
-abbrev invariant-loop : tie.invariant-loop
-invariant-loop out₀ at s n i₀ out i = Put out₀ out at (at + i) (take i s) × (i ≤ n)
+abbrev invariant-loop-i : tie.invariant-loop-i
+invariant-loop-i out₀ at s n i₀ out i = Put out₀ out at (at + i) (take i s) × (i ≤ n)
 
-abbrev decreases-loop : tie.decreases-loop
-decreases-loop out₀ at s n i₀ out i = n - i
+abbrev decreases-loop-i : tie.decreases-loop-i
+decreases-loop-i out₀ at s n i₀ out i = n - i
 
-pub put-block-spec : {M : Type 1} → statement M
-put-block-spec = tie.close (tie.spec invariant-loop decreases-loop (λ c. search (copying, rules)) (λ c. search (copying, rules)) (λ c κs. search (copying, rules))
+pub put_block_spec : {M : Type 1} → statement M
+put_block_spec = tie.close (tie.spec invariant-loop-i decreases-loop-i (λ c. search (copying, rules)) (λ c. search (copying, rules)) (λ c κs. search (copying, rules))
     (λ c. search (copying, rules)) (λ c. search (copying, rules)) (λ c. search (copying, rules)) (λ c. search (in_lent, rules))
     (λ c. search (copying, rules)) (λ c. search (copying, rules)) (λ c. (search (put_next, in_text_lem, in_room, rules), search rules))
     (λ c. search (copying, rules)) (λ c. search (copying, rules)) (λ c. search (copying, rules)))

@@ -8,13 +8,13 @@ use borrow.Author.Rules.{rules}
 use Rattle.buffer.proofs.read_digits.Statement.{statement}
 use Rattle.buffer.proofs.read_digits.Tie as tie
 
-abbrev invariant-loop : tie.invariant-loop
-invariant-loop t n₀ i₀ n i = digitsOf n (drop i t) ≡ digitsOf 0 t
+abbrev invariant-loop-i : tie.invariant-loop-i
+invariant-loop-i t n₀ i₀ n i = digitsOf n (drop i t) ≡ digitsOf 0 t
 
-abbrev decreases-loop : tie.decreases-loop
-decreases-loop t n₀ i₀ n i = length t - i
+abbrev decreases-loop-i : tie.decreases-loop-i
+decreases-loop-i t n₀ i₀ n i = length t - i
 
-pub read-digits-spec : {M : Type 1} → statement M
-read-digits-spec = tie.close (tie.spec invariant-loop decreases-loop (λ c. search (reading, rules)) (λ c. search (reading, rules)) (λ c κs. search (reading, rules))
+pub read_digits_spec : {M : Type 1} → statement M
+read_digits_spec = tie.close (tie.spec invariant-loop-i decreases-loop-i (λ c. search (reading, rules)) (λ c. search (reading, rules)) (λ c κs. search (reading, rules))
     (λ c. search (reading, rules)) (λ c. search (reading, rules)) (λ c. search (reading, rules)) (λ c. search (reading, rules))
     (λ c. search (reading, rules)) (λ c. search (reading, rules)) (λ c. search (reading, rules)))

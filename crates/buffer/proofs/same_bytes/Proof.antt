@@ -8,13 +8,13 @@ use borrow.Author.Rules.{rules}
 use Rattle.buffer.proofs.same_bytes.Statement.{statement}
 use Rattle.buffer.proofs.same_bytes.Tie as tie
 
-abbrev invariant-loop : tie.invariant-loop
-invariant-loop a b i₀ i = (same (drop i a) (drop i b) ≡ same a b) × (i ≤ length a) × (length a ≡ length b)
+abbrev invariant-loop-i : tie.invariant-loop-i
+invariant-loop-i a b i₀ i = (same (drop i a) (drop i b) ≡ same a b) × (i ≤ length a) × (length a ≡ length b)
 
-abbrev decreases-loop : tie.decreases-loop
-decreases-loop a b i₀ i = length a - i
+abbrev decreases-loop-i : tie.decreases-loop-i
+decreases-loop-i a b i₀ i = length a - i
 
-pub same-bytes-spec : {M : Type 1} → statement M
-same-bytes-spec = tie.close (tie.spec invariant-loop decreases-loop (λ c. search (comparing, rules)) (λ c. search (comparing, rules))
+pub same_bytes_spec : {M : Type 1} → statement M
+same_bytes_spec = tie.close (tie.spec invariant-loop-i decreases-loop-i (λ c. search (comparing, rules)) (λ c. search (comparing, rules))
     (λ c. search (comparing, rules)) (λ c. search (comparing, rules)) (λ c. search (comparing, rules)) (λ c. search (comparing, rules))
     (λ c. search (comparing, rules)) (λ c. search (comparing, rules)) (λ c. search (comparing, rules)))

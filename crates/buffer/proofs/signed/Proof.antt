@@ -4,7 +4,7 @@ use borrow.Author.Rules.{rules}
 use Rattle.buffer.proofs.signed.Statement.{statement}
 use Rattle.buffer.proofs.signed.Tie as tie
 
-pub signed-spec : {M : Type 1} → statement M
-signed-spec = tie.close (tie.spec (λ c. search (reading, rules)) (λ c. search (reading, rules)) (λ c. search (reading, rules))
+pub signed_spec : {M : Type 1} → statement M
+signed_spec = tie.close (tie.spec (λ c. search (reading, rules)) (λ c. search (reading, rules)) (λ c. search (reading, rules))
     (λ c. search (reading, rules)) (λ c. search (reading, rules)) (λ c κs. search (reading, rules)) (λ c κs. search (reading, rules))
     (λ c. search (reading, rules)) (λ c κs. search (reading, rules)) (λ c κs. search (reading, rules)) (λ c. search (reading, rules)))

@@ -4,6 +4,6 @@ use borrow.Author.Rules.{rules}
 use Rattle.buffer.proofs.unsigned.Statement.{statement}
 use Rattle.buffer.proofs.unsigned.Tie as tie
 
-pub unsigned-spec : {M : Type 1} → statement M
-unsigned-spec = tie.close (tie.spec (λ c. search (reading, rules)) (λ c κs. search (reading, rules)) (λ c. search (reading, rules))
+pub unsigned_spec : {M : Type 1} → statement M
+unsigned_spec = tie.close (tie.spec (λ c. search (reading, rules)) (λ c κs. search (reading, rules)) (λ c. search (reading, rules))
     (λ c. search (reading, rules)) (λ c. search (reading, rules)) (λ c κs. search (reading, rules)) (λ c. search (reading, rules)))

@@ -9,14 +9,14 @@ use borrow.Author.Rules.{rules}
 use Rattle.cbor.proofs.ascii_run.Statement.{statement}
 use Rattle.cbor.proofs.ascii_run.Tie as tie
 
-abbrev invariant-loop : tie.invariant-loop
-invariant-loop s at i₀ i = Ahead is_ascii s at i
+abbrev invariant-loop-i : tie.invariant-loop-i
+invariant-loop-i s at i₀ i = Ahead is_ascii s at i
 
-abbrev decreases-loop : tie.decreases-loop
-decreases-loop s at i₀ i = length s - i
+abbrev decreases-loop-i : tie.decreases-loop-i
+decreases-loop-i s at i₀ i = length s - i
 
 pub ascii_run_spec : {M : Type 1} → statement M
-ascii_run_spec = tie.close (tie.spec invariant-loop decreases-loop (λ c κs. search (asciis, texts, rules)) (λ c κs. search (asciis, texts, rules))
+ascii_run_spec = tie.close (tie.spec invariant-loop-i decreases-loop-i (λ c κs. search (asciis, texts, rules)) (λ c κs. search (asciis, texts, rules))
     (λ c. search (asciis, texts, rules)) (λ c. search (asciis, texts, rules)) (λ c. search (asciis, texts, rules))
     (λ c. search (asciis, texts, rules)) (λ c. search (asciis, texts, rules)) (λ c. search (asciis, texts, rules))
     (λ c. search (asciis, texts, rules)))
