@@ -46,6 +46,7 @@ own (item l str ms rs) more (due s n) prev p d f =
     (own rs more ((rule s).next l.arg n) (prev_after s prev l str) (past p l str ms) d f.2))
 
 all_mem : {P : Spot → Type 0} {x : Spot} {xs : List Spot} → All P xs → Memᴰ x xs → P x
+all_mem no_spot_lem m = elim m [ ]
 all_mem {P} (spot_too h a) (Memᴰ.head e) = subst P (sym e) h
 all_mem (spot_too h a) (Memᴰ.tail m) = all_mem a m
 

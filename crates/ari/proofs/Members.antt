@@ -34,6 +34,7 @@ all_mems [] = no_spot_lem
 all_mems (x ∷ xs) = spot_too (Memᴰ.head refl) (all_map (λ y m. Memᴰ.tail m) (all_mems xs))
 
 pub all_of : {P : Spot → Type 0} {x : Spot} {xs : List Spot} → All P xs → Memᴰ x xs → P x
+all_of no_spot_lem m = elim m [ ]
 all_of {P} (spot_too h a) (Memᴰ.head e) = subst P (sym e) h
 all_of (spot_too h a) (Memᴰ.tail m) = all_of a m
 

@@ -89,6 +89,7 @@ named_all (single_ari a) = named_ari a 0
 named_all (a_message v r) = named_sets r _
 
 mem_named : {r : Placed} {rs : List Placed} → AllNamed rs → Memᴰ r rs → Named r.inside
+mem_named no_one m = elim m [ ]
 mem_named (one_too n a) (Memᴰ.head e) = rw e n
 mem_named (one_too n a) (Memᴰ.tail m) = mem_named a m
 

@@ -1,6 +1,7 @@
 // The text of a grant table: on each line a subscriber and a namespace in plain decimal, with blanks (spaces, tabs) between and
 // around; `#` starts a comment, and a line with nothing before it is skipped.
 #![tactic(auto)]
+
 ghost use Rattle.std.specs.Prelude.{◌≡◌, cond, ◌++◌, ◌+◌, ◌/◌, ◌≤◌, ◌<◌, length};
 ghost use Rattle.std.proofs.lemmas.List.Edits.{sets};
 ghost use Rattle.buffer.specs.Bytes.{be};

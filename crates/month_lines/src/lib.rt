@@ -1,5 +1,6 @@
 // The lines of a month, a line for each namespace: their places in rising order in one array, how many references are to each in another.
 #![tactic(auto)]
+
 ghost use Rattle.std.specs.Prelude.{◌≡◌, ◌+◌, ◌<◌, ◌≤◌, min, length};
 ghost use Rattle.month_lines.specs.Code.{beyond, Splits, is_there, shifted, Counts};
 

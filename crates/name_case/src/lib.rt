@@ -1,5 +1,6 @@
 // Names without regard to letter case: namespace names, object types and object ids.
 #![tactic(auto)]
+
 ghost use Rattle.std.specs.Prelude.{◌≡◌, eqb};
 ghost use Rattle.ari.specs.Name.{lower, same_name};
 

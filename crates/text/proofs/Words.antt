@@ -31,9 +31,9 @@ halts (x ∷ t) = ends x
 pub word_at : (u r : List ℕ) → all in_word u ≡ true → halts r ≡ true → (front in_word (u ++ r) ≡ u) × (past in_word (u ++ r) ≡ r)
 word_at u r e h = run_at in_word u r e (stop r h)
   where
-    stop : (r : List ℕ) → halts r ≡ true → runs.halts in_word r
-    stop [] h = unfold runs.halts in tt
-    stop (x ∷ r) h = unfold runs.halts halts in_word in rw h
+    stop : (r : List ℕ) → halts r ≡ true → runs.Halts in_word r
+    stop [] h = unfold runs.Halts in tt
+    stop (x ∷ r) h = unfold runs.Halts halts in_word in rw h
 
 -- a test that fails at c
 pub differs : (p : ℕ → Bool) (c : ℕ) → p c ≡ false → (x : ℕ) → p x ≡ true → eqb x c ≡ false

@@ -8,14 +8,14 @@ use Rattle.ari.specs.Name.{continues_name}
 use Rattle.grammar.proofs.is_identifier_at.Statement.{statement}
 use Rattle.grammar.proofs.is_identifier_at.Tie as tie
 
-abbrev invariant-loop : tie.invariant-loop
-invariant-loop s at i₀ i = (i ≤ length s) × (all continues_name (drop (at + 1) s) ≡ all continues_name (drop i s))
+abbrev invariant-loop-i : tie.invariant-loop-i
+invariant-loop-i s at i₀ i = (i ≤ length s) × (all continues_name (drop (at + 1) s) ≡ all continues_name (drop i s))
 
-abbrev decreases-loop : tie.decreases-loop
-decreases-loop s at i₀ i = length s - i
+abbrev decreases-loop-i : tie.decreases-loop-i
+decreases-loop-i s at i₀ i = length s - i
 
 pub is_identifier_at_spec : {M : Type 1} → statement M
-is_identifier_at_spec = tie.close (tie.spec invariant-loop decreases-loop (λ c. search (names, rules)) (λ c. search (names, rules)) (λ c. search (names, rules))
+is_identifier_at_spec = tie.close (tie.spec invariant-loop-i decreases-loop-i (λ c. search (names, rules)) (λ c. search (names, rules)) (λ c. search (names, rules))
     (λ c. search (names, rules)) (λ c κs. search (names, rules)) (λ c. search (names, rules)) (λ c. search (names, rules))
     (λ c. search (names, rules)) (λ c κs. search (names, rules)) (λ c. search (names, rules)) (λ c. search (names, rules))
     (λ c. search (names, rules)) (λ c. search (names, rules)) (λ c. search (names, rules)) (λ c. search (names, rules)))

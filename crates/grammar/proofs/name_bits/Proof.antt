@@ -9,6 +9,6 @@ use Rattle.grammar.proofs.name_bits.Statement.{statement}
 use Rattle.grammar.proofs.name_bits.Tie as tie
 
 pub name_bits_spec : {M : Type 1} → statement M
-name_bits_spec = tie.close (tie.spec (λ c. name_word 0 (omega arith) _ c.match.keys1) (λ c. name_word 1 (omega arith) _ c.match.keys2)
-    (λ c. name_word 2 (omega arith) _ c.match.keys3) (λ c. name_word 3 (omega arith) _ c.match.keys4)
-    (λ c. absurd (let h = left_over 4 (arms (λ k. k ∷ []) 0 4) _ refl c.match.rest in let x = c.before.requires in omega arith)))
+name_bits_spec = tie.close (tie.spec (λ c. name_word 0 (omega arith) _ c.in-0.is) (λ c. name_word 1 (omega arith) _ c.in-1.is)
+    (λ c. name_word 2 (omega arith) _ c.in-2.is) (λ c. name_word 3 (omega arith) _ c.in-3.is)
+    (λ c. absurd (let h = left_over 4 (arms (λ k. k ∷ []) 0 4) _ refl c.in_default.in_default-own.rest in let x = c.before.requires in omega arith)))

@@ -7,4 +7,4 @@ use Rattle.grammar.proofs.next_by.Tie as tie
 pub next_by_spec : {M : Type 1} → statement M
 next_by_spec = tie.close (tie.spec (λ c κs. search rules) (λ c. search (none_left, rules)) (λ c κs. search rules) (λ c κs. search rules)
     (λ c. search rules)
-    (λ c. next_due _ _ _ c.before.before.before.if-set.ensures (search rules) c.before.type-number.ensures c.if-set2.ensures))
+    (λ c. next_due _ _ _ c.before.before.before.if_set-rest.ensures (search rules) c.before.type_number.ensures c.if_set.ensures))

@@ -39,10 +39,10 @@ none_of s = each 56 (λ x. ltb x 56 && (ltb (x % 32) 24 && (eqb (extra_number (r
 
 pub number_bits_spec : {M : Type 1} → statement M
 unfolding takes_number fits_code rule types
-number_bits_spec = tie.close (tie.spec (λ c. arm numbers_of _ (key 0) _ refl c.match.keys1) (λ c. arm numbers_of _ (key 1) _ refl c.match.keys2)
-    (λ c. arm numbers_of _ (key 2) _ refl c.match.keys3) (λ c. arm numbers_of _ (key 3) _ refl c.match.keys4)
-    (λ c. arm numbers_of _ (key 4) _ refl c.match.keys5) (λ c. arm numbers_of _ (key 5) _ refl c.match.keys6)
-    (λ c. arm numbers_of _ (key 6) _ refl c.match.keys7) (λ c. arm numbers_of _ (key 7) _ refl c.match.keys8)
-    (λ c. arm numbers_of _ (key 8) _ refl c.match.keys9) (λ c. arm numbers_of _ (key 9) _ refl c.match.keys10)
-    (λ c. arm numbers_of _ (key 10) _ refl c.match.keys11) (λ c. arm numbers_of _ (key 11) _ refl c.match.keys12)
-    (λ c. ap (λ (s : Slot). none_of s) (no_slot _ (left_over 72 keys _ refl c.match.rest))))
+number_bits_spec = tie.close (tie.spec (λ c. arm numbers_of _ (key 0) _ refl c.in-1.is) (λ c. arm numbers_of _ (key 1) _ refl c.in-4.is)
+    (λ c. arm numbers_of _ (key 2) _ refl c.in-5.is) (λ c. arm numbers_of _ (key 3) _ refl c.in-6.is)
+    (λ c. arm numbers_of _ (key 4) _ refl c.in-7.is) (λ c. arm numbers_of _ (key 5) _ refl c.in-8.is)
+    (λ c. arm numbers_of _ (key 6) _ refl c.in-12.is) (λ c. arm numbers_of _ (key 7) _ refl c.in-13.is)
+    (λ c. arm numbers_of _ (key 8) _ refl c.in-14.is) (λ c. arm numbers_of _ (key 9) _ refl c.in-15.is)
+    (λ c. arm numbers_of _ (key 10) _ refl c.in-0.is) (λ c. arm numbers_of _ (key 11) _ refl c.in-17.is)
+    (λ c. ap (λ (s : Slot). none_of s) (no_slot _ (left_over 72 keys _ refl c.in_default.in_default-own.rest))))

@@ -9,13 +9,13 @@ use Rattle.grants.specs.Bytes.{rows}
 use Rattle.grants.proofs.granted.Statement.{statement}
 use Rattle.grants.proofs.granted.Tie as tie
 
-abbrev invariant-loop : tie.invariant-loop
-invariant-loop t subscriber namespace at₀ at =
+abbrev invariant-loop-at : tie.invariant-loop-at
+invariant-loop-at t subscriber namespace at₀ at =
     (at ≤ length t) × (some (holds subscriber (signed namespace)) (rows t) ≡ some (holds subscriber (signed namespace)) (rows (drop at t)))
 
-abbrev decreases-loop : tie.decreases-loop
-decreases-loop t subscriber namespace at₀ at = length t - at
+abbrev decreases-loop-at : tie.decreases-loop-at
+decreases-loop-at t subscriber namespace at₀ at = length t - at
 
 pub granted_spec : {M : Type 1} → statement M
-granted_spec = tie.close (tie.spec invariant-loop decreases-loop (λ c. search (ways, rules)) (λ c. search (ways, rules)) (λ c κs. search (ways, rules))
+granted_spec = tie.close (tie.spec invariant-loop-at decreases-loop-at (λ c. search (ways, rules)) (λ c. search (ways, rules)) (λ c κs. search (ways, rules))
     (λ c. search (ways, rules)) (λ c. search (ways, rules)) (λ c. search (ways, rules)) (λ c. search (ways, rules)) (λ c. search (ways, rules)))

@@ -9,14 +9,14 @@ use Rattle.month_lines.proofs.Words.{shifts}
 use Rattle.month_lines.proofs.insert.Statement.{statement}
 use Rattle.month_lines.proofs.insert.Tie as tie
 
-abbrev invariant-loop : tie.invariant-loop
-invariant-loop words₀ lines at word carried₀ i₀ words carried i = (i ≤ lines) × (length words ≡ length words₀) × (shifted lines i carried words ≡ shifted lines at word words₀)
+abbrev invariant-loop-i : tie.invariant-loop-i
+invariant-loop-i words₀ lines at word carried₀ i₀ words carried i = (i ≤ lines) × (length words ≡ length words₀) × (shifted lines i carried words ≡ shifted lines at word words₀)
 
-abbrev decreases-loop : tie.decreases-loop
-decreases-loop words₀ lines at word carried₀ i₀ words carried i = lines - i
+abbrev decreases-loop-i : tie.decreases-loop-i
+decreases-loop-i words₀ lines at word carried₀ i₀ words carried i = lines - i
 
 pub insert_spec : {M : Type 1} → statement M
-insert_spec = tie.close (tie.spec invariant-loop decreases-loop (λ c. search (shifts, rules)) (λ c. search (shifts, rules)) (λ c. search (shifts, rules))
+insert_spec = tie.close (tie.spec invariant-loop-i decreases-loop-i (λ c. search (shifts, rules)) (λ c. search (shifts, rules)) (λ c. search (shifts, rules))
     (λ c. search (shifts, rules)) (λ c. search (shifts, rules)) (λ c. search (shifts, rules)) (λ c. search (shifts, rules))
     (λ c. search (shifts, rules)) (λ c. search (shifts, rules)) (λ c. search (shifts, rules)) (λ c. search (shifts, rules))
     (λ c. search (shifts, rules)))

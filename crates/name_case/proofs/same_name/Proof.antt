@@ -8,13 +8,13 @@ use borrow.Author.Rules.{rules}
 use Rattle.name_case.proofs.same_name.Statement.{statement}
 use Rattle.name_case.proofs.same_name.Tie as tie
 
-abbrev invariant-loop : tie.invariant-loop
-invariant-loop a b i₀ i = (same_name (drop i a) (drop i b) ≡ same_name a b) × (i ≤ length a) × (length a ≡ length b)
+abbrev invariant-loop-i : tie.invariant-loop-i
+invariant-loop-i a b i₀ i = (same_name (drop i a) (drop i b) ≡ same_name a b) × (i ≤ length a) × (length a ≡ length b)
 
-abbrev decreases-loop : tie.decreases-loop
-decreases-loop a b i₀ i = length a - i
+abbrev decreases-loop-i : tie.decreases-loop-i
+decreases-loop-i a b i₀ i = length a - i
 
 pub same_name_spec : {M : Type 1} → statement M
-same_name_spec = tie.close (tie.spec invariant-loop decreases-loop (λ c. search (case_ways, rules)) (λ c. search (case_ways, rules)) (λ c. search rules)
+same_name_spec = tie.close (tie.spec invariant-loop-i decreases-loop-i (λ c. search (case_ways, rules)) (λ c. search (case_ways, rules)) (λ c. search rules)
     (λ c. search rules) (λ c κs. search rules) (λ c. search (case_ways, rules)) (λ c. search rules) (λ c. search rules)
     (λ c. search (case_ways, rules)) (λ c. search (case_ways, rules)))
