@@ -5,7 +5,7 @@ use Rattle.buffer.proofs.RunLaws.{Ahead}
 use Rattle.grant_text.proofs.behind.Given as goal
 
 abbrev pub invariant-loop-i : goal.invariant-loop-i
-invariant-loop-i l = Ahead (is_of l.initial.class) l.initial.t.now l.initial.from l.i
+invariant-loop-i l = Ahead (is_of l.initial.class) l.initial.t l.initial.from l.i
 
 abbrev pub decreases-loop-i : goal.decreases-loop-i
-decreases-loop-i l = length l.initial.t.now - l.i
+decreases-loop-i l = length l.initial.t - l.i
