@@ -1,5 +1,6 @@
 // What the arguments of a program say.
 #![tactic(auto)]
+
 ghost use Rattle.std.specs.Prelude.{◌≤◌, length};
 
 use std::env::{Env, FillError};

@@ -198,7 +198,12 @@ fn show(rt: &impl Env, first: &[u8], second: &[u8], room: &mut [u8]) {
 fn main(rt: HostRuntime) {
     let mut first = [0u8; ari::BYTES + 1];
     let mut second = [0u8; ari::BYTES + 1];
-    let b = input_file::load_both(&rt, b"usage: gate compare FILE FILE\n", &mut first, &mut second);
+    let b = input_file::load_both(
+        &rt,
+        b"usage: gate compare FILE FILE\n",
+        &mut first,
+        &mut second,
+    );
     if b.loaded {
         let n = b.first;
         let m = b.second;

@@ -160,12 +160,7 @@ fn judge<'a>(
     show(&mut out, published, own, published_name, own_name);
 }
 
-fn judge_own(
-    rt: &(impl Env + Files),
-    published: &[u8],
-    published_name: &[u8],
-    text: &mut [u8],
-) {
+fn judge_own(rt: &(impl Env + Files), published: &[u8], published_name: &[u8], text: &mut [u8]) {
     let mut path = io::buffer();
     let n = arguments::put(rt, 2, &mut path);
     match list_file::load_argument(rt, 2, text) {

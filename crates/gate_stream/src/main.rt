@@ -46,13 +46,7 @@ fn main(rt: HostRuntime) {
     let mut room = [0u8; listing::ROOM];
     let mut out = io::buffer();
     let mut input = rt.stdin();
-    if is_received(
-        &mut input,
-        &mut state,
-        &mut message,
-        &mut piece,
-        &mut out,
-    ) {
+    if is_received(&mut input, &mut state, &mut message, &mut piece, &mut out) {
         show(&mut state, &message, &mut out, &mut room);
     }
 }

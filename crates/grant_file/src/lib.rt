@@ -1,6 +1,7 @@
 // A grant table's text from an open file into rows of 16 bytes. What is wrong is said on standard error, after the name that the
 // caller gives.
 #![tactic(auto)]
+
 ghost use Rattle.std.specs.Prelude.{◌≡◌, length};
 
 use std::io::Read;

@@ -1,5 +1,6 @@
 // An input from a file that an argument names. What is wrong is said on standard error, after the file's name.
 #![tactic(auto)]
+
 ghost use Rattle.std.specs.Prelude.{◌≤◌, length};
 ghost use Rattle.io.specs.Counts.{IsPrefixLen};
 
@@ -105,12 +106,7 @@ const NEITHER: Both = Both {
 };
 
 // The files that the only two arguments name, each as far as its room goes; with any other number of arguments the usage is said.
-pub fn load_both(
-    rt: &(impl Env + Files),
-    usage: &[u8],
-    first: &mut [u8],
-    second: &mut [u8],
-) -> Both
+pub fn load_both(rt: &(impl Env + Files), usage: &[u8], first: &mut [u8], second: &mut [u8]) -> Both
     ensures { IsPrefixLen result.first first.new × IsPrefixLen result.second second.new }
 {
     if !arguments::is_given(rt, 2) || arguments::is_given(rt, 3) {

@@ -1,5 +1,6 @@
 // A list of names from a file into lent room. What is wrong is said on standard error, after the file's name.
 #![tactic(auto)]
+
 ghost use Rattle.std.specs.Prelude.{◌≡◌, length};
 ghost use Rattle.list_file.specs.Loads.{Within};
 

@@ -1,6 +1,7 @@
 // What `gate release` and `gate why` do: a message from standard input, judged under the grant table, the lists of names and the subscriber that the arguments
 // name.
 #![tactic(auto)]
+
 use input_file::Loaded;
 use release::Released;
 use std::env::Env;
@@ -437,13 +438,7 @@ fn judge_lists(rt: &(impl Env + Files), asked: Asked, grants: &[u8], subscriber:
     judge_published(rt, asked, grants, subscriber, &mut text, &mut own);
 }
 
-fn judge_rows(
-    rt: &(impl Env + Files),
-    asked: Asked,
-    room: &[u8],
-    rows: usize,
-    subscriber: u64,
-) {
+fn judge_rows(rt: &(impl Env + Files), asked: Asked, room: &[u8], rows: usize, subscriber: u64) {
     if room.len() / 16 < rows {
         return;
     }
