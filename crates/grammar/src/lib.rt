@@ -13,7 +13,7 @@ ghost use Rattle.grammar.specs.Words.{field, fits_word, next_word, bits_of, smal
 ghost use Rattle.ari.specs.Name.{starts_name, continues_name, identifier, namespace_name};
 
 // What is due next on a level: nothing more, or a slot and how often again.
-#[derive(Drop)]
+#[derive(Clone, Copy)]
 pub enum Next {
     Done,
     Due { slot: u64, more: u64 },

@@ -1,6 +1,7 @@
 // The table of an input's items, in the order of their first bytes: one word for each; and that of its references alone. The walk writes them; all else that
 // asks about items reads them, with the heads that still stand in the input's bytes.
 #![tactic(auto)]
+
 ghost use Rattle.std.specs.Prelude.{◌≡◌, set};
 ghost use Rattle.item_table.specs.Entries.{packed, item_of, head_of, head_by, reference_by};
 ghost use Rattle.item_table.specs.References.{place_for, reserved_for, filled, latest, with_end, ended};

@@ -1,5 +1,6 @@
 // The reading: one walk over the input, head by head, in the order of the tests. The walk may keep a table of the items, or of the references alone.
 #![tactic(auto)]
+
 ghost use Rattle.std.specs.Prelude.{◌≡◌, Bool, true, false, not, ◌&&◌, ◌+◌, ◌-◌, ◌*◌, ◌^◌, ◌<◌, ◌≤◌, length, set, ltb, eqb, [], pred, suc, min};
 ghost use Rattle.buffer.specs.Bytes.{all, is_byte};
 ghost use Rattle.cbor.specs.Head.{is_container, key_of};
@@ -22,7 +23,7 @@ ghost use Rattle.reader.specs.Answers.{answer_of, refusal_of, Kept, Noted};
 use ari::{Input, Limits};
 
 // The place of a map key.
-#[derive(Drop)]
+#[derive(Clone, Copy)]
 pub struct Span {
     pub from: usize,
     pub to: usize,

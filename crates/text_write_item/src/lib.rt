@@ -1,5 +1,6 @@
 // How one item is spelled: each function puts a text into lent room and answers the place behind it. Where the room ends, nothing is put.
 #![tactic(auto)]
+
 ghost use Rattle.std.specs.Prelude.{◌≡◌, cond, [], ◌∷◌, ◌+◌, ◌<◌, ◌≤◌, length, ◌++◌};
 ghost use Rattle.buffer.specs.Put.{Put};
 ghost use Rattle.text_write_item.specs.Head.{head_of};

@@ -7,4 +7,4 @@ use Rattle.item_table.proofs.clear.Statement.{statement}
 use Rattle.item_table.proofs.clear.Tie as tie
 
 pub clear_spec : {M : Type 1} → statement M
-clear_spec = tie.close (tie.spec (λ c. search rules) (λ c. search rules) (λ c. search rules) (λ c. sym (set_out _ _ _ c.if1.false)))
+clear_spec = tie.close (tie.spec (λ c. search rules) (λ c. search rules) (λ c. search rules) (λ c. sym (set_out _ _ _ c.if-references-gt0.false)))

@@ -7,4 +7,4 @@ use Rattle.item_table.proofs.put.Tie as tie
 
 pub put_spec : {M : Type 1} → statement M
 put_spec = tie.close (tie.spec (λ c κs. search rules) (λ c κs. search rules) (λ c. search rules) (λ c. search rules) (λ c. search rules)
-    (λ c. rw (← c.before.head-by.ensures, ← c.pack.ensures)) (λ c. sym (set_out _ _ _ c.if1.false)))
+    (λ c. rw (← c.before.head_by.ensures, ← c.pack.ensures)) (λ c. sym (set_out _ _ _ c.if-k-entries.false)))

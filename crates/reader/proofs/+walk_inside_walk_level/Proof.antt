@@ -69,14 +69,14 @@ abbrev walk_level_below : ℕ → In 3 walk-level-kinds.ps
 walk_level_below t =
     and 3 walk-level-kinds.ps (falls 3 walk-level-kinds.ps ◌<◌ μ_walk_level t) walk-level.Pre
 
-abbrev walk-level-Inv-loop : walk-level-lts.invariant-loop
+abbrev walk-level-Inv-loop : walk-level-lts.invariant-loop-entries
 walk-level-Inv-loop s at count items depth around slot more table₀ refs₀ p₀ c₀ place₀ left₀ prev₀ allowed₀ opened₀ pending₀ table refs p c place left prev allowed opened pending =
     Leads s items (slot_of slot) more [] depth around at count (both table₀ refs₀) (slot_of place) left (key_of (part s prev.from prev.to)) allowed opened p c (both table refs) pending
     × IsSlot place × (prev.from ≤ prev.to) × (prev.to ≤ length s) × (p ≤ length s) × (c ≤ items) × (length table ≡ length table₀)
     × (all is_byte s ≡ true) × (allowed + opened < 2 ^ 64) × (allowed ≤ depth)
     × (length refs ≡ length refs₀) × Pending pending refs
 
-abbrev walk-level-μ-loop : walk-level-lts.decreases-loop
+abbrev walk-level-μ-loop : walk-level-lts.decreases-loop-entries
 walk-level-μ-loop s at count items depth around slot more table₀ refs₀ p₀ c₀ place₀ left₀ prev₀ allowed₀ opened₀ pending₀ table refs p c place left prev allowed opened pending = length s - p
 
 pub +walk_inside_walk_level_spec : {M : Type 1} → statement M

@@ -7,4 +7,4 @@ use Rattle.reader.proofs.is_quick.Tie as tie
 
 pub is_quick_spec : {M : Type 1} → statement M
 is_quick_spec = tie.close (tie.spec (λ c. λ e. absurd (true≢false (sym e))) (λ c. λ e. absurd (true≢false (sym e))) (λ c. search rules)
-    (λ c κs. search rules) (λ c. λ e. record { there = search rules; few = search rules; taken = sym c.takes-number.ensures ∙ e }))
+    (λ c κs. search rules) (λ c. λ e. record { there = search rules; few = search rules; taken = sym c.takes_number.ensures ∙ e }))

@@ -7,12 +7,12 @@ use borrow.Author.Rules.{rules}
 use Rattle.text_write_item.proofs.put_escapes.Statement.{statement}
 use Rattle.text_write_item.proofs.put_escapes.Tie as tie
 
-abbrev invariant-loop : tie.invariant-loop
-invariant-loop out₀ at s r₀ i₀ out r i = Put out₀ out at r (each escape (take i s)) × (i ≤ length s)
+abbrev invariant-loop-i : tie.invariant-loop-i
+invariant-loop-i out₀ at s r₀ i₀ out r i = Put out₀ out at r (each escape (take i s)) × (i ≤ length s)
 
-abbrev decreases-loop : tie.decreases-loop
-decreases-loop out₀ at s r₀ i₀ out r i = length s - i
+abbrev decreases-loop-i : tie.decreases-loop-i
+decreases-loop-i out₀ at s r₀ i₀ out r i = length s - i
 
 pub put_escapes_spec : {M : Type 1} → statement M
-put_escapes_spec = tie.close (tie.spec invariant-loop decreases-loop (λ c. search (puts, rules)) (λ c. search (puts, rules)) (λ c κs. search (puts, rules))
+put_escapes_spec = tie.close (tie.spec invariant-loop-i decreases-loop-i (λ c. search (puts, rules)) (λ c. search (puts, rules)) (λ c κs. search (puts, rules))
     (λ c. search (puts, rules)) (λ c. search (puts, rules)) (λ c. search (puts, rules)) (λ c. search (puts, rules)) (λ c. search (puts, rules)))
