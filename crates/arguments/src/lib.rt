@@ -1,6 +1,10 @@
 // What the arguments of a program say.
 #![tactic(auto)]
 
+ghost use Rattle.std.specs.Prelude.{◌≤◌, length};
+
+use std::env::{Env, FillError};
+
 // No argument; the one word that may stand there; or anything else.
 #[derive(Drop)]
 pub enum Choice {
@@ -9,20 +13,38 @@ pub enum Choice {
     Unknown,
 }
 
+// Whether there is an argument k. Its bytes need no room for that.
+pub fn is_given(rt: &impl Env, k: usize) -> bool {
+    match rt.arg(k, &mut []) {
+        Ok(_) => true,
+        Err(FillError::TooLong) => true,
+        Err(FillError::NotPresent) => false,
+    }
+}
+
+// Argument k at the start of a buffer: so many bytes, and none where it is missing or has no room.
+pub fn put(rt: &impl Env, k: usize, word: &mut [u8]) -> usize
+    ensures { result ≤ length word.new }
+{
+    match rt.arg(k, word) {
+        Ok(n) => n,
+        Err(_) => 0,
+    }
+}
+
 // Room for a word: more than any that is asked for has, so that no longer one passes for it.
 const WORD: usize = 8;
 
 // Whether a word is the only argument.
-pub fn asked(word: &[u8]) -> Choice {
-    let count = os::arg_count();
-    if count < 2 {
+pub fn asked(rt: &impl Env, word: &[u8]) -> Choice {
+    if !is_given(rt, 1) {
         return Choice::Plain;
     }
-    if 2 < count {
+    if is_given(rt, 2) {
         return Choice::Unknown;
     }
     let mut given = [0u8; WORD];
-    let n = os::arg(1, &mut given);
+    let n = put(rt, 1, &mut given);
     if check::same(&given[..n], word) {
         return Choice::Word;
     }
@@ -33,8 +55,8 @@ pub fn asked(word: &[u8]) -> Choice {
 const NUMBER: usize = 32;
 
 // Argument k, in plain decimal.
-pub fn number(k: usize) -> buffer::Number {
+pub fn number(rt: &impl Env, k: usize) -> buffer::Number {
     let mut word = [0u8; NUMBER];
-    let n = os::arg(k, &mut word);
+    let n = put(rt, k, &mut word);
     buffer::unsigned(&word[..n])
 }

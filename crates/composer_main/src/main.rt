@@ -185,13 +185,13 @@ fn run(word: &[u8], room: &mut [u8]) {
     }
 }
 
-fn main() {
-    if os::arg_count() != 2 {
+fn main(rt: HostRuntime) {
+    if !arguments::is_given(&rt, 1) || arguments::is_given(&rt, 2) {
         say_usage();
         return;
     }
     let mut word = [0u8; WORD];
-    let n = os::arg(1, &mut word);
+    let n = arguments::put(&rt, 1, &mut word);
     let mut room = [0u8; BYTES];
     run(&word[..n], &mut room);
 }

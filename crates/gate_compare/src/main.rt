@@ -5,6 +5,7 @@
 ghost use Rattle.std.specs.Prelude.{◌≤◌, length};
 
 use ari::Input;
+use std::env::Env;
 
 // A target takes four items at least, a report six (comparison, proofs/PositionBound.antt).
 const POSITIONS: usize = ari::ITEMS / 4;
@@ -176,32 +177,37 @@ fn show_accepted(a: &[u8], b: &[u8], entries: &[u8], count: usize) {
 }
 
 // The refused file is the first, if it is refused by itself.
-fn show_refused(first: &[u8], number: u8, place: usize) {
+fn show_refused(rt: &impl Env, first: &[u8], number: u8, place: usize) {
     print::send_refusal(number, place);
     match reader::check_message(first) {
-        reader::Answer::Accepted(_) => input_file::say_name(2),
-        reader::Answer::Refused { .. } => input_file::say_name(1),
+        reader::Answer::Accepted(_) => input_file::say_name(rt, 2),
+        reader::Answer::Refused { .. } => input_file::say_name(rt, 1),
     }
 }
 
-fn show(first: &[u8], second: &[u8], room: &mut [u8]) {
+fn show(rt: &impl Env, first: &[u8], second: &[u8], room: &mut [u8]) {
     match comparison::compare(first, second, room) {
         comparison::Compared::Entries {
             different: _,
             entries,
         } => show_accepted(first, second, room, entries),
-        comparison::Compared::Refused { number, place } => show_refused(first, number, place),
+        comparison::Compared::Refused { number, place } => show_refused(rt, first, number, place),
     }
 }
 
-fn main() {
+fn main(rt: HostRuntime) {
     let mut first = [0u8; ari::BYTES + 1];
     let mut second = [0u8; ari::BYTES + 1];
-    let b = input_file::load_both(b"usage: gate compare FILE FILE\n", &mut first, &mut second);
+    let b = input_file::load_both(
+        &rt,
+        b"usage: gate compare FILE FILE\n",
+        &mut first,
+        &mut second,
+    );
     if b.loaded {
         let n = b.first;
         let m = b.second;
         let mut room = [0u8; ROOM];
-        show(&first[..n], &second[..m], &mut room);
+        show(&rt, &first[..n], &second[..m], &mut room);
     }
 }

@@ -28,8 +28,8 @@ fn show_all(kind: Input) {
     show_input(&input[..n], kind, &mut entries, &mut out);
 }
 
-fn main() {
-    match arguments::asked(b"single") {
+fn main(rt: HostRuntime) {
+    match arguments::asked(&rt, b"single") {
         Choice::Plain => show_all(Input::Message),
         Choice::Word => show_all(Input::Single),
         Choice::Unknown => {

@@ -5,6 +5,8 @@
 ghost use Rattle.std.specs.Prelude.{◌≤◌, length};
 
 use input_file::Loaded;
+use std::env::Env;
+use std::fs::Files;
 
 // One line end more; no file has so many that they are not counted.
 fn counted(n: u64, byte: u8) -> u64
@@ -141,10 +143,16 @@ fn write_found<'a>(published: &'a [u8], own: &'a [u8], name: &[u8]) {
 }
 
 // Lists by the two files, of which the second may be missing; a name asks for its line.
-fn judge<'a>(published: &'a [u8], own: &'a [u8], published_name: &[u8], own_name: &[u8]) {
-    if os::arg_count() == 4 {
+fn judge<'a>(
+    rt: &impl Env,
+    published: &'a [u8],
+    own: &'a [u8],
+    published_name: &[u8],
+    own_name: &[u8],
+) {
+    if arguments::is_given(rt, 3) {
         let mut name = [0u8; 128];
-        let n = os::arg(3, &mut name);
+        let n = arguments::put(rt, 3, &mut name);
         write_found(published, own, &name[..n]);
         return;
     }
@@ -152,39 +160,38 @@ fn judge<'a>(published: &'a [u8], own: &'a [u8], published_name: &[u8], own_name
     show(&mut out, published, own, published_name, own_name);
 }
 
-fn judge_own(published: &[u8], published_name: &[u8], text: &mut [u8]) {
+fn judge_own(rt: &(impl Env + Files), published: &[u8], published_name: &[u8], text: &mut [u8]) {
     let mut path = io::buffer();
-    let n = os::arg(2, &mut path);
-    match list_file::load_argument(2, text) {
+    let n = arguments::put(rt, 2, &mut path);
+    match list_file::load_argument(rt, 2, text) {
         Loaded::Bytes(size) => {
             if size <= text.len() {
-                judge(published, &text[0..size], published_name, &path[..n]);
+                judge(rt, published, &text[0..size], published_name, &path[..n]);
             }
         }
         Loaded::Nothing => {}
     }
 }
 
-fn judge_published(text: &mut [u8], own: &mut [u8]) {
+fn judge_published(rt: &(impl Env + Files), text: &mut [u8], own: &mut [u8]) {
     let mut path = io::buffer();
-    let n = os::arg(1, &mut path);
-    match list_file::load_argument(1, text) {
+    let n = arguments::put(rt, 1, &mut path);
+    match list_file::load_argument(rt, 1, text) {
         Loaded::Bytes(size) => {
             if size <= text.len() {
-                judge_own(&text[0..size], &path[..n], own);
+                judge_own(rt, &text[0..size], &path[..n], own);
             }
         }
         Loaded::Nothing => {}
     }
 }
 
-fn main() {
-    let count = os::arg_count();
-    if count < 2 || 4 < count {
+fn main(rt: HostRuntime) {
+    if !arguments::is_given(&rt, 1) || arguments::is_given(&rt, 4) {
         io::write_all(2, b"usage: gate names PUBLISHED [OWN [NAME]]\n");
         return;
     }
     let mut text = list_file::buffer();
     let mut own = list_file::buffer();
-    judge_published(&mut text, &mut own);
+    judge_published(&rt, &mut text, &mut own);
 }

@@ -3,8 +3,9 @@
 // with a second line `compared N`, the number of rows compared; or a refusal.
 #![tactic(auto)]
 
-fn main() {
+fn main(rt: HostRuntime) {
     release_program::run(
+        &rt,
         release_program::Asked::Release,
         b"usage: gate release TABLE SUBSCRIBER [PUBLISHED [OWN]]\n",
     );

@@ -2,16 +2,18 @@
 // error.
 #![tactic(auto)]
 
+use std::env::Env;
+
 // The refused file is the first, if it is refused by itself.
-fn show_refused(first: &[u8], number: u8, place: usize) {
+fn show_refused(rt: &impl Env, first: &[u8], number: u8, place: usize) {
     print::send_refusal(number, place);
     match reader::check_single(first) {
-        reader::Answer::Accepted(_) => input_file::say_name(2),
-        reader::Answer::Refused { .. } => input_file::say_name(1),
+        reader::Answer::Accepted(_) => input_file::say_name(rt, 2),
+        reader::Answer::Refused { .. } => input_file::say_name(rt, 1),
     }
 }
 
-fn show(first: &[u8], second: &[u8]) {
+fn show(rt: &impl Env, first: &[u8], second: &[u8]) {
     match sameness::same(first, second) {
         sameness::Sameness::Same => {
             io::write_all(1, b"same\n");
@@ -19,17 +21,22 @@ fn show(first: &[u8], second: &[u8]) {
         sameness::Sameness::Different => {
             io::write_all(1, b"different\n");
         }
-        sameness::Sameness::Refused { number, place } => show_refused(first, number, place),
+        sameness::Sameness::Refused { number, place } => show_refused(rt, first, number, place),
     }
 }
 
-fn main() {
+fn main(rt: HostRuntime) {
     let mut first = [0u8; ari::BYTES + 1];
     let mut second = [0u8; ari::BYTES + 1];
-    let b = input_file::load_both(b"usage: gate same FILE FILE\n", &mut first, &mut second);
+    let b = input_file::load_both(
+        &rt,
+        b"usage: gate same FILE FILE\n",
+        &mut first,
+        &mut second,
+    );
     if b.loaded {
         let n = b.first;
         let m = b.second;
-        show(&first[..n], &second[..m]);
+        show(&rt, &first[..n], &second[..m]);
     }
 }

@@ -24,12 +24,12 @@ fn strike_input(number: usize) {
     strike_message(&input[..n], number, &mut room);
 }
 
-fn main() {
-    if os::arg_count() != 2 {
+fn main(rt: HostRuntime) {
+    if !arguments::is_given(&rt, 1) || arguments::is_given(&rt, 2) {
         io::write_all(2, b"usage: gate strike NUMBER\n");
         return;
     }
-    match arguments::number(1) {
+    match arguments::number(&rt, 1) {
         buffer::Number::Value(n) => strike_input(n as usize),
         buffer::Number::Bad => {
             io::write_all(2, b"NUMBER is no number from 0 to 18446744073709551615\n");

@@ -4,6 +4,7 @@
 #![tactic(auto)]
 
 use arguments::Choice;
+use std::io::Read;
 
 fn subscriber_of(t: &[u8], row: u64) -> u64 {
     if 4294967296 < row {
@@ -81,22 +82,23 @@ fn answer(room: &[u8], rows: usize, pack: bool) {
     judge(&room[0..size], &mut out);
 }
 
-fn answer_in(room: &mut [u8], pack: bool) {
-    match grant_file::load(0, b"table", room) {
+fn answer_in<F: Read>(input: &mut F, room: &mut [u8], pack: bool) {
+    match grant_file::load(input, b"table", room) {
         grant_file::Held::Rows(n) => answer(room, n, pack),
         grant_file::Held::Nothing => {}
     }
 }
 
-fn answer_input(pack: bool) {
+fn answer_input<F: Read>(input: &mut F, pack: bool) {
     let mut room = grant_file::buffer();
-    answer_in(&mut room, pack);
+    answer_in(input, &mut room, pack);
 }
 
-fn main() {
-    match arguments::asked(b"pack") {
-        Choice::Plain => answer_input(false),
-        Choice::Word => answer_input(true),
+fn main(rt: HostRuntime) {
+    let mut input = rt.stdin();
+    match arguments::asked(&rt, b"pack") {
+        Choice::Plain => answer_input(&mut input, false),
+        Choice::Word => answer_input(&mut input, true),
         Choice::Unknown => {
             io::write_all(2, b"usage: gate table [pack]\n");
         }

@@ -40,8 +40,8 @@ fn read_input() {
     read_ari(&input[..n], &mut room);
 }
 
-fn main() {
-    match arguments::asked(b"read") {
+fn main(rt: HostRuntime) {
+    match arguments::asked(&rt, b"read") {
         Choice::Plain => write_input(),
         Choice::Word => read_input(),
         Choice::Unknown => {

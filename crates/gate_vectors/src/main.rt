@@ -2,6 +2,7 @@
 // `items-message`, `write` (of an ARI) or `read` (of a text), a space and the input in hex; blank lines and those that start with
 // `#` are skipped.
 #![tactic(auto)]
+
 ghost use Rattle.std.specs.Prelude.{◌≤◌, length};
 ghost use Rattle.gate_vectors.specs.Within.{Roomy};
 

@@ -1,7 +1,10 @@
 // A grant table's text from an open file into rows of 16 bytes. What is wrong is said on standard error, after the name that the
 // caller gives.
 #![tactic(auto)]
+
 ghost use Rattle.std.specs.Prelude.{◌≡◌, length};
+
+use std::io::Read;
 
 // So many rows stand in the room, or what was wrong has been said.
 #[derive(Drop)]
@@ -50,14 +53,16 @@ fn take(name: &[u8], text: &[u8], room: &mut [u8], out: &mut [u8]) -> Held {
 }
 
 // One byte more tells whether the text went on, or could not be read.
-fn load_in(fd: i32, name: &[u8], text: &mut [u8], room: &mut [u8]) -> Held {
-    let n = io::read_full(fd, text);
+fn load_in<F: Read>(file: &mut F, name: &[u8], text: &mut [u8], room: &mut [u8]) -> Held {
+    let n = input_file::read_full(file, text);
     let mut one = [0u8; 1];
-    let got = libc::read(fd, &mut one);
-    if got < 0 {
-        os::fail(name);
-        return Held::Nothing;
-    }
+    let got = match file.read(&mut one) {
+        Ok(got) => got,
+        Err(error) => {
+            input_file::fail(name, error);
+            return Held::Nothing;
+        }
+    };
     let mut out = [0u8; 8192];
     if 0 < got {
         say(&mut out, name, b": more than 262144 bytes");
@@ -73,7 +78,7 @@ pub fn buffer() -> [u8; 262144]
     [0; 262144]
 }
 
-pub fn load(fd: i32, name: &[u8], room: &mut [u8]) -> Held {
+pub fn load<F: Read>(file: &mut F, name: &[u8], room: &mut [u8]) -> Held {
     let mut text = buffer();
-    load_in(fd, name, &mut text, room)
+    load_in(file, name, &mut text, room)
 }

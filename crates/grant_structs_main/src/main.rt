@@ -2,6 +2,7 @@
 // followed by the number of rows compared, in brackets.
 // C is message C of the rules' examples (docs/RULES.md), whose entries are 65536 and -20; `02` is refused. N is C with a name in the place of each number.
 #![tactic(auto)]
+
 use grant_structs::{Answers, Grant};
 use grants::Verdict;
 use release::Released;

@@ -1,9 +1,12 @@
 // A list of names from a file into lent room. What is wrong is said on standard error, after the file's name.
 #![tactic(auto)]
+
 ghost use Rattle.std.specs.Prelude.{◌≡◌, length};
 ghost use Rattle.list_file.specs.Loads.{Within};
 
 use input_file::Loaded;
+use std::env::Env;
+use std::fs::Files;
 
 // Room for a list of 262144 bytes, and one byte more, which tells that a file goes on. The `ensures` is what lending the array asks for.
 pub fn buffer() -> [u8; 262145]
@@ -13,18 +16,18 @@ pub fn buffer() -> [u8; 262145]
 }
 
 // The file that argument k names, if it leaves a byte of the room; no bytes where there is no such argument.
-pub fn load_argument(k: usize, text: &mut [u8]) -> Loaded
+pub fn load_argument(rt: &(impl Env + Files), k: usize, text: &mut [u8]) -> Loaded
     ensures { Within result (length text.old) }
 {
-    if os::arg_count() <= k {
+    if !arguments::is_given(rt, k) {
         return Loaded::Bytes(0);
     }
-    match input_file::load(k, text) {
+    match input_file::load(rt, k, text) {
         Loaded::Bytes(n) => {
             if n < text.len() {
                 return Loaded::Bytes(n);
             }
-            input_file::say(k, b": more than 262144 bytes\n");
+            input_file::say(rt, k, b": more than 262144 bytes\n");
             Loaded::Nothing
         }
         Loaded::Nothing => Loaded::Nothing,

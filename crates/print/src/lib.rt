@@ -1,6 +1,7 @@
 // What the programs write. Each writer puts its text into a lent buffer from a place on and answers the place behind it; what
 // the buffer has no room for is left out.
 #![tactic(auto)]
+
 ghost use Rattle.std.specs.Prelude.{◌≡◌, ◌++◌, ◌-◌, min, max, length};
 ghost use Rattle.buffer.specs.Put.{Put};
 ghost use Rattle.buffer.specs.Decimal.{decimal};

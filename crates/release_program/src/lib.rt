@@ -1,8 +1,11 @@
 // What `gate release` and `gate why` do: a message from standard input, judged under the grant table, the lists of names and the subscriber that the arguments
 // name.
 #![tactic(auto)]
+
 use input_file::Loaded;
 use release::Released;
+use std::env::Env;
+use std::fs::Files;
 use why_held::{Link, Outcome, Why};
 
 // What is asked of the message.
@@ -393,8 +396,15 @@ fn judge_input<'a>(
 }
 
 // The lists that the third and fourth argument name.
-fn judge_own(asked: Asked, grants: &[u8], published: &[u8], subscriber: u64, text: &mut [u8]) {
-    match list_file::load_argument(4, text) {
+fn judge_own(
+    rt: &(impl Env + Files),
+    asked: Asked,
+    grants: &[u8],
+    published: &[u8],
+    subscriber: u64,
+    text: &mut [u8],
+) {
+    match list_file::load_argument(rt, 4, text) {
         Loaded::Bytes(size) => {
             if size <= text.len() {
                 judge_input(asked, grants, published, &text[0..size], subscriber);
@@ -404,65 +414,74 @@ fn judge_own(asked: Asked, grants: &[u8], published: &[u8], subscriber: u64, tex
     }
 }
 
-fn judge_published(asked: Asked, grants: &[u8], subscriber: u64, text: &mut [u8], own: &mut [u8]) {
-    match list_file::load_argument(3, text) {
+fn judge_published(
+    rt: &(impl Env + Files),
+    asked: Asked,
+    grants: &[u8],
+    subscriber: u64,
+    text: &mut [u8],
+    own: &mut [u8],
+) {
+    match list_file::load_argument(rt, 3, text) {
         Loaded::Bytes(size) => {
             if size <= text.len() {
-                judge_own(asked, grants, &text[0..size], subscriber, own);
+                judge_own(rt, asked, grants, &text[0..size], subscriber, own);
             }
         }
         Loaded::Nothing => {}
     }
 }
 
-fn judge_lists(asked: Asked, grants: &[u8], subscriber: u64) {
+fn judge_lists(rt: &(impl Env + Files), asked: Asked, grants: &[u8], subscriber: u64) {
     let mut text = list_file::buffer();
     let mut own = list_file::buffer();
-    judge_published(asked, grants, subscriber, &mut text, &mut own);
+    judge_published(rt, asked, grants, subscriber, &mut text, &mut own);
 }
 
-fn judge_rows(asked: Asked, room: &[u8], rows: usize, subscriber: u64) {
+fn judge_rows(rt: &(impl Env + Files), asked: Asked, room: &[u8], rows: usize, subscriber: u64) {
     if room.len() / 16 < rows {
         return;
     }
     let size = rows * 16;
-    judge_lists(asked, &room[0..size], subscriber);
+    judge_lists(rt, asked, &room[0..size], subscriber);
 }
 
-fn judge_file(asked: Asked, path: &[u8], subscriber: u64, room: &mut [u8]) {
-    let fd = os::open_read(path);
-    if fd < 0 {
-        os::fail(path);
+fn judge_file(
+    rt: &(impl Env + Files),
+    asked: Asked,
+    path: &[u8],
+    subscriber: u64,
+    room: &mut [u8],
+) {
+    let Some(mut file) = input_file::open(rt, path) else {
         return;
-    }
-    match grant_file::load(fd, path, room) {
-        grant_file::Held::Rows(n) => judge_rows(asked, room, n, subscriber),
+    };
+    match grant_file::load(&mut file, path, room) {
+        grant_file::Held::Rows(n) => judge_rows(rt, asked, room, n, subscriber),
         grant_file::Held::Nothing => {}
     }
-    libc::close(fd);
 }
 
-fn judge_under(asked: Asked, path: &[u8], subscriber: u64) {
+fn judge_under(rt: &(impl Env + Files), asked: Asked, path: &[u8], subscriber: u64) {
     let mut room = grant_file::buffer();
-    judge_file(asked, path, subscriber, &mut room);
+    judge_file(rt, asked, path, subscriber, &mut room);
 }
 
 // The message, by its arguments.
-pub fn run(asked: Asked, usage: &[u8]) {
-    let count = os::arg_count();
-    if count < 3 || 5 < count {
+pub fn run(rt: &(impl Env + Files), asked: Asked, usage: &[u8]) {
+    if !arguments::is_given(rt, 2) || arguments::is_given(rt, 5) {
         io::write_all(2, usage);
         return;
     }
-    match arguments::number(2) {
+    match arguments::number(rt, 2) {
         buffer::Number::Value(s) => {
             let mut path = io::buffer();
-            let n = os::arg(1, &mut path);
-            if os::errno() != 0 {
-                os::fail(b"TABLE");
-                return;
+            match rt.arg(1, &mut path) {
+                Ok(n) => judge_under(rt, asked, &path[..n], s),
+                Err(_) => {
+                    io::write_all(2, b"TABLE: File name too long\n");
+                }
             }
-            judge_under(asked, &path[..n], s);
         }
         buffer::Number::Bad => {
             io::write_all(

@@ -1,0 +1,5 @@
+use Rattle.buffer.proofs.Putting.{put_both}
+use Rattle.print.proofs.bits.Goals as goal
+
+pub returns : goal.returns
+returns c = put_both c.put_all-p.ensures c.hex.ensures

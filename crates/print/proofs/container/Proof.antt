@@ -1,9 +1,0 @@
--- `print::container` meets its contract: by its kind.
-use borrow.Author.Rules.{rules}
-use Rattle.print.proofs.Putting.{matching}
-use Rattle.print.proofs.container.Statement.{statement}
-use Rattle.print.proofs.container.Tie as tie
-
-pub container_spec : {M : Type 1} → statement M
-container_spec = tie.close (tie.spec (λ c. search rules) (λ c. search rules) (λ c κs. search rules) (λ c. search rules) (λ c. search rules)
-    (λ c κs. search rules) (λ c. search rules) (λ c. search (matching, rules)) (λ c. search rules) (λ c. search (matching, rules)))
