@@ -19,7 +19,7 @@ use ari::{Input, Limits};
 use reader::Answer;
 
 // The entries listed with the item count; or the message's own refusal; or 16 with the number of references.
-#[derive(Drop)]
+#[derive(Clone, Copy)]
 pub enum Listed {
     Entries { listed: usize, count: usize },
     Refused { number: u8, place: usize },
