@@ -12,7 +12,7 @@ pub enum Input {
 }
 
 // The most bytes, items and open containers of a binary input, and the most bytes of a text.
-#[derive(Drop)]
+#[derive(Clone, Copy)]
 pub struct Limits {
     pub bytes: usize,
     pub items: usize,

@@ -358,9 +358,8 @@ pub fn compose(kind: u64, number: u64, nonce: &[u8], texts: &[u8], out: &mut [u8
     compose_within(ari::LIMITS, kind, number, nonce, texts, out)
 }
 
-// The same for C: the answer is one number, as host/composer.h says.
-#[unsafe(no_mangle)]
-pub extern "C" fn composer_compose(
+// The same with the answer as one number, as host/composer.h says; for C it is exported by `composer_c`.
+pub fn composer_compose(
     kind: u64,
     number: u64,
     nonce: &[u8],

@@ -1,5 +1,6 @@
 // The day file: released messages back to back, a table of their offsets, a trailer. It is checked, a message is found by its number, and one is added.
 #![tactic(auto)]
+
 ghost use Rattle.std.specs.Prelude.{◌≡◌, true, ◌++◌, ◌+◌, ◌*◌, ◌<◌, ◌≤◌, length};
 ghost use Rattle.buffer.specs.Bytes.{be, part};
 ghost use Rattle.buffer.specs.Put.{Put};
@@ -10,7 +11,7 @@ use ari::{Input, Limits};
 use reader::Answer;
 
 // A version with its offsets, of 2 bytes or wide ones of 4, and the most bytes of a file.
-#[derive(Drop)]
+#[derive(Clone, Copy)]
 pub struct Format {
     pub version: u8,
     pub wide: bool,

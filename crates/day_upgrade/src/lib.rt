@@ -1,5 +1,6 @@
 // A day file of version 1 as one of version 2, with the same messages.
 #![tactic(auto)]
+
 ghost use Rattle.std.specs.Prelude.{◌≡◌, ◌<◌, length};
 ghost use Rattle.buffer.specs.Put.{Put};
 ghost use Rattle.ari.specs.Limits.{first_limits};

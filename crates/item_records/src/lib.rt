@@ -1,5 +1,6 @@
 // Item k of an input: its record, read off the item table and the input's bytes.
 #![tactic(auto)]
+
 ghost use Rattle.std.specs.Prelude.{◌≡◌, suc, ◌<◌, ◌≤◌, min, length};
 ghost use Rattle.ari.specs.Limits.{gate_limits, capped};
 ghost use Rattle.item_records.specs.Records.{literal_of, kind_of, kind_at, record_from, found_from, Roomy, item_of};

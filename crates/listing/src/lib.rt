@@ -1,5 +1,6 @@
 // The listing of a message, read off the table of its references and the message's bytes; and a reference by a word of either table.
 #![tactic(auto)]
+
 ghost use Rattle.std.specs.Prelude.{◌≡◌, ◌++◌, ◌+◌, ◌*◌, ◌/◌, ◌^◌, ◌<◌, ◌≤◌, min, length, drop};
 ghost use Rattle.std.proofs.lemmas.List.Edits.{sets};
 ghost use Rattle.buffer.specs.Bytes.{be};
@@ -18,7 +19,7 @@ use ari::{Input, Limits};
 use reader::Answer;
 
 // The entries listed with the item count; or the message's own refusal; or 16 with the number of references.
-#[derive(Drop)]
+#[derive(Clone, Copy)]
 pub enum Listed {
     Entries { listed: usize, count: usize },
     Refused { number: u8, place: usize },
@@ -30,7 +31,7 @@ pub const ENTRIES: usize = ari::ITEMS / 2;
 pub const ROOM: usize = ENTRIES * 24;
 
 // A namespace: a number in two's complement; a name, by the place of its head and its length; relative.
-#[derive(Drop)]
+#[derive(Clone, Copy)]
 pub enum Namespace {
     Number(u64),
     Name { place: usize, length: u64 },

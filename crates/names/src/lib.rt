@@ -1,6 +1,7 @@
 // Names beside numbers: two lists of lines, each a namespace name, "=" and a number. A name without "!" is looked for in the published list, one with "!" in
 // the subscriber's own.
 #![tactic(auto)]
+
 ghost use Rattle.std.specs.Prelude.{◌≡◌, ◌+◌, ◌/◌, ◌≤◌, min, length};
 ghost use Rattle.buffer.specs.Runs.{RunTo};
 ghost use Rattle.names.specs.Translated.{stands_by, renumbered, entry_translated, entries_translated};

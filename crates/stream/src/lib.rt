@@ -1,6 +1,7 @@
 // A message as the link delivers it: fragments are fed one by one, and the message is closed at its end. A state in lent words keeps what is due, so each
 // fragment goes on from there; the message itself stands in a lent room.
 #![tactic(auto)]
+
 ghost use Rattle.std.specs.Prelude.{◌≡◌, false, ◌&&◌, ◌+◌, ◌-◌, ◌≤◌, ◌<◌, length, set, eqb};
 ghost use Rattle.buffer.specs.Put.{Put};
 ghost use Rattle.cbor.specs.Answer.{head_at};
@@ -16,7 +17,7 @@ use listing::Listed;
 use reader::{Span, Step};
 
 // What is due on a level: a slot and how often again, where the key before stands, and the open containers around.
-#[derive(Drop)]
+#[derive(Clone, Copy)]
 pub struct Frame {
     pub slot: u64,
     pub more: u64,

@@ -4,7 +4,7 @@ use mathlib.Core.Path.{◌≡◌, refl, sym, ◌∙◌, ap}
 use mathlib.Core.Logic.{inl, inr}
 use mathlib.Core.Bool.{Bool, true, false}
 use mathlib.Core.List.Memᴰ
-use mathlib.Core.List.{List, ◌∷◌, Memᴰ}
+use mathlib.Core.List.{List, [], ◌∷◌, Memᴰ}
 use native.Mathlib.Omega.{arith}
 use lib.ListN.{length, get_or}
 use Rattle.ari.specs.Table.{message, ari, Level, done, due, rule, members}
@@ -51,6 +51,7 @@ record Numbered (xs : List Spot) (d x : Spot) : Type 0 where
   it : get_or (targets xs) number d ≡ x
 
 number_of : (xs : List Spot) (d x : Spot) → Memᴰ x xs → is_target x.slot ≡ true → Numbered xs d x
+number_of [] d x x4 e = elim x4 [ ]
 number_of (y ∷ ys) d x (Memᴰ.head q) e =
     let f : is_target y.slot ≡ true = ap (λ (z : Spot). is_target z.slot) (sym q) ∙ e in
     record { number = 0; below = rw f (omega arith); it = rw f (sym q) }

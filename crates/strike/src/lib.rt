@@ -1,6 +1,7 @@
 // A message without one of its targets or reports: what stands before its inner array's head, a new head, what stands up to the struck part, and
 // what stands behind it.
 #![tactic(auto)]
+
 ghost use Rattle.std.specs.Prelude.{◌≡◌, ◌+◌, ◌<◌, ◌≤◌, min, length, drop};
 ghost use Rattle.buffer.specs.Put.{Put};
 ghost use Rattle.cbor.specs.Head.{array, head_bytes};

@@ -1,34 +1,32 @@
 -- The walk that reads: one law for each way that a turn ends; the premises are the facts that the code leaves.
-use Prim.Native.Nat.{ℕ, zero, suc, pred, ◌+◌, ◌-◌, ◌*◌, ◌≤◌, ◌<◌}
+use Prim.Native.Nat.{ℕ, zero, suc, ◌+◌, ◌-◌, ◌≤◌, ◌<◌}
 use Prim.Native.Char.{code}
-use mathlib.Core.Path.{◌≡◌, refl, sym, ◌∙◌, ap}
-use mathlib.Core.Bool.{Bool, true, false, cond}
+use mathlib.Core.Path.{◌≡◌, refl, sym, ◌∙◌}
+use mathlib.Core.Bool.{Bool, true, false}
 use mathlib.Core.List.{List, [], ◌∷◌, ◌++◌, append_assoc}
 use native.Mathlib.Omega.{arith}
-use native.Mathlib.Numerals.{sub-one}
 use lib.ListN.{length, drop, get_or, length-append}
-use lib.Dec.{ltb, leb, eqb}
+use lib.Dec.{leb}
 use borrow.Author.Tests.{ne_eqb, leb-true, leb-false}
 use Rattle.buffer.specs.Bytes.{within}
-use Rattle.cbor.specs.Head.{Lead, lead_bytes, size}
+use Rattle.cbor.specs.Head.{Lead, lead_bytes}
 use Rattle.cbor.proofs.HeadLaws.{length_lead}
 use Rattle.ari.specs.Table.{Level, done, due, rule, members}
-use Rattle.ari.specs.Items.{Items, none, item, encode}
+use Rattle.ari.specs.Items.{item, encode}
 use Rattle.grammar.specs.declared.Next.{Next}
 use Rattle.grammar.specs.declared.Next.TheVariants.{Done, Due}
 use Rattle.grammar.specs.Code.{slot_of, level_of, next_code, inside_code}
 use Rattle.grammar.specs.Code.{IsSlot}
-use Rattle.grammar.proofs.Right.{Stands, Slotted, next_stands, inside_right}
+use Rattle.grammar.proofs.Right.{next_stands, inside_right}
 use Rattle.reader.specs.Walks.{inside_level}
 use Rattle.buffer.specs.Put.{Put}
 use Rattle.text_write_item.specs.Spellings.{spelling_at, after_by}
 use Rattle.buffer.proofs.Putting.{put_nothing, put_out, put_other, put_size, put_end, put_over, put_both}
 use Rattle.text_write_item.proofs.Spelled.{is_due, after_is}
 use Rattle.text.specs.Text.{spell}
-use Rattle.text.specs.Parse.{starts, starts_by, Taken, take_at, Run, nothing, level, parse}
+use Rattle.text.specs.Parse.{starts_by, Taken, take_at, Run, nothing, level, parse}
 use Rattle.text_read_item.specs.declared.Item as read
 use Rattle.text_read_item.specs.Words.{NextTo, Read}
-use Rattle.buffer.proofs.RunLaws.{here, beyond}
 use Rattle.text_read_item.proofs.WordWays.{type_arg}
 use Rattle.text_read.specs.declared.Pos.{Pos}
 use Rattle.text_read.specs.Parsed.{Parsed, Begins}

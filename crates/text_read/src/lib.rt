@@ -1,5 +1,6 @@
 // An ARI's text is read: one walk along the slots puts a candidate's bytes, which count only if they are an accepted ARI whose own text is the text that was read.
 #![tactic(auto)]
+
 ghost use Rattle.std.specs.Prelude.{◌≡◌, cond, ◌<◌, ◌≤◌, length, drop};
 ghost use Rattle.ari.specs.Table.{due};
 ghost use Rattle.ari.specs.Limits.{gate_limits, capped};

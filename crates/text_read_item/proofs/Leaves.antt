@@ -19,7 +19,7 @@ use Rattle.buffer.specs.Decimal.{unsigned_of}
 use Rattle.buffer.proofs.ByteLaws.{not-true, within_is}
 use Rattle.buffer.proofs.RunLaws.{here, beyond, part_all, Ahead, run_begins, run_ends, run_out, run_on}
 use Rattle.buffer.proofs.Putting.{put_nothing, put_both}
-use Rattle.text.specs.Parse.{ends, in_word, starts_by, starts, number, unhex, any, first, unescape, unhexes, starts_number, opened, commas, count}
+use Rattle.text.specs.Parse.{ends, in_word, starts_by, starts, number, unhex, any, first, unescape, unhexes, starts_number, opened, commas}
 use Rattle.text_read_item.specs.declared.Escape.{Escape}
 use Rattle.text_read_item.specs.Words.{first_of, NextTo, EscapeAt, str_by, horner, key_of, comma_of}
 

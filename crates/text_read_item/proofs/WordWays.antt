@@ -1,5 +1,5 @@
 -- The spellings that are read are those of the slots; and what the head of a slot promises.
-use Prim.Native.Nat.{ℕ, zero, suc, ◌+◌, ◌≤◌, ◌<◌}
+use Prim.Native.Nat.{ℕ, ◌≤◌, ◌<◌}
 use mathlib.Core.Path.{◌≡◌, refl, sym, ◌∙◌, ap}
 use mathlib.Core.Bool.{Bool, true, false, ◌&&◌, cond}
 use mathlib.Core.List.{List, [], ◌∷◌, ◌++◌}
@@ -13,7 +13,7 @@ use Rattle.buffer.specs.Bytes.{within, same, part}
 use Rattle.cbor.specs.Head.{lead_bytes, head_bytes, is_container, lead_of}
 use Rattle.cbor.proofs.HeadLaws.{head_bytes_lem}
 use Rattle.buffer.proofs.ByteLaws.{and-true, within_true}
-use Rattle.cbor.proofs.Computed.{all_from, all_at}
+use Rattle.cbor.proofs.Computed.{all_at}
 use Rattle.ari.specs.Table.{Slot, version, ari, type, value, namespace, object_namespace, object_type, object_id, params, key, entry, nonce, set_time, target, report, report_time, report_source}
 use Rattle.grammar.specs.Code.{slots, slot_of}
 use Rattle.buffer.specs.Put.{Put}

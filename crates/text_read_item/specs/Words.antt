@@ -1,9 +1,9 @@
 -- What the functions of a word find in a text, from a place on. Interface: NextTo, Read. Private to src/: the others. That these are the reading's own definitions is proved in proofs/WordWays.antt.
-use Rattle.std.specs.Prelude.{ℕ, suc, ◌+◌, ◌*◌, ◌≤◌, ◌<◌, ◌^◌, ◌≡◌, Bool, ◌&&◌, cond, List, [], ◌∷◌, ◌++◌, length, drop, ltb, eqb}
+use Rattle.std.specs.Prelude.{ℕ, ◌+◌, ◌*◌, ◌≤◌, ◌<◌, ◌≡◌, Bool, ◌&&◌, cond, List, [], ◌∷◌, ◌++◌, length, drop, ltb, eqb}
 use Prim.Native.Char.{code}
 use Rattle.buffer.specs.Bytes.{part}
 use Rattle.buffer.specs.Runs.{past}
-use Rattle.cbor.specs.Head.{bytes, text, array, map, simple, lead_bytes, lead_of}
+use Rattle.cbor.specs.Head.{bytes, text, array, map, simple, lead_bytes}
 use Rattle.ari.specs.Decode.{Headed}
 use Rattle.buffer.specs.Put.{Put}
 use Rattle.text.specs.Chars.{ascii}

@@ -1,5 +1,6 @@
 // What a word of a text means: the head that is due at a slot, read from a text and put as bytes. Lax: the bytes count only if their own text is the text that was read.
 #![tactic(auto)]
+
 ghost use Rattle.std.specs.Prelude.{◌≡◌, true, not, [], ◌∷◌, ◌++◌, ◌+◌, ◌*◌, ◌<◌, ◌≤◌, ◌^◌, length, drop, get_or};
 ghost use Rattle.buffer.specs.Runs.{past, RunTo};
 ghost use Rattle.buffer.specs.Bytes.{part, within};
@@ -22,7 +23,7 @@ pub struct Item {
 }
 
 // A head that a word means, and where its string stands: as it is (0), with escapes (1), in hex digits (2).
-#[derive(Drop)]
+#[derive(Clone, Copy)]
 struct Word {
     kind: u8,
     arg: u64,

@@ -1,14 +1,14 @@
 -- R64 from the heads alone: what the outermost ARI is, and the first float.
-use Prim.Native.Nat.{ℕ, zero, suc, ◌+◌, ◌-◌, ◌*◌, ◌/◌, ◌%◌, ◌^◌, ◌≤◌, ◌<◌}
+use Prim.Native.Nat.{ℕ, suc, ◌+◌, ◌-◌, ◌*◌, ◌/◌, ◌%◌, ◌^◌, ◌≤◌, ◌<◌}
 use mathlib.Core.Path.{◌≡◌, refl, sym, ◌∙◌, ap}
-use mathlib.Core.Bool.{Bool, true, false, not, ◌&&◌, ◌||◌, cond, true≢false}
+use mathlib.Core.Bool.{Bool, true, false, not, cond}
 use mathlib.Core.List.{List, [], ◌∷◌, ◌++◌, append_assoc, append-nil}
 use native.Mathlib.Omega.{arith}
 use lib.ListN.{length, drop, get_or, length-append, length-drop}
 use mir.Syntax.{w8}
 use mir.Val.{Fits}
-use lib.Dec.{ltb, leb, eqb}
-use borrow.Author.Tests.{lt-ltb, le-ltb, le-leb, lt-leb, eq-eqb, ne_eqb, ltb-true, leb-true, eqb-true}
+use lib.Dec.{ltb, eqb}
+use borrow.Author.Tests.{le-leb, lt-leb, ne_eqb, ltb-true, eqb-true}
 use Rattle.buffer.specs.Bytes.{all, is_byte, within}
 use Rattle.buffer.proofs.ByteLaws.{and-true, not-true}
 use Rattle.buffer.proofs.RunLaws.{here}
@@ -28,7 +28,6 @@ use Rattle.ari.proofs.Well.{Well}
 use Rattle.ari.specs.Decode.{decode}
 use Rattle.ari.specs.Rules.{Is}
 use Rattle.ari.proofs.Due.{Fit, prev_after, container_string}
-use Rattle.ari.proofs.Due as fit
 use Rattle.ari.proofs.Weight.{well_fit}
 use Rattle.ari.proofs.Demand.{stands_fit, demand_two}
 use Rattle.reader.specs.declared.End.{End}
@@ -37,7 +36,7 @@ use Rattle.reader.specs.declared.Answer.{Answer}
 use Rattle.reader.specs.declared.Answer.TheVariants as answers
 use Rattle.reader.specs.Answers.{answer_of}
 use Rattle.reader.specs.Steps.{string_end}
-use Rattle.text.specs.Text.{Form, spelled, none_at, is_float, float_in, is_set, is_relative, form, texts, an_ari_due}
+use Rattle.text.specs.Text.{Form, spelled, none_at, is_float, float_in, is_set, is_relative, form, an_ari_due}
 use Rattle.text.specs.Chars.{ascii}
 use Rattle.text.specs.Answer.{write_text}
 use Rattle.text.proofs.Leads.{no_string}
@@ -46,11 +45,10 @@ use Rattle.buffer.proofs.Putting.{put_nothing, put_both}
 use Rattle.text_write.specs.declared.Outer.{Outer}
 use Rattle.text_write.specs.declared.Float.{Float}
 use Rattle.text_write.specs.declared.Float.TheVariants.{At, Nowhere}
-use Rattle.text_write.specs.declared.Spelling.{Spelling}
 use Rattle.text_write.specs.declared.Spelling.TheVariants as spellings
 use Rattle.text_write.specs.declared.Pos.{Pos}
 use Rattle.text_write.specs.Walks.{Writes}
-use Rattle.text_write.specs.Forms.{set_by, neither, member_by, outer_by, outer_of, is_whole, Laid, float_of, FloatAt}
+use Rattle.text_write.specs.Forms.{set_by, neither, member_by, outer_of, is_whole, Laid, float_of, FloatAt}
 use Rattle.text_write.specs.Written.{spelling_of, scheme_of, WritesWhole}
 use Rattle.text_write.proofs.Taking.{found, end_is, end_in}
 use Rattle.text_write.proofs.Writing.{behind}

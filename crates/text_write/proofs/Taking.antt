@@ -1,12 +1,12 @@
 -- A head that is taken: one law for each way through the tests; the premises are the facts that the code leaves.
 use Prim.Native.Nat.{ℕ, ◌+◌, ◌-◌, ◌≤◌, ◌<◌}
 use mathlib.Core.Path.{◌≡◌, refl, sym, ◌∙◌, ap}
-use mathlib.Core.Bool.{Bool, true, false, not, ◌&&◌, cond, true≢false}
-use mathlib.Core.List.{List, [], ◌∷◌, ◌++◌}
+use mathlib.Core.Bool.{Bool, true, false, ◌&&◌, cond, true≢false}
+use mathlib.Core.List.{List, ◌++◌}
 use native.Mathlib.Omega.{arith}
 use lib.ListN.{length, drop, length-append, length-drop}
-use lib.Dec.{ltb, leb, eqb}
-use borrow.Author.Tests.{lt-ltb, le-ltb, ltb-true, ltb-false}
+use lib.Dec.{ltb, eqb}
+use borrow.Author.Tests.{le-ltb, ltb-false}
 use Rattle.buffer.specs.Bytes.{within}
 use Rattle.cbor.specs.Head.{Lead, size, lead_bytes, get_head, string_size, is_container}
 use Rattle.cbor.specs.Answer.{head_at, Passed}
@@ -14,15 +14,13 @@ use Rattle.cbor.specs.declared.Head.{Head}
 use Rattle.cbor.specs.declared.Head.TheVariants.{Bad}
 use Rattle.cbor.specs.declared.Head.TheVariants as heads
 use Rattle.cbor.proofs.HeadLaws.{get_head_back, length_lead}
-use Rattle.ari.specs.Table.{rule}
 use Rattle.ari.specs.Due.{Good}
 use Rattle.grammar.specs.Code.{slot_of}
 use Rattle.reader.specs.declared.End.{End}
 use Rattle.reader.specs.declared.End.TheVariants.{At, Short}
 use Rattle.reader.specs.Steps.{string_end}
-use Rattle.text_write.specs.declared.Item.{Item}
 use Rattle.text_write.specs.declared.Item.TheVariants.{Taken, Nothing}
-use Rattle.text_write.specs.Walks.{Inside, ItemAt}
+use Rattle.text_write.specs.Walks.{ItemAt}
 
 -- a head that may be written is found as it is
 pub found : (b : List ℕ) (p : ℕ) (l : Lead) (y : List ℕ) → Rattle.cbor.specs.Head.Sound l → drop p b ≡ lead_bytes l ++ y → head_at b p ≡ heads.Good l.kind l.arg (p + size l)

@@ -1,6 +1,6 @@
 -- Which ARIs have a text form, found out from the heads alone: R64, R98. Private to src/: set_by, neither, member_by, outer_by, outer_of, is_whole, Laid, float_of,
 -- FloatAt.
-use Rattle.std.specs.Prelude.{ℕ, ◌+◌, ◌/◌, ◌%◌, ◌≤◌, ◌≡◌, Bool, true, false, not, ◌&&◌, ◌||◌, cond, List, [], ◌∷◌, ◌++◌, length, drop, ltb, eqb}
+use Rattle.std.specs.Prelude.{ℕ, ◌/◌, ◌%◌, ◌≤◌, ◌≡◌, Bool, false, not, ◌&&◌, ◌||◌, cond, List, [], ◌∷◌, ◌++◌, length, drop, ltb, eqb}
 use Rattle.buffer.specs.Bytes.{within}
 use Rattle.cbor.specs.Head.{array, simple, Sound, lead_bytes, string_size}
 use Rattle.cbor.specs.Answer.{head_at}

@@ -1,5 +1,5 @@
 -- The walk that writes a text: what it finds and what it puts, for every tree that may stand where it walks. Private to src/: Inside, ItemAt, Writes.
-use Rattle.std.specs.Prelude.{ℕ, ◌+◌, ◌≤◌, ◌<◌, ◌≡◌, true, false, ◌&&◌, List, [], ◌++◌, length, drop, eqb}
+use Rattle.std.specs.Prelude.{ℕ, ◌+◌, ◌≤◌, ◌<◌, ◌≡◌, false, ◌&&◌, List, ◌++◌, length, drop, eqb}
 use Rattle.cbor.specs.Head.{Lead, size, lead_bytes, is_container}
 use Rattle.ari.specs.Table.{Level}
 use Rattle.ari.specs.Reader.{end, push}

@@ -1,5 +1,6 @@
 // An ARI's text: one walk over an accepted ARI, which puts what each head writes before its members and after them.
 #![tactic(auto)]
+
 ghost use Rattle.std.specs.Prelude.{◌≡◌, true, false, ◌&&◌, pred, ◌≤◌, min, length, eqb};
 ghost use Rattle.buffer.specs.Bytes.{all, is_byte};
 ghost use Rattle.cbor.specs.Head.{is_container};

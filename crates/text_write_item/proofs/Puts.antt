@@ -1,18 +1,18 @@
 -- The ways through the functions of one item's text; the premises are the facts that the code leaves.
-use Prim.Native.Nat.{ℕ, ◌+◌, ◌-◌, ◌*◌, ◌/◌, ◌%◌, ◌≤◌, ◌<◌}
-use mathlib.Core.Path.{◌≡◌, refl, sym, ◌∙◌, ap}
-use mathlib.Core.Bool.{Bool, true, false, ◌||◌, cond}
+use Prim.Native.Nat.{ℕ, ◌+◌, ◌-◌, ◌/◌, ◌%◌, ◌≤◌, ◌<◌}
+use mathlib.Core.Path.{◌≡◌, refl, sym}
+use mathlib.Core.Bool.{Bool, true, false}
 use mathlib.Core.List.{List, [], ◌∷◌, ◌++◌, append_assoc, append-nil}
 use native.Mathlib.Omega.{arith}
 use native.Mathlib.Numerals.{add-one}
 use lib.ListN.{length, take, get_or}
 use lib.Seq.{take-suc, take_all}
-use lib.Dec.{ltb, eqb}
-use borrow.Author.Tests.{lt-ltb, le-ltb, eq-eqb, ne_eqb}
+use lib.Dec.{eqb}
+use borrow.Author.Tests.{lt-ltb, le-ltb, ne_eqb}
 use Rattle.buffer.specs.Decimal.{digits, decimal}
 use Rattle.ari.specs.Name.{continues_name}
 use Rattle.text.specs.Chars.{ascii, integer, hex, hexes, bare, escape, each, text_string, byte_string, simple_text, literal_text, name_text}
-use Rattle.text.specs.Text.{names, name_in, type_name}
+use Rattle.text.specs.Text.{names, type_name}
 use Rattle.buffer.specs.Put.{Put}
 use Rattle.buffer.proofs.Putting.{put_nothing, put_size, put_both}
 use Rattle.text_write_item.specs.Head.{head_of}

@@ -1,5 +1,5 @@
 -- How the heads of each slot are spelled, by the numbers that the code has for it. Interface: spelling_at, before_by, after_by. Private to src/: the others. That they are those of the slots is proved in proofs/Spelled.antt.
-use Rattle.std.specs.Prelude.{ℕ, Bool, true, false, cond, List, [], ◌∷◌, ◌++◌, get_or, eqb}
+use Rattle.std.specs.Prelude.{ℕ, Bool, cond, List, [], ◌∷◌, ◌++◌, get_or, eqb}
 use Rattle.cbor.specs.Head.{is_container}
 use Rattle.text.specs.Chars.{ascii, literal_text, name_text}
 use Rattle.text.specs.Text.{type_name}

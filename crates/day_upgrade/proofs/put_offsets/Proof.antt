@@ -10,14 +10,14 @@ use borrow.Author.Rules.{rules}
 use Rattle.day_upgrade.proofs.put_offsets.Statement.{statement}
 use Rattle.day_upgrade.proofs.put_offsets.Tie as tie
 
-abbrev invariant-loop : tie.invariant-loop
-invariant-loop file count out₀ at p₀ k₀ out p k = (k ≤ count) × Put out₀ out at p (wide_offsets file k)
+abbrev invariant-loop-k : tie.invariant-loop-k
+invariant-loop-k file count out₀ at p₀ k₀ out p k = (k ≤ count) × Put out₀ out at p (wide_offsets file k)
 
-abbrev decreases-loop : tie.decreases-loop
-decreases-loop file count out₀ at p₀ k₀ out p k = count - k
+abbrev decreases-loop-k : tie.decreases-loop-k
+decreases-loop-k file count out₀ at p₀ k₀ out p k = count - k
 
 pub put_offsets_spec : {M : Type 1} → statement M
-put_offsets_spec = tie.close (tie.spec invariant-loop decreases-loop (λ c. search (rewritings, put_size, rules)) (λ c κs. search (rewritings, put_size, rules))
+put_offsets_spec = tie.close (tie.spec invariant-loop-k decreases-loop-k (λ c. search (rewritings, put_size, rules)) (λ c κs. search (rewritings, put_size, rules))
     (λ c. search (rewritings, put_size, rules)) (λ c κs. search (rewritings, put_size, rules)) (λ c. search (rewritings, put_size, rules))
     (λ c. search (rewritings, put_size, rules)) (λ c. search (rewritings, put_size, rules)) (λ c. search (rewritings, put_size, rules))
     (λ c. search (rewritings, put_size, rules)))

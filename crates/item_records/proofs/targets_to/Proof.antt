@@ -7,12 +7,12 @@ use Rattle.item_records.proofs.Counting.{passed_one, passed_to}
 use Rattle.item_records.proofs.targets_to.Statement.{statement}
 use Rattle.item_records.proofs.targets_to.Tie as tie
 
-abbrev invariant-loop : tie.invariant-loop
-invariant-loop entries k targets₀ j₀ targets j = (j ≤ suc k) × (targets ≡ targets_to entries j)
+abbrev invariant-loop-j : tie.invariant-loop-j
+invariant-loop-j entries k targets₀ j₀ targets j = (j ≤ suc k) × (targets ≡ targets_to entries j)
 
-abbrev decreases-loop : tie.decreases-loop
-decreases-loop entries k targets₀ j₀ targets j = suc k - j
+abbrev decreases-loop-j : tie.decreases-loop-j
+decreases-loop-j entries k targets₀ j₀ targets j = suc k - j
 
 pub targets_to_spec : {M : Type 1} → statement M
-targets_to_spec = tie.close (tie.spec invariant-loop decreases-loop (λ c. search rules) (λ c. search rules) (λ c. search rules) (λ c κs. search rules)
+targets_to_spec = tie.close (tie.spec invariant-loop-j decreases-loop-j (λ c. search rules) (λ c. search rules) (λ c. search rules) (λ c κs. search rules)
     (λ c. search rules) (λ c. search rules) (λ c. search (passed_one, rules)) (λ c. search (passed_to, rules)))

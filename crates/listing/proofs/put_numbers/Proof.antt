@@ -11,7 +11,7 @@ returns c =
     let first = second.before.before.before.before in
     let asked = first.before.before.before.before in
     let a = asked.args in
-    entry_back a.out.now a.at a.ends a.kind a.word asked.requires first.store8.ensures second.store82.ensures third.store83.ensures
+    entry_back a.out.now a.at a.ends a.kind a.word asked.requires first.store8.ensures second.store8-2.ensures third.store8-3.ensures
 
 pub put_numbers_spec : {M : Type 1} → statement M
 put_numbers_spec = tie.close (tie.spec (λ c. search rules) (λ c. search rules) (λ c. search rules) (λ c. search rules) (λ c κs. search rules)

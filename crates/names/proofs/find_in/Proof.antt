@@ -6,14 +6,14 @@ use Rattle.names.proofs.Lines.{search_ways, Onward}
 use Rattle.names.proofs.find_in.Statement.{statement}
 use Rattle.names.proofs.find_in.Tie as tie
 
-abbrev invariant-loop : tie.invariant-loop
-invariant-loop list name p₀ p = Onward name list p
+abbrev invariant-loop-p : tie.invariant-loop-p
+invariant-loop-p list name p₀ p = Onward name list p
 
-abbrev decreases-loop : tie.decreases-loop
-decreases-loop list name p₀ p = length list - p
+abbrev decreases-loop-p : tie.decreases-loop-p
+decreases-loop-p list name p₀ p = length list - p
 
 pub find_in_spec : {M : Type 1} → statement M
-find_in_spec = tie.close (tie.spec invariant-loop decreases-loop (λ c. search (search_ways, rules)) (λ c κs. search (search_ways, rules))
+find_in_spec = tie.close (tie.spec invariant-loop-p decreases-loop-p (λ c. search (search_ways, rules)) (λ c κs. search (search_ways, rules))
     (λ c. search (search_ways, rules)) (λ c. search (search_ways, rules)) (λ c. search (search_ways, rules)) (λ c. search (search_ways, rules))
     (λ c. search (search_ways, rules)) (λ c. search (search_ways, rules)) (λ c. search (search_ways, rules)) (λ c κs. search (search_ways, rules))
     (λ c. search (search_ways, rules)) (λ c. search (search_ways, rules)) (λ c. search (search_ways, rules)) (λ c. search (search_ways, rules))

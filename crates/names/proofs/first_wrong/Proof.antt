@@ -6,14 +6,14 @@ use Rattle.names.proofs.Lines.{check_ways, WrongOn}
 use Rattle.names.proofs.first_wrong.Statement.{statement}
 use Rattle.names.proofs.first_wrong.Tie as tie
 
-abbrev invariant-loop : tie.invariant-loop
-invariant-loop list p₀ p = WrongOn list p
+abbrev invariant-loop-p : tie.invariant-loop-p
+invariant-loop-p list p₀ p = WrongOn list p
 
-abbrev decreases-loop : tie.decreases-loop
-decreases-loop list p₀ p = length list - p
+abbrev decreases-loop-p : tie.decreases-loop-p
+decreases-loop-p list p₀ p = length list - p
 
 pub first_wrong_spec : {M : Type 1} → statement M
-first_wrong_spec = tie.close (tie.spec invariant-loop decreases-loop (λ c. search (check_ways, rules)) (λ c κs. search (check_ways, rules))
+first_wrong_spec = tie.close (tie.spec invariant-loop-p decreases-loop-p (λ c. search (check_ways, rules)) (λ c κs. search (check_ways, rules))
     (λ c. search (check_ways, rules)) (λ c. search (check_ways, rules)) (λ c. search (check_ways, rules)) (λ c. search (check_ways, rules))
     (λ c κs. search (check_ways, rules)) (λ c. search (check_ways, rules)) (λ c. search (check_ways, rules)) (λ c. search (check_ways, rules))
     (λ c. search (check_ways, rules)) (λ c. search (check_ways, rules)))

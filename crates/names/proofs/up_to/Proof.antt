@@ -7,12 +7,12 @@ use Rattle.names.specs.Names.{other_than}
 use Rattle.names.proofs.up_to.Statement.{statement}
 use Rattle.names.proofs.up_to.Tie as tie
 
-abbrev invariant-loop : tie.invariant-loop
-invariant-loop t from stop i₀ i = Ahead (other_than stop) t from i
+abbrev invariant-loop-i : tie.invariant-loop-i
+invariant-loop-i t from stop i₀ i = Ahead (other_than stop) t from i
 
-abbrev decreases-loop : tie.decreases-loop
-decreases-loop t from stop i₀ i = length t - i
+abbrev decreases-loop-i : tie.decreases-loop-i
+decreases-loop-i t from stop i₀ i = length t - i
 
 pub up_to_spec : {M : Type 1} → statement M
-up_to_spec = tie.close (tie.spec invariant-loop decreases-loop (λ c. search (runs, rules)) (λ c. search (runs, rules)) (λ c κs. search (runs, rules))
+up_to_spec = tie.close (tie.spec invariant-loop-i decreases-loop-i (λ c. search (runs, rules)) (λ c. search (runs, rules)) (λ c κs. search (runs, rules))
     (λ c. search (runs, rules)) (λ c. search (runs, rules)) (λ c. search (runs, rules)) (λ c. search (runs, rules)) (λ c. search (runs, rules)))

@@ -7,7 +7,7 @@ use Rattle.reader.proofs.read_single.Tie as tie
 
 pub read_single_spec : {M : Type 1} → statement M
 read_single_spec = tie.close (tie.spec (λ c. (search (single_ways, rules), (search (single_ways, rules), search (single_ways, rules))))
-    (λ c κs. (all_bytes c.before.before.before.before.before.before.before.args.s.now c.before.before.before.before.before.before.shared-slice-known.given, search rules, search rules, search rules, search rules))
+    (λ c κs. (all_bytes c.before.before.before.before.before.before.before.args.s.now c.before.before.before.before.before.before.shared_slice_known-1.given, search rules, search rules, search rules, search rules))
     (λ c. search rules) (λ c. search rules) (λ c κs. search rules) (λ c. search rules) (λ c. search rules)
     (λ c. (search (single_ways, rules), (search (single_ways, rules), search (single_ways, rules)))) (λ c. search rules) (λ c. search rules)
     (λ c. (search (single_ways, rules), (search (single_ways, rules), search (single_ways, rules)))) (λ c. search rules) (λ c. search rules)

@@ -11,7 +11,7 @@ returns c =
     let between = last.before.before.before.before.before in
     let head = between.before.before.before.before.before in
     let first = head.before.before.before.before in
-    copied_put _ _ _ _ _ _ refl refl refl first.put-block.ensures head.put-head.ensures between.put-block2.ensures last.put-block3.ensures
+    copied_put _ _ _ _ _ _ refl refl refl first.put_block-a.ensures head.put_head-b.ensures between.put_block-c.ensures last.put_block.ensures
 
 pub put_struck_spec : {M : Type 1} → statement M
 put_struck_spec = tie.close (tie.spec (λ c. search rules) (λ c. search rules) (λ c. search rules) (λ c κs. search rules) (λ c κs. search rules)

@@ -6,14 +6,14 @@ use borrow.Author.Rules.{rules}
 use Rattle.text_read_item.proofs.commas.Statement.{statement}
 use Rattle.text_read_item.proofs.commas.Tie as tie
 
-abbrev invariant-loop : tie.invariant-loop
-invariant-loop t at e₀ n₀ i₀ e n i = Counted t at e n i
+abbrev invariant-loop-i : tie.invariant-loop-i
+invariant-loop-i t at e₀ n₀ i₀ e n i = Counted t at e n i
 
-abbrev decreases-loop : tie.decreases-loop
-decreases-loop t at e₀ n₀ i₀ e n i = length t - i
+abbrev decreases-loop-i : tie.decreases-loop-i
+decreases-loop-i t at e₀ n₀ i₀ e n i = length t - i
 
 pub commas_spec : {M : Type 1} → statement M
-commas_spec = tie.close (tie.spec invariant-loop decreases-loop (λ c. search (counting, rules)) (λ c. search (counting, rules)) (λ c. search (counting, rules))
+commas_spec = tie.close (tie.spec invariant-loop-i decreases-loop-i (λ c. search (counting, rules)) (λ c. search (counting, rules)) (λ c. search (counting, rules))
     (λ c κs. search (counting, rules)) (λ c. search (counting, rules)) (λ c. search (counting, rules)) (λ c κs. search (counting, rules))
     (λ c. search (counting, rules)) (λ c κs. search (counting, rules)) (λ c. search (counting, rules)) (λ c. search (counting, rules))
     (λ c. search (counting, rules)) (λ c. search (counting, rules)))

@@ -6,14 +6,14 @@ use borrow.Author.Rules.{rules}
 use Rattle.text_write.proofs.first_float.Statement.{statement}
 use Rattle.text_write.proofs.first_float.Tie as tie
 
-abbrev invariant-loop : tie.invariant-loop
-invariant-loop s p₀ p = Onto s p × (p ≤ length s)
+abbrev invariant-loop-p : tie.invariant-loop-p
+invariant-loop-p s p₀ p = Onto s p × (p ≤ length s)
 
-abbrev decreases-loop : tie.decreases-loop
-decreases-loop s p₀ p = length s - p
+abbrev decreases-loop-p : tie.decreases-loop-p
+decreases-loop-p s p₀ p = length s - p
 
 pub first_float_spec : {M : Type 1} → statement M
-first_float_spec = tie.close (tie.spec invariant-loop decreases-loop (λ c. search (forming, rules)) (λ c. search (forming, rules)) (λ c κs. search (forming, rules))
+first_float_spec = tie.close (tie.spec invariant-loop-p decreases-loop-p (λ c. search (forming, rules)) (λ c. search (forming, rules)) (λ c κs. search (forming, rules))
     (λ c. search (forming, rules)) (λ c. search (forming, rules)) (λ c. search (forming, rules)) (λ c κs. search (forming, rules))
     (λ c. search (forming, rules)) (λ c. search (forming, rules)) (λ c. search (forming, rules)) (λ c. search (forming, rules))
     (λ c κs. search (forming, rules)) (λ c. search (forming, rules)) (λ c. search (forming, rules)) (λ c. search (forming, rules))

@@ -1,7 +1,7 @@
 use Prim.Native.Nat.{◌-◌, ◌≤◌}
 use lib.ListN.{length, take}
 use Rattle.buffer.specs.Put.{Put}
-use Rattle.text.specs.Chars.{each, escape, hexes}
+use Rattle.text.specs.Chars.{each, hexes}
 use Rattle.text_write_item.proofs.Puts.{puts}
 use borrow.Author.Rules.{rules}
 use Rattle.text_write_item.proofs.put_hexes.Statement.{statement}

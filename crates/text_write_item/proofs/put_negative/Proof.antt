@@ -1,8 +1,0 @@
-use Rattle.text_write_item.proofs.Puts.{puts}
-use borrow.Author.Rules.{rules}
-use Rattle.text_write_item.proofs.put_negative.Statement.{statement}
-use Rattle.text_write_item.proofs.put_negative.Tie as tie
-
-pub put_negative_spec : {M : Type 1} → statement M
-put_negative_spec = tie.close (tie.spec (λ c κs. search rules) (λ c. search rules) (λ c κs. search rules) (λ c. search rules)
-    (λ c. search (puts, rules)) (λ c. search rules) (λ c κs. search rules) (λ c. search rules) (λ c. search (puts, rules)))

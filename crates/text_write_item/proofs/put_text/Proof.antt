@@ -1,8 +1,0 @@
-use Rattle.text_write_item.proofs.Puts.{puts}
-use borrow.Author.Rules.{rules}
-use Rattle.text_write_item.proofs.put_text.Statement.{statement}
-use Rattle.text_write_item.proofs.put_text.Tie as tie
-
-pub put_text_spec : {M : Type 1} → statement M
-put_text_spec = tie.close (tie.spec (λ c. search rules) (λ c κs. search rules) (λ c κs. search rules) (λ c. search rules) (λ c κs. search rules)
-    (λ c. search rules) (λ c. search (puts, rules)))
