@@ -1,5 +1,6 @@
 // What differs between two messages: an entry for each position of a target or report. Nothing is copied: the two item tables are gone through side by side.
 #![tactic(auto)]
+
 ghost use Rattle.std.specs.Prelude.{◌≡◌, true, ◌++◌, suc, ◌*◌, ◌/◌, ◌<◌, ◌≤◌, min, max, length, drop};
 ghost use Rattle.buffer.specs.Bytes.{be};
 ghost use Rattle.buffer.specs.Put.{Put};
@@ -36,7 +37,7 @@ pub const NO_ITEM: u64 = 18446744073709551615;
 pub const ENTRY: usize = 24;
 
 // An entry: what it says, and of a changed target or report the numbers of the first two items that differ.
-#[derive(Drop)]
+#[derive(Clone, Copy)]
 struct Difference {
     what: u64,
     first: u64,

@@ -1,14 +1,5 @@
-pub mod Asking
-pub mod Contracts
 pub mod Deciding
 pub mod Decided
 pub mod Entries
-pub mod Leaving
-pub mod Lending
-pub mod Lent
-pub mod Over
 pub mod Same
 pub mod Searched
-pub mod Turn
-pub mod Values
-pub mod Walk

@@ -17,7 +17,7 @@ use names::Names;
 use release::Released;
 
 // A grant: a subscriber and a namespace number.
-#[derive(Drop)]
+#[derive(Clone, Copy)]
 pub struct Grant {
     pub subscriber: u64,
     pub namespace: i64,

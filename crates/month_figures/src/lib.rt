@@ -1,5 +1,6 @@
 // Month figures: what they are, the words of a lent state that keep them, a state made fresh, and the figures as bytes.
 #![tactic(auto)]
+
 ghost use Rattle.std.specs.Prelude.{◌≡◌, ◌++◌, ◌≤◌, ◌<◌, length};
 ghost use Rattle.std.proofs.lemmas.List.Edits.{sets};
 ghost use Rattle.buffer.specs.Put.{Put};

@@ -6,13 +6,13 @@ use borrow.Author.Rules.{rules}
 use Rattle.comparison.proofs.count_targets.Statement.{statement}
 use Rattle.comparison.proofs.count_targets.Tie as tie
 
-abbrev invariant-loop : tie.invariant-loop
-invariant-loop entries count₀ k₀ count k = (k ≤ length entries) × (count ≤ k) × Counted entries k count
+abbrev invariant-loop-k : tie.invariant-loop-k
+invariant-loop-k entries count₀ k₀ count k = (k ≤ length entries) × (count ≤ k) × Counted entries k count
 
-abbrev decreases-loop : tie.decreases-loop
-decreases-loop entries count₀ k₀ count k = length entries - k
+abbrev decreases-loop-k : tie.decreases-loop-k
+decreases-loop-k entries count₀ k₀ count k = length entries - k
 
 pub count_targets_spec : {M : Type 1} → statement M
-count_targets_spec = tie.close (tie.spec invariant-loop decreases-loop (λ c. search (counts, rules)) (λ c. search (counts, rules)) (λ c. search (counts, rules))
+count_targets_spec = tie.close (tie.spec invariant-loop-k decreases-loop-k (λ c. search (counts, rules)) (λ c. search (counts, rules)) (λ c. search (counts, rules))
     (λ c. search (counts, rules)) (λ c κs. search (counts, rules)) (λ c. search (counts, rules)) (λ c. search (counts, rules))
     (λ c. search (counts, rules)) (λ c. search (counts, rules)) (λ c. search (counts, rules)) (λ c. search (counts, rules)))

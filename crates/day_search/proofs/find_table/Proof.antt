@@ -7,14 +7,14 @@ use borrow.Author.Rules.{rules}
 use Rattle.day_search.proofs.find_table.Statement.{statement}
 use Rattle.day_search.proofs.find_table.Tie as tie
 
-abbrev invariant-loop : tie.invariant-loop
-invariant-loop s count entries published own word message base out₀ before found₀ k₀ out found k = (k ≤ count) × (found ≤ before + k) × (length out ≡ length out₀) × Finding s published own word message base k out₀ out before found
+abbrev invariant-loop-k : tie.invariant-loop-k
+invariant-loop-k s count entries published own word message base out₀ before found₀ k₀ out found k = (k ≤ count) × (found ≤ before + k) × (length out ≡ length out₀) × Finding s published own word message base k out₀ out before found
 
-abbrev decreases-loop : tie.decreases-loop
-decreases-loop s count entries published own word message base out₀ before found₀ k₀ out found k = count - k
+abbrev decreases-loop-k : tie.decreases-loop-k
+decreases-loop-k s count entries published own word message base out₀ before found₀ k₀ out found k = count - k
 
 pub find_table_spec : {M : Type 1} → statement M
-find_table_spec = tie.close (tie.spec invariant-loop decreases-loop (λ c. search (findings, rules)) (λ c. search (findings, rules)) (λ c. search (findings, rules))
+find_table_spec = tie.close (tie.spec invariant-loop-k decreases-loop-k (λ c. search (findings, rules)) (λ c. search (findings, rules)) (λ c. search (findings, rules))
     (λ c κs. search (findings, rules)) (λ c. search (findings, rules)) (λ c. search (findings, rules)) (λ c. search (findings, rules))
     (λ c. search (findings, rules)) (λ c. search (findings, rules)) (λ c κs. search (findings, rules)) (λ c. search (findings, rules))
     (λ c. search (findings, rules)) (λ c. search (findings, rules)) (λ c κs. search (findings, rules)) (λ c. search (findings, rules))
