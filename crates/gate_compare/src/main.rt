@@ -13,7 +13,7 @@ const POSITIONS: usize = ari::ITEMS / 4;
 const ROOM: usize = POSITIONS * comparison::ENTRY;
 
 // So many items of a message are passed, with the targets and reports among them.
-#[derive(Clone, Copy)]
+#[derive(Drop)]
 struct Passed {
     items: usize,
     targets: item_records::Targets,
@@ -64,12 +64,15 @@ fn put_item(
     at: usize,
     s: &[u8],
     entries: &[u64],
-    passed: Passed,
+    passed: &Passed,
     k: usize,
 ) -> usize {
     if k < entries.len() {
         let p = print::fresh_line(out, at);
-        let targets = passed.targets;
+        let targets = item_records::Targets {
+            count: passed.targets.count,
+            end: passed.targets.end,
+        };
         let x = item_records::record_of(s, targets, entries[k]);
         return print::item(out, p, k, x, b"  ");
     }
@@ -102,10 +105,10 @@ fn put_lines(
     e: Entry,
     a: &[u8],
     xs: &[u64],
-    in_first: Passed,
+    in_first: &Passed,
     b: &[u8],
     ys: &[u64],
-    in_second: Passed,
+    in_second: &Passed,
 ) -> usize {
     let p = put_position(out, at, i, e);
     if e.what == comparison::CHANGED {
@@ -139,7 +142,7 @@ fn show_entries(
         let e = entry_at(entries, i);
         in_first = pass_changed(xs, in_first, e, e.first);
         in_second = pass_changed(ys, in_second, e, e.second);
-        p = put_lines(out, p, i, e, a, xs, in_first, b, ys, in_second);
+        p = put_lines(out, p, i, e, a, xs, &in_first, b, ys, &in_second);
         i += 1;
     }
     print::flush(out, p);

@@ -124,25 +124,24 @@ pub fn field(out: &mut [u8], at: usize, n: u64) -> usize
 }
 
 // The number of a target or report, or a hyphen, and a space.
-fn target_number(out: &mut [u8], at: usize, t: ari::Target) -> usize
-    ensures { Put out.old out.new at result (target_of t) }
+fn target_number(out: &mut [u8], at: usize, t: &ari::Target) -> usize
+    ensures { Put out.old out.new at result (target_of t.now) }
 {
     match t {
         ari::Target::None => buffer::put_all(out, at, b"- "),
-        ari::Target::Number(n) => field(out, at, n),
+        ari::Target::Number(n) => field(out, at, *n),
     }
 }
 
 // The numbers of an item's line.
-fn numbers(out: &mut [u8], at: usize, k: usize, x: item_records::Record) -> usize
-    ensures { Put out.old out.new at result (numbers_of k x) }
+fn numbers(out: &mut [u8], at: usize, k: usize, x: &item_records::Record) -> usize
+    ensures { Put out.old out.new at result (numbers_of k x.now) }
 {
     let a = field(out, at, k as u64);
     let b = field(out, a, x.first as u64);
     let c = field(out, b, x.after as u64);
     let d = field(out, c, x.around as u64);
-    let g = x.target;
-    target_number(out, d, g)
+    target_number(out, d, &x.target)
 }
 
 // An item's line: its number, first byte, byte after, containers around, target or report, kind. The indent stands before the kind, once for each
@@ -150,7 +149,7 @@ fn numbers(out: &mut [u8], at: usize, k: usize, x: item_records::Record) -> usiz
 pub fn item(out: &mut [u8], at: usize, k: usize, x: item_records::Record, indent: &[u8]) -> usize
     ensures { Put out.old out.new at result (line_of k x indent.now) }
 {
-    let a = numbers(out, at, k, x);
+    let a = numbers(out, at, k, &x);
     let b = repeat(out, a, indent, x.around);
     let g = x.kind;
     let c = kind(out, b, g);
@@ -213,14 +212,18 @@ fn item_line(
     at: usize,
     s: &[u8],
     k: usize,
-    targets: item_records::Targets,
+    targets: &item_records::Targets,
     entry: u64,
     indent: &[u8],
 ) -> usize
-    ensures { Put out.old out.new (fresh_of at (length out.old)) result (line_of k (record_from s.now targets entry) indent.now) }
+    ensures { Put out.old out.new (fresh_of at (length out.old)) result (line_of k (record_from s.now targets.now entry) indent.now) }
 {
     let p = fresh_line(out, at);
-    let x = item_records::record_of(s, targets, entry);
+    let before = item_records::Targets {
+        count: targets.count,
+        end: targets.end,
+    };
+    let x = item_records::record_of(s, before, entry);
     item(out, p, k, x, indent)
 }
 
@@ -233,7 +236,7 @@ pub fn items(out: &mut [u8], at: usize, s: &[u8], entries: &[u64], indent: &[u8]
     let mut targets = item_records::NO_TARGETS;
     while k < entries.len() {
         targets = item_records::pass(targets, entries[k]);
-        p = item_line(out, p, s, k, targets, entries[k], indent);
+        p = item_line(out, p, s, k, &targets, entries[k], indent);
         k += 1;
     }
     p

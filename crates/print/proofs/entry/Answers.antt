@@ -11,4 +11,4 @@ returns-then-listing-from c = entry_past c.args.s.now c.args.listing.now c.args.
 pub returns : goal.returns
 returns c =
     entry_put c.args.s.now c.args.listing.now c.args.from (omega arith) (omega arith) c.load8-ends.ensures c.load8-kind.ensures c.load8-w.ensures
-        c.line.ensures
+    c.line.ensures
