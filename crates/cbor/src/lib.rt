@@ -34,7 +34,7 @@ pub const DOUBLE: u8 = 9;
 
 // A refusal's number, or a head: its kind (specs/Head.antt), its argument and the place behind it. The number is a byte: as a u64 it would stand
 // where a head's argument does, and LLVM then keeps every head in memory.
-#[derive(Drop)]
+#[derive(Clone, Copy)]
 pub enum Head {
     Bad(u8),
     Good { kind: u8, arg: u64, next: usize },

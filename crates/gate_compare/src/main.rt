@@ -13,14 +13,14 @@ const POSITIONS: usize = ari::ITEMS / 4;
 const ROOM: usize = POSITIONS * comparison::ENTRY;
 
 // So many items of a message are passed, with the targets and reports among them.
-#[derive(Drop)]
+#[derive(Clone, Copy)]
 struct Passed {
     items: usize,
     targets: item_records::Targets,
 }
 
 // An entry of the comparison.
-#[derive(Drop)]
+#[derive(Clone, Copy)]
 struct Entry {
     what: u64,
     first: u64,

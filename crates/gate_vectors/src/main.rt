@@ -207,6 +207,16 @@ fn answer_digits(
     }
 }
 
+// The place of a byte, or the end.
+fn place_of(t: &[u8], byte: u8) -> usize
+    ensures { result ≤ length t.now }
+{
+    match t.iter().position(|x| *x == byte) {
+        Some(i) => i,
+        None => t.len(),
+    }
+}
+
 // A line, without its end.
 fn answer_line(text: &[u8], line: u64, buffer: &mut [u8], out: &mut [u8], at: usize) -> usize {
     if text.len() == 0 {
@@ -215,7 +225,7 @@ fn answer_line(text: &[u8], line: u64, buffer: &mut [u8], out: &mut [u8], at: us
     if text[0] == b'#' {
         return at;
     }
-    let end = bytes::scan::find(text, 0, text.len(), b' ');
+    let end = place_of(text, b' ');
     let call = call_of(&text[0..end]);
     if end < text.len() {
         let start = end + 1;
@@ -267,7 +277,7 @@ fn take_lines(text: &[u8], s: State, buffer: &mut [u8], out: &mut [u8]) -> Lines
     let mut at = s.at;
     let mut long = s.long;
     while from < text.len() {
-        let end = bytes::scan::find(text, from, text.len(), b'\n');
+        let end = from + place_of(&text[from..], b'\n');
         if end == text.len() {
             return Lines {
                 from,

@@ -1,6 +1,7 @@
 // Whether two single ARIs are the same: item by item, heads of one kind and argument and the same strings, names without regard to case. Nothing is
 // copied: the two item tables are gone through side by side.
 #![tactic(auto)]
+
 ghost use Rattle.std.specs.Prelude.{◌≡◌, ◌<◌, ◌≤◌, min, length};
 ghost use Rattle.ari.specs.declared.Input.TheVariants as input;
 ghost use Rattle.ari.specs.Reader.{accept, read};

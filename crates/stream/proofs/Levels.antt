@@ -1,6 +1,6 @@
 -- The frames of the open levels: storing one leaves those below it, so the levels after an item are what the reader has due after it.
 use Prim.Native.Nat.{ℕ, zero, suc, pred, ◌+◌, ◌-◌, ◌<◌, ◌≤◌}
-use mathlib.Core.Path.{◌≡◌, refl, ◌∙◌}
+use mathlib.Core.Path.{◌≡◌, refl, sym, ◌∙◌, subst}
 use mathlib.Core.Bool.{Bool, true, false, cond}
 use mathlib.Core.List.{List, [], ◌∷◌}
 use native.Mathlib.Omega.{arith}
@@ -95,6 +95,9 @@ module _ (ws : List ℕ) (k : ℕ) (f : Frame) where
 
 -- behind an item: x is what is due there, k the level's number and f its frame
 module _ (ws : List ℕ) (f : Frame) (p q : ℕ) (d : ℕ) (b : List ℕ) (size : words ≤ length ws) where
+  behind_words : (k j n : ℕ) → words_behind (Due j n) ws (suc k) f p q ≡ stored ws k (frame_behind f j n p q)
+  behind_words k j n = let e : suc k - 1 ≡ k = omega arith in rw (e, ne_eqb (suc k) 0 (λ q. omega arith))
+
   pub behind_levels : (o : ℕ) → o ≤ gate_limits.containers → (x : Next) → (o ≡ 0 → level_of x ≡ done)
       → levels (words_behind x ws o f p q) d b (open_behind x o)
       ≡ push (level_of x) (key_of (part b (key_span (rule (slot_of f.slot)).extra f.from p) (key_span (rule (slot_of f.slot)).extra f.to q))) (d - f.around) (levels ws d b (o - 1))
@@ -102,7 +105,9 @@ module _ (ws : List ℕ) (f : Frame) (p q : ℕ) (d : ℕ) (b : List ℕ) (size 
   behind_levels zero h (Due j n) z = absurd (let e : ◌≡◌ {A = ℕ} 0 1 = cc (z refl) in omega arith)
   behind_levels (suc k) h (Due j n) z =
       let e : suc k - 1 ≡ k = omega arith in
-      rw (e, ne_eqb (suc k) 0 (λ q. omega arith)) (stored_levels ws k (frame_behind f j n p q) d b (omega arith))
+      let P : List ℕ → Type 0 = λ w. levels w d b (suc k)
+          ≡ frame (slot_of j) n (key_of (part b (key_span (rule (slot_of f.slot)).extra f.from p) (key_span (rule (slot_of f.slot)).extra f.to q))) (d - f.around) (levels ws d b (suc k - 1)) in
+      subst P (sym (behind_words k j n)) (rw e (stored_levels ws k (frame_behind f j n p q) d b (omega arith)))
 
   pub behind_well : (n o : ℕ) → o ≤ gate_limits.containers → (x : Next) → Slotted x → WellFrames ws d n (o - 1) → ((k : ℕ) → o ≡ suc k → WellFrame d n k f) → p ≤ q → q ≤ n
       → WellFrames (words_behind x ws o f p q) d n (open_behind x o)
@@ -112,7 +117,8 @@ module _ (ws : List ℕ) (f : Frame) (p q : ℕ) (d : ℕ) (b : List ℕ) (size 
       let e : suc k - 1 ≡ k = omega arith in
       let g = v k refl in
       let x = (rule (slot_of f.slot)).extra in
-      rw (e, ne_eqb (suc k) 0 (λ q. omega arith))
+      let P : List ℕ → Type 0 = λ u. WellFrames u d n (suc k) in
+      subst P (sym (behind_words k j m))
       (stored_well ws k (frame_behind f j m p q) d n (omega arith) (z, span_order x f.from f.to p q g.1 pq, span_within x f.to q n g.2 qn, g.3, g.4) (rw e at w))
 
   pub behind_size : (o : ℕ) (x : Next) → length (words_behind x ws o f p q) ≡ length ws

@@ -6,5 +6,5 @@ use Rattle.names.proofs.check_names.Tie as tie
 
 pub check_names_spec : {M : Type 1} → statement M
 check_names_spec = tie.close (tie.spec (λ c κs. search rules) (λ c. search rules) (λ c κs. search rules) (λ c. search rules) (λ c κs. search rules)
-    (λ c. search rules) (λ c κs. search rules) (λ c. search rules) (λ c. search (check_ways, rules)) (λ c. search (check_ways, rules))
+    (λ c. search rules) (λ c κs. search rules) (λ c. search rules) (λ c. search check_ways) (λ c. search check_ways)
     (λ c. search (check_ways, rules)))

@@ -15,5 +15,5 @@ decreases-loop-p list p₀ p = length list - p
 pub first_wrong_spec : {M : Type 1} → statement M
 first_wrong_spec = tie.close (tie.spec invariant-loop-p decreases-loop-p (λ c. search (check_ways, rules)) (λ c κs. search (check_ways, rules))
     (λ c. search (check_ways, rules)) (λ c. search (check_ways, rules)) (λ c. search (check_ways, rules)) (λ c. search (check_ways, rules))
-    (λ c κs. search (check_ways, rules)) (λ c. search (check_ways, rules)) (λ c. search (check_ways, rules)) (λ c. search (check_ways, rules))
+    (λ c κs. search (check_ways, rules)) (λ c. search check_ways) (λ c. search (check_ways, rules)) (λ c. search (check_ways, rules))
     (λ c. search (check_ways, rules)) (λ c. search (check_ways, rules)))

@@ -15,14 +15,9 @@ decreases-loop-p s limits state₀ at count opened p₀ c₀ o₀ state p c o = 
 
 loop-again : tie.Need-loop-p-preserved invariant-loop-p decreases-loop-p
 loop-again c =
-    let settled = c.before.before in
-    let took = settled.before.before.before in
-    let seen = took.before.before in
-    let turn = seen.before.before.before.before.before in
-    let start = turn.before.before.before.before in
-    turned turn.before.loop.invariant start.requires.0 turn.loop-test.true seen.before.due.ensures seen.take-due.ensures.0
-    (all_bytes start.args.s.now turn.before.before.before.shared-slice-known.given) took.t.given.1 seen.take-due.ensures.1 start.requires.3
-    settled.settle.ensures.0 settled.settle.ensures.1
+    turned c.loop-p.invariant c.requires.0 c.loop-p-test.true c.due-f.ensures c.take_due-t.ensures.0
+    (all_bytes c.args.s.now c.shared_slice_known-1.given) c.in-Taken.is c.take_due-t.ensures.1 c.requires.3
+    c.settle-o.ensures.0 c.settle-o.ensures.1
 
 pub advance_spec : {M : Type 1} → statement M
 advance_spec = tie.close (tie.spec invariant-loop-p decreases-loop-p (λ c. search (turns, rules)) (λ c. search (shown, rules)) (λ c. search (turns, rules))
