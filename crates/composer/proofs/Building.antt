@@ -18,7 +18,7 @@ use Rattle.ari.specs.declared.Limits.{Limits}
 use Rattle.ari.specs.declared.Input.TheVariants.{Message}
 use Rattle.ari.specs.Rules.{Stands}
 use Rattle.ari.specs.Limits.{gate_limits, capped}
-use Rattle.ari.specs.Items.{Items, encode, heads}
+use Rattle.ari.specs.Items.{Items, encode}
 use Rattle.ari.specs.Decode.{decode}
 use Rattle.text.specs.Answer.{refused, lent}
 use Rattle.text_write.specs.declared.Written.{Written}

@@ -157,6 +157,7 @@ module _ (m : Limits) where
       go (reference l s ms) p (targets n rs) q ih f = absurd (no_wrong f)
 
   wrong_gathered : (k : ℕ) (ts : Texts) {j : ℕ} → Clean max64 max64 ts → WrongAt m k ts j → gather m k ts ≡ wrong j
+  wrong_gathered k no_more {j = j} c x'' = elim x'' [ ]
   wrong_gathered k unended c not_ended = refl
   wrong_gathered k (text t ts) c (no_reference h) = go (reference_of m t) refl
     where

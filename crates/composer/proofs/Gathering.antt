@@ -1,5 +1,5 @@
 -- The texts that are targets, in order: what is gathered is exactly that (`gathered_exactly`); and gathering goes on from place to place.
-use Prim.Native.Nat.{ℕ, suc, ◌+◌, ◌≤◌}
+use Prim.Native.Nat.{ℕ, suc, ◌≤◌}
 use mathlib.Core.Logic.{◌↔◌}
 use mathlib.Core.Path.{◌≡◌, refl, sym, ◌∙◌, ap}
 use mathlib.Core.List.{List, [], ◌++◌, append-nil, append_assoc, map, ◌∷◌}
@@ -64,6 +64,7 @@ module _ (m : Limits) where
       recast f.many_is f.whole (a_text r (gathered_are max64 (suc k) ts (omega arith) c.2 f.rest_is))
 
   are_gathered : (j k : ℕ) (ts : Texts) {n : ℕ} {g : Items} → j ≤ max64 → Clean j max64 ts → Are m ts n g → gather m k ts ≡ targets n g
+  are_gathered j k unended {n = n} {g = g} h c x3 = elim x3 [ ]
   are_gathered j k no_more h c no_texts = refl
   are_gathered j k (text t ts) h c (a_text r a) =
       rw (as_read m c.0 (omega (arith, c.1)) r, are_gathered max64 (suc k) ts (omega arith) c.2 a)

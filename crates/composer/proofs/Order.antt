@@ -1,9 +1,9 @@
 -- The message of a nonce and targets stands by the rules, whatever its size; so it is accepted exactly if it keeps the limits, and its listing is that of
 -- its targets' references.
-use Prim.Native.Nat.{ℕ, suc, ◌+◌, ◌<◌, ◌≤◌}
+use Prim.Native.Nat.{ℕ, suc, ◌<◌, ◌≤◌}
 use mathlib.Core.Path.{◌≡◌, refl, sym, ◌∙◌}
-use mathlib.Core.Bool.{true, false, true≢false}
-use mathlib.Core.List.{[], ◌∷◌, ◌++◌, append-nil, append_assoc, map}
+use mathlib.Core.Bool.{true, true≢false}
+use mathlib.Core.List.{[], ◌∷◌, ◌++◌, append-nil, append_assoc}
 use native.Mathlib.Omega.{arith}
 use lib.ListN.{length, length-append}
 use lib.Dec.{leb}

@@ -1,5 +1,6 @@
 // Orders composed at a field console: the message of a nonce and of targets that are given as texts. What is read, judged and handed over is the gate's.
 #![tactic(auto)]
+
 ghost use Rattle.std.specs.Prelude.{◌≡◌, true, ◌≤◌, ◌<◌, length};
 ghost use Rattle.buffer.specs.Put.{Put};
 ghost use Rattle.buffer.specs.Runs.{RunTo};
@@ -239,7 +240,7 @@ fn rest_of(limits: Limits, texts: &[u8], at: usize, number: usize, room: &mut [u
 }
 
 // A nonce but for the bytes of its string: what it is, and its number.
-#[derive(Drop)]
+#[derive(Clone, Copy)]
 struct Lead {
     kind: u64,
     number: u64,
@@ -359,13 +360,7 @@ pub fn compose(kind: u64, number: u64, nonce: &[u8], texts: &[u8], out: &mut [u8
 }
 
 // The same with the answer as one number, as host/composer.h says; for C it is exported by `composer_c`.
-pub fn composer_compose(
-    kind: u64,
-    number: u64,
-    nonce: &[u8],
-    texts: &[u8],
-    out: &mut [u8],
-) -> u64
+pub fn composer_compose(kind: u64, number: u64, nonce: &[u8], texts: &[u8], out: &mut [u8]) -> u64
     ensures value { result ≡ text_code (written_of (lent (length out.old) (compose gate_limits (nonce_of kind number nonce.now) texts.now))) }
     ensures out_after { out.new ≡ room_after out.old (lent (length out.old) (compose gate_limits (nonce_of kind number nonce.now) texts.now)) }
 {

@@ -7,14 +7,14 @@ use borrow.Author.Rules.{rules}
 use Rattle.composer.proofs.put_targets.Statement.{statement}
 use Rattle.composer.proofs.put_targets.Tie as tie
 
-abbrev invariant-loop : tie.invariant-loop
-invariant-loop limits texts room₀ at before p₀ k₀ q₀ n₀ room p k q n = Going (capped limits) texts room₀ room at before p k q n
+abbrev invariant-loop-p : tie.invariant-loop-p
+invariant-loop-p limits texts room₀ at before p₀ k₀ q₀ n₀ room p k q n = Going (capped limits) texts room₀ room at before p k q n
 
-abbrev decreases-loop : tie.decreases-loop
-decreases-loop limits texts room₀ at before p₀ k₀ q₀ n₀ room p k q n = length texts - p
+abbrev decreases-loop-p : tie.decreases-loop-p
+decreases-loop-p limits texts room₀ at before p₀ k₀ q₀ n₀ room p k q n = length texts - p
 
 pub put_targets_spec : {M : Type 1} → statement M
-put_targets_spec = tie.close (tie.spec invariant-loop decreases-loop (λ c. search (going, rules)) (λ c κs. search (going, rules)) (λ c. search (going, rules))
+put_targets_spec = tie.close (tie.spec invariant-loop-p decreases-loop-p (λ c. search (going, rules)) (λ c κs. search (going, rules)) (λ c. search (going, rules))
     (λ c. search (going, rules)) (λ c. search (going, rules)) (λ c. search (going, rules)) (λ c. search (going, rules))
     (λ c κs. search (going, rules)) (λ c. search (going, rules)) (λ c. search (going, rules)) (λ c. search (going, rules))
     (λ c. search (going, rules)) (λ c. search (going, rules)) (λ c. search (going, rules)) (λ c. search (going, rules)) (λ c. search place_fits)

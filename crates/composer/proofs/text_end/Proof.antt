@@ -7,12 +7,12 @@ use Rattle.composer.specs.Code.{in_text}
 use Rattle.composer.proofs.text_end.Statement.{statement}
 use Rattle.composer.proofs.text_end.Tie as tie
 
-abbrev invariant-loop : tie.invariant-loop
-invariant-loop texts from i₀ i = Ahead in_text texts from i
+abbrev invariant-loop-i : tie.invariant-loop-i
+invariant-loop-i texts from i₀ i = Ahead in_text texts from i
 
-abbrev decreases-loop : tie.decreases-loop
-decreases-loop texts from i₀ i = length texts - i
+abbrev decreases-loop-i : tie.decreases-loop-i
+decreases-loop-i texts from i₀ i = length texts - i
 
 pub text_end_spec : {M : Type 1} → statement M
-text_end_spec = tie.close (tie.spec invariant-loop decreases-loop (λ c. search (runs, rules)) (λ c. search (runs, rules)) (λ c κs. search (runs, rules))
-    (λ c. search (runs, rules)) (λ c. search (runs, rules)) (λ c. search (runs, rules)) (λ c. search (runs, rules)) (λ c. search (runs, rules)))
+text_end_spec = tie.close (tie.spec invariant-loop-i decreases-loop-i (λ c. search (runs, rules)) (λ c. search (runs, rules)) (λ c κs. search (runs, rules))
+    (λ c. search (runs, rules)) (λ c. search (runs, rules)) (λ c. search runs) (λ c. search (runs, rules)) (λ c. search (runs, rules)))

@@ -1,0 +1,19 @@
+-- `composer::compose_long` meets its contract: by what was built, and then by the texts that are left.
+use Rattle.composer.proofs.Building.{orders, orders_left}
+use borrow.Author.Rules.{rules}
+use Rattle.composer.proofs.compose_long.Goals as goal
+
+pub finish-requires : goal.finish-requires
+finish-requires c = search (orders, orders_left, rules)
+
+pub returns-in-Right-clause-value : goal.returns-in-Right-clause-value
+returns-in-Right-clause-value c = search (orders, orders_left, rules)
+
+pub returns-in-Right-clause-out_after : goal.returns-in-Right-clause-out_after
+returns-in-Right-clause-out_after c = search (orders, orders_left, rules)
+
+pub returns-in-Whole-clause-value : goal.returns-in-Whole-clause-value
+returns-in-Whole-clause-value c = search (orders, orders_left, rules)
+
+pub returns-in-Whole-clause-out_after : goal.returns-in-Whole-clause-out_after
+returns-in-Whole-clause-out_after c = search (orders, orders_left, rules)

@@ -1,0 +1,13 @@
+-- `composer::compose_short` meets its contract: by what was built, or as a long one.
+use Rattle.composer.proofs.Building.{orders, orders_left}
+use borrow.Author.Rules.{rules}
+use Rattle.composer.proofs.compose_short.Goals as goal
+
+pub finish-requires : goal.finish-requires
+finish-requires c = search (orders, orders_left, rules)
+
+pub returns-in-Whole-clause-value : goal.returns-in-Whole-clause-value
+returns-in-Whole-clause-value c = search (orders, orders_left, rules)
+
+pub returns-in-Whole-clause-out_after : goal.returns-in-Whole-clause-out_after
+returns-in-Whole-clause-out_after c = search (orders, orders_left, rules)
