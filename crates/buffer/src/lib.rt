@@ -257,7 +257,7 @@ pub fn load8(s: &[u8], at: usize) -> u64
 }
 
 // A number of 64 bits that was read.
-#[derive(Drop)]
+#[derive(Clone, Copy)]
 pub enum Number {
     Value(u64),
     Bad,

@@ -270,7 +270,7 @@ pub fn release_grants<'a>(
 }
 
 // What a table answers to the three questions.
-#[derive(Drop)]
+#[derive(Clone, Copy)]
 pub struct Answers {
     pub check: Verdict,
     pub granted: bool,

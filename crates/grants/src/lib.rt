@@ -9,7 +9,7 @@ ghost use Rattle.grants.specs.Bytes.{row_of, holds_at, rows, row_by, check_bytes
 ghost use Rattle.grants.specs.Verdict.{check_of};
 
 // The check's answer: the table passes, or 18 with a row.
-#[derive(Drop)]
+#[derive(Clone, Copy)]
 pub enum Verdict {
     Passes,
     Refused(u64),

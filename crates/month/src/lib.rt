@@ -22,7 +22,7 @@ use names::Names;
 use reader::Answer;
 
 // The totals of a month, and how many lines there are.
-#[derive(Drop)]
+#[derive(Clone, Copy)]
 pub struct Tally {
     pub messages: u64,
     pub bytes: u64,

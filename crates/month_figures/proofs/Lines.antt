@@ -1,7 +1,7 @@
 -- The lines of a month: they rise, each has what refers to its namespace, and there is no other. So they go by these numbers alone.
 use Prim.Native.Nat.{ℕ, zero, suc, ◌+◌, ◌<◌, ◌≤◌}
 use mathlib.Core.Logic.{◌↔◌}
-use mathlib.Core.Path.{◌≡◌, refl, sym, ◌∙◌, ap}
+use mathlib.Core.Path.{◌≡◌, refl, sym, ◌∙◌, ap, subst}
 use mathlib.Core.Bool.{Bool, true, false, ◌&&◌, cond, true≢false}
 use mathlib.Core.List.{List, [], ◌∷◌, ◌++◌, Memᴰ}
 use native.Mathlib.Omega.{arith}
@@ -129,15 +129,20 @@ at_own l ls b = rw (eq-eqb l.place l.place refl, behind_none l.place ls b) (omeg
 
 -- so a line of theirs has all that is at its place,
 behind_member : (p : ℕ) (ls : List Line) → Behind p ls → (l : Line) → Memᴰ l ls → p < l.place
+behind_member p [] b l x'' = elim x'' [ ]
 behind_member p (x ∷ ls) b l (mathlib.Core.List.Memᴰ.head e) = rw e b.0
 behind_member p (x ∷ ls) b l (mathlib.Core.List.Memᴰ.tail m) = behind_member p ls b.1 l m
 
 at_member : (ls : List Line) → Rising ls → (l : Line) → Memᴰ l ls → at l.place ls ≡ l.references
-at_member (x ∷ ls) r l (mathlib.Core.List.Memᴰ.head e) = rw e (at_own x ls r.0)
+at_member [] r l x'' = elim x'' [ ]
+at_member (x ∷ ls) r l (mathlib.Core.List.Memᴰ.head e) =
+    let P : Line → Type 0 = λ (y : Line). at y.place (x ∷ ls) ≡ y.references in
+    subst P (sym e) (at_own x ls r.0)
 at_member (x ∷ ls) r l (mathlib.Core.List.Memᴰ.tail m) =
     rw (ne_eqb l.place x.place (λ e. omega (arith, behind_member x.place ls r.0 l m))) (omega (arith, at_member ls r.1 l m))
 
 filled_member : (ls : List Line) → Filled ls → (l : Line) → Memᴰ l ls → 0 < l.references
+filled_member [] f l x'' = elim x'' [ ]
 filled_member (x ∷ ls) f l (mathlib.Core.List.Memᴰ.head e) = rw e f.0
 filled_member (x ∷ ls) f l (mathlib.Core.List.Memᴰ.tail m) = filled_member ls f.1 l m
 

@@ -1,5 +1,6 @@
 // Release: whether a message may be handed on for a subscriber, by the grants that a table of bytes has for it and the numbers that two lists have for names.
 #![tactic(auto)]
+
 ghost use Rattle.std.specs.Prelude.{◌≡◌, ◌+◌, ◌<◌, ◌≤◌, min, length, eqb, true, cond};
 ghost use Rattle.ari.specs.declared.Input.TheVariants as input;
 ghost use Rattle.ari.specs.Limits.{gate_limits, capped};
@@ -16,7 +17,7 @@ use reader::Answer;
 
 // Yes; no with the number of the first listed entry that is not granted; each with the number of rows compared. Or the message's own refusal, 19 with the place
 // of a line, or 18 with the number of whole rows.
-#[derive(Drop)]
+#[derive(Clone, Copy)]
 pub enum Released {
     Yes { compared: u64 },
     No { entry: usize, compared: u64 },

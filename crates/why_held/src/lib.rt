@@ -51,7 +51,7 @@ pub const RELATIVE: u64 = 2;
 pub const NO_KEY: u64 = 18446744073709551615;
 
 // A link of the chain: its first byte, the byte after its last, what it means, and of a map value the place of its key's head.
-#[derive(Drop)]
+#[derive(Clone, Copy)]
 pub struct Link {
     pub first: usize,
     pub after: usize,
@@ -67,7 +67,7 @@ const NO_LINK: Link = Link {
 };
 
 // Released; held, with the number of the entry, the reason and the number of links; or what release refuses.
-#[derive(Drop)]
+#[derive(Clone, Copy)]
 pub enum Outcome {
     Released,
     Held {

@@ -7,12 +7,12 @@ use borrow.Author.Rules.{rules}
 use Rattle.month_figures.proofs.put_lines.Statement.{statement}
 use Rattle.month_figures.proofs.put_lines.Tie as tie
 
-abbrev invariant-loop : tie.invariant-loop
-invariant-loop state lines out₀ at p₀ i₀ out p i = (i ≤ lines) × (length out ≡ length out₀) × Putting state lines i out₀ out at p
+abbrev invariant-loop-i : tie.invariant-loop-i
+invariant-loop-i state lines out₀ at p₀ i₀ out p i = (i ≤ lines) × (length out ≡ length out₀) × Putting state lines i out₀ out at p
 
-abbrev decreases-loop : tie.decreases-loop
-decreases-loop state lines out₀ at p₀ i₀ out p i = lines - i
+abbrev decreases-loop-i : tie.decreases-loop-i
+decreases-loop-i state lines out₀ at p₀ i₀ out p i = lines - i
 
 pub put_lines_spec : {M : Type 1} → statement M
-put_lines_spec = tie.close (tie.spec invariant-loop decreases-loop (λ c. search (puts, rules)) (λ c κs. search (puts, rules)) (λ c. search (puts, rules))
+put_lines_spec = tie.close (tie.spec invariant-loop-i decreases-loop-i (λ c. search (puts, rules)) (λ c κs. search (puts, rules)) (λ c. search (puts, rules))
     (λ c. search (puts, rules)) (λ c. search (puts, rules)) (λ c. search (puts, rules)) (λ c. search (puts, rules)))

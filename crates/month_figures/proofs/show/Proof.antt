@@ -5,11 +5,11 @@ use borrow.Author.Rules.{rules}
 use Rattle.month_figures.proofs.show.Statement.{statement}
 use Rattle.month_figures.proofs.show.Tie as tie
 
-written : tie.Need-returns-3
+written : tie.Need-returns
 written c =
     let put = c.before.before in
     let counted = put.before.before.before in
-    show_done _ _ (omega arith) counted.least.ensures (omega arith) put.put-figures.ensures
+    show_done _ _ (omega arith) counted.least-lines.ensures (omega arith) put.put_figures.ensures
 
 pub show_spec : {M : Type 1} → statement M
 show_spec = tie.close (tie.spec (λ c. search (shows, rules)) (λ c. search (shows, rules)) (λ c. search (shows, rules)) (λ c κs. search (shows, rules))

@@ -39,37 +39,37 @@ rows-holds c =
     let searched = search_rows c.before.before.before.before.before.before.before.before.before.before.before.before.before.before.before.before.before.requires a.grants.now a.published.now a.own.now a.subscriber e.invariant.2 in
     (search rules, search rules, at.inside, search (searched, at, c.before.before.before.before.settled.ensures, rules))
 
-add_at : tie.Need-overflow-add-at invariant-rows decreases-rows invariant-entries decreases-entries
+add_at : tie.Need-overflow_add-at invariant-rows decreases-rows invariant-entries decreases-entries
 add_at c =
-    let there = others_there c.before.before.before.rows.invariant.2 c.before.others-from.ensures in search (there, c.before.before.before.before.before.before.before.before.before.before.before.before.before.before.before.before.before.before.before.before.before.well-formed, rules)
+    let there = others_there c.rows.invariant.2 c.others_from-others.ensures in search (there, c.well_formed, rules)
 
 rows-less : tie.Need-rows-smaller invariant-rows decreases-rows invariant-entries decreases-entries
-rows-less c = let there = others_there c.before.before.before.rows.invariant.2 c.before.others-from.ensures in omega arith
+rows-less c = let there = others_there c.before.before.before.rows.invariant.2 c.before.others_from-others.ensures in omega arith
 
 rows-again : tie.Need-rows-preserved invariant-rows decreases-rows invariant-entries decreases-entries
 rows-again c =
     let e = c.before.before.before.rows.invariant in
-    let o = c.before.others-from.ensures in
+    let o = c.before.others_from-others.ensures in
     (e.0, e.1, others_there e.2 o, rows_passed e.3 o)
 
-add-at-2 : tie.Need-overflow-add-at-2 invariant-rows decreases-rows invariant-entries decreases-entries
-add-at-2 c = search (c.before.before.before.before.before.before.before.before.before.before.before.before.before.before.before.before.before.before.before.before.before.before.before.well-formed, rules)
+add-at-2 : tie.Need-overflow_add-at invariant-rows decreases-rows invariant-entries decreases-entries
+add-at-2 c = search (c.well_formed, rules)
 
-rows-again-2 : tie.Need-rows-preserved-2 invariant-rows decreases-rows invariant-entries decreases-entries
+rows-again-2 : tie.Need-rows-preserved invariant-rows decreases-rows invariant-entries decreases-entries
 rows-again-2 c =
     let e = c.before.before.before.before.before.rows.invariant in
     (search (e.0, rules), search (e.1, rules), search (e.2, rules), search (e.3, next_row, rules))
 
-add-entry : tie.Need-overflow-add-entry invariant-rows decreases-rows invariant-entries decreases-entries
-add-entry c = let e = c.before.before.before.before.before.rows.invariant in search (e.0, e.1, c.before.before.before.before.before.before.before.before.before.before.before.before.before.before.before.before.before.before.before.before.before.before.before.ranges.count, rules)
+add-entry : tie.Need-overflow_add-entry invariant-rows decreases-rows invariant-entries decreases-entries
+add-entry c = let e = c.rows.invariant in search (e.0, e.1, c.ranges.count, rules)
 
-add-k-2 : tie.Need-overflow-add-k-2 invariant-rows decreases-rows invariant-entries decreases-entries
+add-k-2 : tie.Need-overflow_add-k invariant-rows decreases-rows invariant-entries decreases-entries
 add-k-2 c = let e = c.before.before.before.before.before.rows.invariant in search (e.0, e.1, c.before.before.before.before.before.before.before.before.before.before.before.before.before.before.before.before.before.before.before.before.before.before.before.ranges.count, rules)
 
-entries-again-2 : tie.Need-entries-preserved-2 invariant-rows decreases-rows invariant-entries decreases-entries
+entries-again-2 : tie.Need-entries-preserved invariant-rows decreases-rows invariant-entries decreases-entries
 entries-again-2 c =
     let e = c.before.before.before.before.before.rows.invariant in
-    (search (e.0, rules), search (e.1, rules), a_row e.3 c.before.before.before.before.if2.false c.before.holds_at.ensures c.if4.true, e.3.before)
+    (search (e.0, rules), search (e.1, rules), a_row e.3 c.before.before.before.before.if-grants-at-lt16.false c.before.holds_at.ensures c.if-holds_at.true, e.3.before)
 
 returns : tie.Need-returns invariant-rows decreases-rows invariant-entries decreases-entries
 returns c =
@@ -78,7 +78,7 @@ returns c =
     ⊎_elim (λ w. absurd (omega arith)) (⊎_elim (λ w. search (none, w.10 ∙ w.6.ensures, rules)) (λ w. no_row w.11.inv.3 w.12.taken w.13.ensures w.14))
     c.before.entries-test.branch
 
-returns-2 : tie.Need-returns-2 invariant-rows decreases-rows invariant-entries decreases-entries
+returns-2 : tie.Need-returns invariant-rows decreases-rows invariant-entries decreases-entries
 returns-2 c =
     let a = c.before.before.before.before.before.before.before.before.before.args in
     let e = c.before.before.before.entries.invariant in

@@ -5,5 +5,5 @@ use Rattle.release.proofs.settled.Statement.{statement}
 use Rattle.release.proofs.settled.Tie as tie
 
 pub settled_spec : {M : Type 1} → statement M
-settled_spec = tie.close (tie.spec (λ c. rw (eq-eqb _ _ c.if1.true) (search rules)) (λ c. search rules) (λ c κs. search rules)
-    (λ c. rw (ne_eqb _ _ c.before.if1.false) c.saturating-add.ensures))
+settled_spec = tie.close (tie.spec (λ c. rw (eq-eqb _ _ c.if-entry-eq0.true) (search rules)) (λ c. search rules) (λ c κs. search rules)
+    (λ c. rw (ne_eqb _ _ c.before.if-entry-eq0.false) c.saturating_add.ensures))

@@ -6,4 +6,4 @@ use Rattle.release.proofs.start.Statement.{statement}
 use Rattle.release.proofs.start.Tie as tie
 
 pub start_spec : {M : Type 1} → statement M
-start_spec = tie.close (tie.spec (λ c. sym (rw (eq-eqb _ _ c.if1.true))) (λ c. sym (rw (ne_eqb _ _ c.if1.false))))
+start_spec = tie.close (tie.spec (λ c. sym (rw (eq-eqb _ _ c.if-word-found.true))) (λ c. sym (rw (ne_eqb _ _ c.if-word-found.false))))
