@@ -1,6 +1,7 @@
 // Month figures: day files are counted one after another into a lent state. A file is counted in a copy, which takes the state's place when all of it was
 // taken: of a file that is refused half way only the reading was in vain.
 #![tactic(auto)]
+
 ghost use Rattle.std.specs.Prelude.{◌≡◌, ◌+◌, ◌<◌, ◌≤◌, min, length, drop, map};
 ghost use Rattle.std.proofs.lemmas.List.Edits.{sets};
 ghost use Rattle.std.proofs.Math.Seq.{paste};

@@ -9,13 +9,13 @@ use borrow.Author.Rules.{rules}
 use Rattle.month.proofs.count_file.Statement.{statement}
 use Rattle.month.proofs.count_file.Tie as tie
 
-abbrev invariant-loop : tie.invariant-loop
-invariant-loop format limits state file count published own places₀ amounts₀ table₀ tally₀ k₀ places amounts table tally k = (k ≤ count) × (length places ≡ length places₀) × (length amounts ≡ length amounts₀) × (length table ≡ length table₀) × Filing format limits file published own count tally₀ places₀ amounts₀ k tally places amounts
+abbrev invariant-loop-k : tie.invariant-loop-k
+invariant-loop-k format limits state file count published own places₀ amounts₀ table₀ tally₀ k₀ places amounts table tally k = (k ≤ count) × (length places ≡ length places₀) × (length amounts ≡ length amounts₀) × (length table ≡ length table₀) × Filing format limits file published own count tally₀ places₀ amounts₀ k tally places amounts
 
-abbrev decreases-loop : tie.decreases-loop
-decreases-loop format limits state file count published own places₀ amounts₀ table₀ tally₀ k₀ places amounts table tally k = count - k
+abbrev decreases-loop-k : tie.decreases-loop-k
+decreases-loop-k format limits state file count published own places₀ amounts₀ table₀ tally₀ k₀ places amounts table tally k = count - k
 
-refused : tie.Need-returns invariant-loop decreases-loop
+refused : tie.Need-returns invariant-loop-k decreases-loop-k
 refused c =
     let answered = c.before.before.before.before.before.before.before.before in
     let turn = answered.before.before.before.before.before in
@@ -23,7 +23,7 @@ refused c =
     let start = fetched.before.before.before.before.before.before.before.before.before.before in
     search (files, counted_on, answered.count-message.ensures, answered.before.before.before.before.message-at.ensures, turn.loop-test.true, turn.before.loop.invariant.4, fetched.fetch.ensures, start.requires, rules)
 
-again : tie.Need-loop-preserved invariant-loop decreases-loop
+again : tie.Need-loop-k-preserved invariant-loop-k decreases-loop-k
 again c =
     let answered = c.before.before.before.before.before.before.before.before.before in
     let turn = answered.before.before.before.before.before in
@@ -36,7 +36,7 @@ again c =
     )
 
 pub count_file_spec : {M : Type 1} → statement M
-count_file_spec = tie.close (tie.spec invariant-loop decreases-loop (λ c κs. search (files, counted_on, rules)) (λ c. search (files, counted_on, rules))
+count_file_spec = tie.close (tie.spec invariant-loop-k decreases-loop-k (λ c κs. search (files, counted_on, rules)) (λ c. search (files, counted_on, rules))
     (λ c κs. search (files, counted_on, rules)) (λ c κs. search (files, counted_on, rules)) (λ c. search (files, counted_on, rules))
     (λ c. search (files, counted_on, rules)) (λ c. search (files, counted_on, rules)) (λ c. search (files, counted_on, rules))
     (λ c. search (files, counted_on, rules)) refused

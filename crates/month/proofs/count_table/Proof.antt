@@ -7,14 +7,14 @@ use borrow.Author.Rules.{rules}
 use Rattle.month.proofs.count_table.Statement.{statement}
 use Rattle.month.proofs.count_table.Tie as tie
 
-abbrev invariant-loop : tie.invariant-loop
-invariant-loop s count entries published own places₀ amounts₀ tally₀ k₀ places amounts tally k = (k ≤ count) × (length places ≡ length places₀) × (length amounts ≡ length amounts₀) × Spacing s published own tally₀ places₀ amounts₀ k tally places amounts
+abbrev invariant-loop-k : tie.invariant-loop-k
+invariant-loop-k s count entries published own places₀ amounts₀ tally₀ k₀ places amounts tally k = (k ≤ count) × (length places ≡ length places₀) × (length amounts ≡ length amounts₀) × Spacing s published own tally₀ places₀ amounts₀ k tally places amounts
 
-abbrev decreases-loop : tie.decreases-loop
-decreases-loop s count entries published own places₀ amounts₀ tally₀ k₀ places amounts tally k = count - k
+abbrev decreases-loop-k : tie.decreases-loop-k
+decreases-loop-k s count entries published own places₀ amounts₀ tally₀ k₀ places amounts tally k = count - k
 
 pub count_table_spec : {M : Type 1} → statement M
-count_table_spec = tie.close (tie.spec invariant-loop decreases-loop (λ c. search (spacings, rules)) (λ c. search (spacings, rules)) (λ c. search (spacings, rules))
+count_table_spec = tie.close (tie.spec invariant-loop-k decreases-loop-k (λ c. search (spacings, rules)) (λ c. search (spacings, rules)) (λ c. search (spacings, rules))
     (λ c κs. search (spacings, rules)) (λ c. search (spacings, rules)) (λ c. search (spacings, rules)) (λ c. search (spacings, rules))
     (λ c. search (spacings, rules)) (λ c. search (spacings, rules)) (λ c κs. search (spacings, rules)) (λ c κs. search (spacings, rules))
     (λ c. search (spacings, rules)) (λ c. search (spacings, rules)) (λ c. search (spacings, rules)) (λ c. search (spacings, rules))

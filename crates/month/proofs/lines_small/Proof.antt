@@ -7,13 +7,13 @@ use borrow.Author.Rules.{rules}
 use Rattle.month.proofs.lines_small.Statement.{statement}
 use Rattle.month.proofs.lines_small.Tie as tie
 
-abbrev invariant-loop : tie.invariant-loop
-invariant-loop amounts lines i₀ i = (i ≤ lines) × Checking amounts lines i
+abbrev invariant-loop-i : tie.invariant-loop-i
+invariant-loop-i amounts lines i₀ i = (i ≤ lines) × Checking amounts lines i
 
-abbrev decreases-loop : tie.decreases-loop
-decreases-loop amounts lines i₀ i = lines - i
+abbrev decreases-loop-i : tie.decreases-loop-i
+decreases-loop-i amounts lines i₀ i = lines - i
 
 pub lines_small_spec : {M : Type 1} → statement M
-lines_small_spec = tie.close (tie.spec invariant-loop decreases-loop (λ c. search (checks, rules)) (λ c. search (checks, rules)) (λ c. search (checks, rules))
+lines_small_spec = tie.close (tie.spec invariant-loop-i decreases-loop-i (λ c. search (checks, rules)) (λ c. search (checks, rules)) (λ c. search (checks, rules))
     (λ c. search (checks, rules)) (λ c. search (checks, rules)) (λ c. search (checks, rules)) (λ c. search (checks, rules))
     (λ c. search (checks, rules)))
