@@ -1,5 +1,6 @@
 // Answers as one number, as host/surfbodkin.h says: the top byte 0, a refusal's number or 255, and 56 bits below.
 #![tactic(auto)]
+
 ghost use Rattle.std.specs.Prelude.{◌≡◌, ◌-◌};
 ghost use Rattle.grants.specs.Verdict.{check_of};
 ghost use Rattle.release.specs.Release.{answer_of as released_of};

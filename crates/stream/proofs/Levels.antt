@@ -106,7 +106,7 @@ module _ (ws : List ℕ) (f : Frame) (p q : ℕ) (d : ℕ) (b : List ℕ) (size 
   behind_levels (suc k) h (Due j n) z =
       let e : suc k - 1 ≡ k = omega arith in
       let P : List ℕ → Type 0 = λ w. levels w d b (suc k)
-          ≡ frame (slot_of j) n (key_of (part b (key_span (rule (slot_of f.slot)).extra f.from p) (key_span (rule (slot_of f.slot)).extra f.to q))) (d - f.around) (levels ws d b (suc k - 1)) in
+      ≡ frame (slot_of j) n (key_of (part b (key_span (rule (slot_of f.slot)).extra f.from p) (key_span (rule (slot_of f.slot)).extra f.to q))) (d - f.around) (levels ws d b (suc k - 1)) in
       subst P (sym (behind_words k j n)) (rw e (stored_levels ws k (frame_behind f j n p q) d b (omega arith)))
 
   pub behind_well : (n o : ℕ) → o ≤ gate_limits.containers → (x : Next) → Slotted x → WellFrames ws d n (o - 1) → ((k : ℕ) → o ≡ suc k → WellFrame d n k f) → p ≤ q → q ≤ n

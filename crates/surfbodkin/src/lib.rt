@@ -1,5 +1,6 @@
 // The C archive: each answer is one number, as host/surfbodkin.h says.
 #![tactic(auto)]
+
 ghost use Rattle.std.specs.Prelude.{◌≡◌, ◌/◌, length};
 ghost use Rattle.ari.specs.declared.Input.TheVariants.{Single, Message};
 ghost use Rattle.ari.specs.Reader.{read};

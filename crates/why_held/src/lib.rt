@@ -1,5 +1,6 @@
 // Why a message is held: the listed entry that release names, the chain of containers from the outermost down to it, and the reason.
 #![tactic(auto)]
+
 ghost use Rattle.std.specs.Prelude.{◌≡◌, [], ◌++◌, ◌*◌, ◌<◌, ◌≤◌, min, length, take, drop, get_or};
 ghost use Rattle.ari.specs.declared.Input.TheVariants as input;
 ghost use Rattle.ari.specs.Limits.{gate_limits, capped};

@@ -38,9 +38,9 @@ returns-then-k-count c =
     let a = c.args in
     let none = no_number c.requires a.grants.now a.published.now a.own.now a.subscriber c.entries.invariant.2 in
     elim c.entries-test.branch [
-      else-entries-test w ↦ absurd (omega arith)
-    | then-entries-test+in-To+then-not-n w ↦ search (none, w.compared-is ∙ w.settled-compared.ensures, rules)
-    | then-entries-test+in-To+else-not-n+then-grants-at-lt16 w ↦ no_row w.rows.invariant.3 w.if-grants-at-lt16.true w.saturating_add-compared.ensures w.compared-is
+      | else-entries-test w ↦ absurd (omega arith)
+      | then-entries-test+in-To+then-not-n w ↦ search (none, w.compared-is ∙ w.settled-compared.ensures, rules)
+      | then-entries-test+in-To+else-not-n+then-grants-at-lt16 w ↦ no_row w.rows.invariant.3 w.if-grants-at-lt16.true w.saturating_add-compared.ensures w.compared-is
     ]
 
 pub returns : goal.returns
@@ -48,7 +48,7 @@ returns c =
     let a = c.args in
     let e = c.entries.invariant in
     elim c.entries-test.branch [
-      else-entries-test w ↦ all_passed c.requires a.grants.now a.published.now a.own.now a.subscriber e.2 w.entries-test.false e.0 (rw (← w.compared-is) c.settled.ensures)
-    | then-entries-test+in-To+then-not-n w ↦ absurd (omega arith)
-    | then-entries-test+in-To+else-not-n+then-grants-at-lt16 w ↦ absurd (omega arith)
+      | else-entries-test w ↦ all_passed c.requires a.grants.now a.published.now a.own.now a.subscriber e.2 w.entries-test.false e.0 (rw (← w.compared-is) c.settled.ensures)
+      | then-entries-test+in-To+then-not-n w ↦ absurd (omega arith)
+      | then-entries-test+in-To+else-not-n+then-grants-at-lt16 w ↦ absurd (omega arith)
     ]
