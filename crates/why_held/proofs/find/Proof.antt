@@ -5,14 +5,14 @@ use Rattle.why_held.proofs.Finding.{Ahead, findings}
 use Rattle.why_held.proofs.find.Statement.{statement}
 use Rattle.why_held.proofs.find.Tie as tie
 
-abbrev invariant-loop : tie.invariant-loop
-invariant-loop s count entries published own entry left₀ k₀ left k = (k ≤ count) × Ahead s published own entry left k
+abbrev invariant-loop-k : tie.invariant-loop-k
+invariant-loop-k s count entries published own entry left₀ k₀ left k = (k ≤ count) × Ahead s published own entry left k
 
-abbrev decreases-loop : tie.decreases-loop
-decreases-loop s count entries published own entry left₀ k₀ left k = count - k
+abbrev decreases-loop-k : tie.decreases-loop-k
+decreases-loop-k s count entries published own entry left₀ k₀ left k = count - k
 
 pub find_spec : {M : Type 1} → statement M
-find_spec = tie.close (tie.spec invariant-loop decreases-loop (λ c. search (findings, rules)) (λ c. search rules) (λ c. search rules) (λ c κs. search rules)
+find_spec = tie.close (tie.spec invariant-loop-k decreases-loop-k (λ c. search (findings, rules)) (λ c. search rules) (λ c. search rules) (λ c κs. search rules)
     (λ c. search rules) (λ c. search rules) (λ c. search rules) (λ c. search (findings, rules)) (λ c. search rules) (λ c κs. search rules)
     (λ c κs. search rules) (λ c. search (findings, rules)) (λ c. search rules) (λ c. search rules) (λ c. search rules) (λ c. search (findings, rules))
     (λ c. search (findings, rules)))

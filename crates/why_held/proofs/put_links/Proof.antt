@@ -9,18 +9,18 @@ use Rattle.why_held.proofs.Writing.{link_bytes_lem, one_link_more}
 use Rattle.why_held.proofs.put_links.Statement.{statement}
 use Rattle.why_held.proofs.put_links.Tie as tie
 
-abbrev invariant-loop : tie.invariant-loop
-invariant-loop out₀ count links at₀ i₀ out at i = (i ≤ count) × (length out ≡ length out₀) × Put out₀ out 0 at (links_bytes (take i links))
+abbrev invariant-loop-i : tie.invariant-loop-i
+invariant-loop-i out₀ count links at₀ i₀ out at i = (i ≤ count) × (length out ≡ length out₀) × Put out₀ out 0 at (links_bytes (take i links))
 
-abbrev decreases-loop : tie.decreases-loop
-decreases-loop out₀ count links at₀ i₀ out at i = count - i
+abbrev decreases-loop-i : tie.decreases-loop-i
+decreases-loop-i out₀ count links at₀ i₀ out at i = count - i
 
-loop-again : tie.Need-loop-preserved invariant-loop decreases-loop
+loop-again : tie.Need-loop-i-preserved invariant-loop-i decreases-loop-i
 loop-again c =
     let e = c.before.before.before.before.before.before in
     let a = e.before.before.args in
     (search rules, search rules, one_link_more a.t2 {i = e.loop.i} _ e.loop.invariant.2 (search rules) c.before.before.put-link.ensures)
 
 pub put_links_spec : {M : Type 1} → statement M
-put_links_spec = tie.close (tie.spec invariant-loop decreases-loop (λ c. search (link_bytes_lem, rules)) (λ c. search rules) (λ c. search rules) (λ c κs. search rules)
+put_links_spec = tie.close (tie.spec invariant-loop-i decreases-loop-i (λ c. search (link_bytes_lem, rules)) (λ c. search rules) (λ c. search rules) (λ c κs. search rules)
     (λ c. search rules) (λ c. search rules) loop-again (λ c. search rules) (λ c. search (link_bytes_lem, rules)))
