@@ -73,11 +73,11 @@ module _ (ys : List Row) (s : ℕ) (l : List ℕ) (i : ℕ) where
     granted_by : ltb r k ≡ granted_at (grants ys) s l i
     granted_by = ap (λ (j : ℕ). ltb j k) ended_at ∙ ap (ltb (ended (rows_for l i (length ys)))) ek ∙ (looked_through (is_number l i)).0
 
-    pub not_granted : leb k r ≡ true → granted_at (grants ys) s l i ≡ false
-    not_granted h = sym granted_by ∙ le-ltb r k (leb-true k r h)
+    pub not_granted : k ≤ r → granted_at (grants ys) s l i ≡ false
+    not_granted h = sym granted_by ∙ le-ltb r k h
 
-    pub is_granted : leb k r ≡ false → granted_at (grants ys) s l i ≡ true
-    is_granted h = sym granted_by ∙ lt-ltb r k (leb-false k r h)
+    pub is_granted : r < k → granted_at (grants ys) s l i ≡ true
+    is_granted h = sym granted_by ∙ lt-ltb r k h
 
     pub costs : {d : ℕ} → d ≡ compared_by r k → d ≡ cost_at (grants ys) s l i
     costs e = e ∙ ap (λ (j : ℕ). compared_by j k) ended_at ∙ ap (compared_by (ended (rows_for l i (length ys)))) ek ∙ (looked_through (is_number l i)).1
