@@ -17,9 +17,7 @@ decreases-loop-i out₀ count links at₀ i₀ out at i = count - i
 
 loop-again : tie.Need-loop-i-preserved invariant-loop-i decreases-loop-i
 loop-again c =
-    let e = c.before.before.before.before.before.before in
-    let a = e.before.before.args in
-    (search rules, search rules, one_link_more a.t2 {i = e.loop.i} _ e.loop.invariant.2 (search rules) c.before.before.put-link.ensures)
+    (search rules, search rules, one_link_more c.args.links {i = c.loop-i.i} _ c.loop-i.invariant.2 (search rules) c.put_link-at.ensures)
 
 pub put_links_spec : {M : Type 1} → statement M
 put_links_spec = tie.close (tie.spec invariant-loop-i decreases-loop-i (λ c. search (link_bytes_lem, rules)) (λ c. search rules) (λ c. search rules) (λ c κs. search rules)

@@ -36,10 +36,10 @@ key n = get_or keys n []
 
 pub slot_meaning_spec : {M : Type 1} → statement M
 unfolding slot_meaning
-slot_meaning_spec = tie.close (tie.spec (λ c. arm meaning _ (key 0) _ refl c.match.keys1) (λ c. arm meaning _ (key 1) _ refl c.match.keys2)
-    (λ c. arm meaning _ (key 2) _ refl c.match.keys3) (λ c. arm meaning _ (key 3) _ refl c.match.keys4)
-    (λ c. arm meaning _ (key 4) _ refl c.match.keys5) (λ c. arm meaning _ (key 5) _ refl c.match.keys6)
-    (λ c. arm meaning _ (key 6) _ refl c.match.keys7) (λ c. arm meaning _ (key 7) _ refl c.match.keys8)
-    (λ c. arm meaning _ (key 8) _ refl c.match.keys9) (λ c. arm meaning _ (key 9) _ refl c.match.keys10)
-    (λ c. arm meaning _ (key 10) _ refl c.match.keys11) (λ c. arm meaning _ (key 11) _ refl c.match.keys12)
-    (λ c. arm meaning _ (key 12) _ refl c.match.keys13) (λ c. ap slot_meaning (no_slot _ (left_over 72 keys _ refl c.match.rest))))
+slot_meaning_spec = tie.close (tie.spec (λ c. arm meaning _ (key 0) _ refl c.in-0.is) (λ c. arm meaning _ (key 1) _ refl c.in-6.is)
+    (λ c. arm meaning _ (key 2) _ refl c.in-1.is) (λ c. arm meaning _ (key 3) _ refl c.in-4.is)
+    (λ c. arm meaning _ (key 4) _ refl c.in-2.is) (λ c. arm meaning _ (key 5) _ refl c.in-16.is)
+    (λ c. arm meaning _ (key 6) _ refl c.in-19.is) (λ c. arm meaning _ (key 7) _ refl c.in-20.is)
+    (λ c. arm meaning _ (key 8) _ refl c.in-24.is) (λ c. arm meaning _ (key 9) _ refl c.in-25.is)
+    (λ c. arm meaning _ (key 10) _ refl c.in-27.is) (λ c. arm meaning _ (key 11) _ refl c.in-28.is)
+    (λ c. arm meaning _ (key 12) _ refl c.in-29.is) (λ c. ap slot_meaning (no_slot _ (left_over 72 keys _ refl c.in_default.in_default-own.rest))))
