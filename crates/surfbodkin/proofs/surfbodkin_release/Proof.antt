@@ -13,10 +13,10 @@ use Rattle.surfbodkin.proofs.surfbodkin_release.Tie as tie
 returns : tie.Need-returns
 returns c =
     let a = c.before.before.before.before.before.before.before.before.args in
-    let is = c.before.before.before.release-message.ensures in (
-      c.release-code.ensures ∙ ap (λ (x : Released). release_code (answer_of x)) is
+    let is = c.before.before.before.release_message-a.ensures in (
+      c.release_code.ensures ∙ ap (λ (x : Released). release_code (answer_of x)) is
           ∙ ap release_code (bytes_without_count gate_limits a.message.now a.published.now a.own.now a.subscriber a.table.now),
-      c.before.put-compared.ensures ∙ ap (λ (x : Released). count_after x a.compared.now) is,
+      c.before.put_compared.ensures ∙ ap (λ (x : Released). count_after x a.compared.now) is,
     )
 
 pub surfbodkin_release_spec : {M : Type 1} → statement M
