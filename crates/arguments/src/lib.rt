@@ -6,7 +6,7 @@ ghost use Rattle.std.specs.Prelude.{◌≤◌, length};
 use std::env::{Env, FillError};
 
 // No argument; the one word that may stand there; or anything else.
-#[derive(Drop)]
+#[derive(Clone, Copy)]
 pub enum Choice {
     Plain,
     Word,

@@ -5,7 +5,7 @@ ghost use Rattle.std.specs.Prelude.{◌≡◌, ◌≤◌, min};
 ghost use Rattle.ari.specs.Limits.{gate_limits, capped};
 
 // What is read: a single ARI in binary form, or an AMP message.
-#[derive(Drop)]
+#[derive(Clone, Copy)]
 pub enum Input {
     Single,
     Message,
@@ -22,7 +22,7 @@ pub struct Limits {
 
 // Which target of an EXECSET or report of an RPTSET an item lies in: none, or its number, targets and reports counted together from 0 through
 // the whole input.
-#[derive(Drop)]
+#[derive(Clone, Copy)]
 pub enum Target {
     None,
     Number(u64),

@@ -489,7 +489,7 @@ pub fn is_below(a: &[u8], b: &[u8]) -> bool
 
 // What orders a key: its kind, its argument, and its string, which stands from a place on. What has no head of a number, a string or a container comes
 // before all keys.
-#[derive(Drop)]
+#[derive(Clone, Copy)]
 struct Key {
     is: bool,
     kind: u8,

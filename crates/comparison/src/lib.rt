@@ -15,7 +15,7 @@ use ari::{Input, Limits};
 use reader::Answer;
 
 // The entries written, and how many of them are not 'same'; or the first message's refusal, the second's, or 16 with the number of entries.
-#[derive(Drop)]
+#[derive(Clone, Copy)]
 pub enum Compared {
     Entries { different: usize, entries: usize },
     Refused { number: u8, place: usize },
@@ -44,7 +44,7 @@ struct Difference {
     second: u64,
 }
 
-#[derive(Drop)]
+#[derive(Clone, Copy)]
 struct Tally {
     different: usize,
     entries: usize,

@@ -27,7 +27,7 @@ const STRING: u64 = 2;
 const GREATEST: u64 = 9223372036854775807;
 
 // A text read into a room: no object reference, an ARI that the room is too short for, or a target of so many bytes and items.
-#[derive(Drop)]
+#[derive(Clone, Copy)]
 pub enum Taken {
     Nothing,
     TooLong,
@@ -35,7 +35,7 @@ pub enum Taken {
 }
 
 // Of texts the first that is no object reference, if there is one.
-#[derive(Drop)]
+#[derive(Clone, Copy)]
 pub enum Rest {
     Right,
     Wrong(usize),
@@ -43,7 +43,7 @@ pub enum Rest {
 
 // An order put into a room: the text of this number is no object reference; or the room is too short, and the texts from a place on, the first of which has
 // this number, were not looked at; or it has so many bytes and items.
-#[derive(Drop)]
+#[derive(Clone, Copy)]
 pub enum Built {
     Wrong(usize),
     Over { at: usize, number: usize },

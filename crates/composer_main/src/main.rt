@@ -3,7 +3,7 @@
 #![tactic(auto)]
 
 // What NONCE is: nothing that is taken for one, or a nonce; the bytes of a string stand in a room.
-#[derive(Drop)]
+#[derive(Clone, Copy)]
 enum Word {
     Wrong,
     Null,

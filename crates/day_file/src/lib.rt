@@ -31,21 +31,21 @@ pub const VERSION_2: Format = Format {
 };
 
 // The number of messages; or 20, 21 with an entry of the table, 22 with a message's number.
-#[derive(Drop)]
+#[derive(Clone, Copy)]
 pub enum Day {
     Messages(usize),
     Refused { number: u8, place: usize },
 }
 
 // Where a message stands in the file.
-#[derive(Drop)]
+#[derive(Clone, Copy)]
 pub enum Found {
     Part { from: usize, to: usize },
     Refused { number: u8, place: usize },
 }
 
 // A new file's messages and bytes.
-#[derive(Drop)]
+#[derive(Clone, Copy)]
 pub enum Added {
     File { messages: usize, bytes: usize },
     Refused { number: u8, place: usize },

@@ -20,7 +20,7 @@ use names::Names;
 use reader::Answer;
 
 // The entries written; or the file's refusal, 19 with the place of a line, 16 with the number of entries.
-#[derive(Drop)]
+#[derive(Clone, Copy)]
 pub enum Searched {
     Entries(usize),
     Refused { number: u8, place: usize },

@@ -13,7 +13,7 @@ const POSITIONS: usize = ari::ITEMS / 4;
 const ROOM: usize = POSITIONS * comparison::ENTRY;
 
 // So many items of a message are passed, with the targets and reports among them.
-#[derive(Drop)]
+#[derive(Clone, Copy)]
 struct Passed {
     items: usize,
     targets: item_records::Targets,

@@ -9,7 +9,7 @@ ghost use Rattle.gate_vectors.specs.Within.{Roomy};
 use ari::Input;
 
 // What a line asks for: the check or the items, of a single ARI or of a message; an ARI's text; a text's ARI.
-#[derive(Drop)]
+#[derive(Clone, Copy)]
 enum Call {
     Check { input: Input },
     Items { input: Input },
@@ -60,7 +60,7 @@ fn nibble(c: u8) -> u8
 }
 
 // What hex digits give: so many bytes at the start of a buffer.
-#[derive(Drop)]
+#[derive(Clone, Copy)]
 enum Bytes {
     Count(usize),
     Bad,
@@ -236,7 +236,7 @@ fn answer_line(text: &[u8], line: u64, buffer: &mut [u8], out: &mut [u8], at: us
 
 // Between two reads: the bytes at the buffer's start that are kept, the number of the line that they start, the place in the
 // output, whether that line has outgrown the buffer, whether more is to be read.
-#[derive(Drop)]
+#[derive(Clone, Copy)]
 struct State {
     kept: usize,
     line: u64,
@@ -247,7 +247,7 @@ struct State {
 
 // Behind the lines of a text that have an end: the place, the next line's number, the place in the output, whether that line has
 // outgrown the buffer.
-#[derive(Drop)]
+#[derive(Clone, Copy)]
 struct Lines {
     from: usize,
     line: u64,

@@ -7,7 +7,7 @@ ghost use Rattle.std.specs.Prelude.{◌≡◌, length};
 use std::io::Read;
 
 // So many rows stand in the room, or what was wrong has been said.
-#[derive(Drop)]
+#[derive(Clone, Copy)]
 pub enum Held {
     Rows(usize),
     Nothing,

@@ -1,5 +1,5 @@
 // The grant table as a lent slice of grant structs: what it grants, its check, and release.
-// A function over a slice of structs is proved by a walk by hand, so each is thin: what is decided is decided by functions on plain numbers.
+// The functions over the slice are thin: what is decided is decided by functions on plain numbers.
 #![tactic(auto)]
 
 ghost use Rattle.std.specs.Prelude.{◌≡◌, ◌*◌, ◌/◌, ◌<◌, ◌≤◌, length, take};

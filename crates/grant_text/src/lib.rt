@@ -56,7 +56,7 @@ fn behind(t: &[u8], from: usize, class: u8) -> usize
 }
 
 // What a line holds: nothing, a row (its namespace as two's complement), or something else.
-#[derive(Drop)]
+#[derive(Clone, Copy)]
 pub enum Line {
     Blank,
     Grant { subscriber: u64, namespace: u64 },
@@ -107,7 +107,7 @@ pub fn row(line: &[u8]) -> Line
 }
 
 // A line's content, and the place where the next line starts.
-#[derive(Drop)]
+#[derive(Clone, Copy)]
 struct Taken {
     content: Line,
     next: usize,
@@ -147,7 +147,7 @@ fn put_if(write: bool, out: &mut [u8], at: usize, subscriber: u64, namespace: u6
 }
 
 // What a text gives: so many rows; a line that is no row; a line whose row has no room. Lines are counted from 1.
-#[derive(Drop)]
+#[derive(Clone, Copy)]
 pub enum Table {
     Rows(usize),
     Bad(usize),

@@ -10,7 +10,7 @@ use std::fs::{File, Files};
 use std::io::{Error, Read};
 
 // So many bytes of the file stand in the room, or what was wrong has been said.
-#[derive(Drop)]
+#[derive(Clone, Copy)]
 pub enum Loaded {
     Bytes(usize),
     Nothing,
@@ -92,7 +92,7 @@ pub fn load(rt: &(impl Env + Files), k: usize, room: &mut [u8]) -> Loaded {
 }
 
 // So many bytes of two files stand each in its room; where something was wrong, and has been said, none do.
-#[derive(Drop)]
+#[derive(Clone, Copy)]
 pub struct Both {
     pub loaded: bool,
     pub first: usize,

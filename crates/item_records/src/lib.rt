@@ -10,7 +10,7 @@ use ari::{Input, Limits, Target};
 use reader::Answer;
 
 // What is no container: a number (Negative(n) is -1 - n), a simple value, a float's bits or a string's length: specs/Values.antt.
-#[derive(Drop)]
+#[derive(Clone, Copy)]
 pub enum Literal {
     Unsigned(u64),
     Negative(u64),
@@ -23,14 +23,14 @@ pub enum Literal {
 }
 
 // A container that is no reference, with its length.
-#[derive(Drop)]
+#[derive(Clone, Copy)]
 pub enum Container {
     Array(u64),
     Map(u64),
 }
 
 // An item's kind with that kind's own data. A reference is an array: its length is 1, 3 or 4.
-#[derive(Drop)]
+#[derive(Clone, Copy)]
 pub enum Kind {
     Literal(Literal),
     Container(Container),
@@ -38,7 +38,7 @@ pub enum Kind {
 }
 
 // An item: its first byte, the byte after its last, the open containers around it, the target or report that it lies in, its kind.
-#[derive(Drop)]
+#[derive(Clone, Copy)]
 pub struct Record {
     pub first: usize,
     pub after: usize,
@@ -48,7 +48,7 @@ pub struct Record {
 }
 
 // The targets and reports among an input's first items: how many, and where the last of them ends.
-#[derive(Drop)]
+#[derive(Clone, Copy)]
 pub struct Targets {
     pub count: u64,
     pub end: usize,
@@ -57,7 +57,7 @@ pub struct Targets {
 pub const NO_TARGETS: Targets = Targets { count: 0, end: 0 };
 
 // Item k with the item count; or the input's own refusal; or 17 with the count.
-#[derive(Drop)]
+#[derive(Clone, Copy)]
 pub enum Found {
     Item { record: Record, count: usize },
     Refused { number: u8, place: usize },

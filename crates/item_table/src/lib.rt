@@ -7,7 +7,7 @@ ghost use Rattle.item_table.specs.Entries.{packed, item_of, head_of, head_by, re
 ghost use Rattle.item_table.specs.References.{place_for, reserved_for, filled, latest, with_end, ended};
 
 // An item: its first byte, the byte after its last, the open containers around it, and the number of its slot.
-#[derive(Drop)]
+#[derive(Clone, Copy)]
 pub struct Item {
     pub first: usize,
     pub after: usize,

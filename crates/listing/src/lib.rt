@@ -39,7 +39,7 @@ pub enum Namespace {
 }
 
 // What a word of the item table stands for: no reference; or one, with its ends and its namespace.
-#[derive(Drop)]
+#[derive(Clone, Copy)]
 pub enum Reference {
     Nothing,
     To {

@@ -34,7 +34,7 @@ pub struct Tally {
 }
 
 // What was read is counted; or a message is refused, by its number.
-#[derive(Drop)]
+#[derive(Clone, Copy)]
 pub enum Walked {
     Counted(Tally),
     Refused(usize),

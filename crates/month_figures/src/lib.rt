@@ -9,14 +9,14 @@ ghost use Rattle.month_figures.specs.State.{words, word, Opens, Shows};
 ghost use Rattle.month_figures.specs.Code.{no_figures, sums_of, totals_of, line_at, lines_at};
 
 // A call was done; or 16, and in `month` the file's refusal, 19, 25 or 26.
-#[derive(Drop)]
+#[derive(Clone, Copy)]
 pub enum Month {
     Done,
     Refused { number: u8, place: usize },
 }
 
 // The figures were written, with so many lines; or 16 with the bytes needed.
-#[derive(Drop)]
+#[derive(Clone, Copy)]
 pub enum Shown {
     Lines(usize),
     Refused { number: u8, place: usize },

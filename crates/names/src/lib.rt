@@ -10,14 +10,14 @@ ghost use Rattle.names.specs.Names.{other_than, lines, is_number, formed, matche
 use listing::Namespace;
 
 // Whether two lists have well-formed lines only: 19 has the first byte of the first that is not.
-#[derive(Drop)]
+#[derive(Clone, Copy)]
 pub enum Names {
     Passes,
     Refused { place: u64 },
 }
 
 // The first byte of the first line that is not well-formed.
-#[derive(Drop)]
+#[derive(Clone, Copy)]
 pub enum Wrong {
     Nowhere,
     At(usize),

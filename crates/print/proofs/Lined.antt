@@ -65,3 +65,5 @@ module _ (s b : List ℕ) (from : ℕ) {xs : List ℕ} {at : ℕ} where
   entry_put g h e f i p = rw (le-leb (from + 24) (length b) (omega arith), ← e, ← f, ← i) p
 
 pub ruleset lined = (name_bad, name_past, name_cut, name_whole, space_name, space_relative, space_number, line_put, entry_none, entry_past, entry_put)
+
+pub ruleset spaces = (space_name, space_relative, space_number)

@@ -30,21 +30,21 @@ pub struct Span {
 }
 
 // What one head gives: it is taken, with the first byte behind its string; or the input is refused.
-#[derive(Drop)]
+#[derive(Clone, Copy)]
 pub enum Step {
     Taken { kind: u8, arg: u64, after: usize },
     Refused { number: u8, place: usize },
 }
 
 // The end of a string, if the input has it.
-#[derive(Drop)]
+#[derive(Clone, Copy)]
 pub enum End {
     At(usize),
     Short,
 }
 
 // What a walk over the items of a level gives: they are read up to a place, and so many items in all; or the input is refused.
-#[derive(Drop)]
+#[derive(Clone, Copy)]
 pub enum Walk {
     Read { next: usize, count: usize },
     Refused { number: u8, place: usize },
@@ -698,7 +698,7 @@ pub fn take(
 }
 
 // An input is accepted with its item count, or refused.
-#[derive(Drop)]
+#[derive(Clone, Copy)]
 pub enum Answer {
     Accepted(usize),
     Refused { number: u8, place: usize },

@@ -25,7 +25,7 @@ pub enum Released {
 }
 
 // What a row must hold to grant what a namespace stands for: a number. A name that has none or a relative one no row grants.
-#[derive(Drop)]
+#[derive(Clone, Copy)]
 struct RowSought {
     number: bool,
     word: u64,

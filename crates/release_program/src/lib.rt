@@ -9,7 +9,7 @@ use std::fs::Files;
 use why_held::{Link, Outcome, Why};
 
 // What is asked of the message.
-#[derive(Drop)]
+#[derive(Clone, Copy)]
 pub enum Asked {
     Release,
     Why,
@@ -156,7 +156,7 @@ fn put_reason<'a>(
 }
 
 // What stands before a link: members of the container around it, and targets and reports up to it.
-#[derive(Drop)]
+#[derive(Clone, Copy)]
 struct Before {
     members: u64,
     targets: u64,

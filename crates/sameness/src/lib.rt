@@ -15,7 +15,7 @@ use ari::{Input, Limits};
 use reader::Answer;
 
 // The same or not; or the first's refusal, or the second's.
-#[derive(Drop)]
+#[derive(Clone, Copy)]
 pub enum Sameness {
     Same,
     Different,

@@ -27,14 +27,14 @@ pub struct Frame {
 }
 
 // A fragment was fed: there is nothing to say yet, or the message is refused whatever follows.
-#[derive(Drop)]
+#[derive(Clone, Copy)]
 pub enum Fed {
     GoOn,
     Refused { number: u8, place: usize },
 }
 
 // Where the heads of a message that may go on end: a head or its string is not all there, and nothing can be said below so many bytes; or one is refused.
-#[derive(Drop)]
+#[derive(Clone, Copy)]
 pub enum Stop {
     Waits {
         at: usize,

@@ -19,14 +19,14 @@ use ari::{Input, Limits};
 use reader::Answer;
 
 // The items and bytes of the shorter message; or the message's own refusal, 27 with the count of targets and reports, or 16 with the bytes needed.
-#[derive(Drop)]
+#[derive(Clone, Copy)]
 pub enum Struck {
     Message { items: usize, bytes: usize },
     Refused { number: u8, place: usize },
 }
 
 // The target or report of a number: its item, the place of the inner array around it, its ends; or how many there are.
-#[derive(Drop)]
+#[derive(Clone, Copy)]
 enum Found {
     At {
         index: usize,

@@ -18,7 +18,7 @@ use ari::Limits;
 use text_write::Written;
 
 // Where a walk stands: in the text, and in the room that it puts bytes into.
-#[derive(Drop)]
+#[derive(Clone, Copy)]
 pub struct Pos {
     pub next: usize,
     pub end: usize,

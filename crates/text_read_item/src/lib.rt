@@ -13,7 +13,7 @@ ghost use Rattle.text.specs.Text.{names};
 ghost use Rattle.text_read_item.specs.Words.{first_of, NextTo, EscapeAt, str_by, Small, Bounded, Found, plain_at, word_at, text_word, bytes_word, key_of, key_in, comma_of, take_value, take_params, group_of, is_group, is_relative, size_before, take_spelled, Read};
 
 // A head that was read: its slot's spelling, its kind and argument, the text behind what it writes before its members, the place behind its bytes.
-#[derive(Drop)]
+#[derive(Clone, Copy)]
 pub struct Item {
     pub spelling: u8,
     pub kind: u8,
@@ -34,7 +34,7 @@ struct Word {
 }
 
 // An escape or a bare byte; its size is 0 if it is cut off.
-#[derive(Drop)]
+#[derive(Clone, Copy)]
 struct Escape {
     size: usize,
     byte: u8,

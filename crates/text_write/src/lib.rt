@@ -24,7 +24,7 @@ use ari::{Input, Limits};
 use reader::Answer;
 
 // A head with the place of its string; or nothing that may stand there.
-#[derive(Drop)]
+#[derive(Clone, Copy)]
 pub enum Item {
     Taken {
         kind: u8,
@@ -36,7 +36,7 @@ pub enum Item {
 }
 
 // Where a walk stands: in the input, and in the room that it writes into.
-#[derive(Drop)]
+#[derive(Clone, Copy)]
 pub struct Pos {
     pub next: usize,
     pub end: usize,
@@ -159,7 +159,7 @@ fn write_level(
 }
 
 // What the outermost ARI is: a set, which has no text form; a relative reference, which has no scheme.
-#[derive(Drop)]
+#[derive(Clone, Copy)]
 pub struct Outer {
     pub set: bool,
     pub relative: bool,
@@ -220,7 +220,7 @@ fn outermost(s: &[u8]) -> Outer
 }
 
 // The first float's head, if there is a float.
-#[derive(Drop)]
+#[derive(Clone, Copy)]
 pub enum Float {
     At(usize),
     Nowhere,
@@ -261,7 +261,7 @@ fn first_float(s: &[u8]) -> Float
 }
 
 // An ARI has a text form, and is a relative reference or not; or it is refused.
-#[derive(Drop)]
+#[derive(Clone, Copy)]
 pub enum Spelling {
     Has { relative: bool, count: usize },
     None { number: u8, place: usize },
@@ -319,7 +319,7 @@ fn put_whole(s: &[u8], containers: usize, relative: bool, out: &mut [u8]) -> usi
 }
 
 // So many bytes were written, of an ARI of so many items; or a refusal.
-#[derive(Drop)]
+#[derive(Clone, Copy)]
 pub enum Written {
     Bytes { length: usize, count: usize },
     Refused { number: u8, place: usize },

@@ -83,7 +83,7 @@ pub enum Outcome {
 }
 
 // The outcome; in front of the room its links, the outermost first. No chain has more than containers may be open.
-#[derive(Drop)]
+#[derive(Clone, Copy)]
 pub struct Why {
     pub outcome: Outcome,
     pub links: [Link; ari::CONTAINERS],
@@ -201,7 +201,7 @@ fn link_of(first: usize, after: usize, meaning: u64, before: usize) -> Link
 }
 
 // The links of a chain so far.
-#[derive(Drop)]
+#[derive(Clone, Copy)]
 struct Chain {
     links: [Link; ari::CONTAINERS],
     count: usize,
@@ -243,7 +243,7 @@ fn chain_to(
 }
 
 // A listed entry: its ends, and why it is not granted if it is not.
-#[derive(Drop)]
+#[derive(Clone, Copy)]
 struct Place {
     first: usize,
     after: usize,

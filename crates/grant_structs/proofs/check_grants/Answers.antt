@@ -25,8 +25,8 @@ returns c =
     let ys = c.args.t.now in
     let i = c.rows.i in
     elim c.rows-test.branch [
-      else-rows-test w ↦ c.verdict.ensures ∙ all_seen ys i (omega arith) c.rows.invariant.2
-    | then-rows-test+then-first_row-i w ↦
-        let tells = row_tells (clash (grant_of (row_at ys i))) ys i (omega arith) w.first_row.ensures in
-        c.verdict.ensures ∙ paired ys i w.rows-test.true c.rows.invariant.2 (sym tells ∙ lt-ltb w.first_row.result i w.if-first_row-i.true)
+      | else-rows-test w ↦ c.verdict.ensures ∙ all_seen ys i (omega arith) c.rows.invariant.2
+      | then-rows-test+then-first_row-i w ↦
+          let tells = row_tells (clash (grant_of (row_at ys i))) ys i (omega arith) w.first_row.ensures in
+          c.verdict.ensures ∙ paired ys i w.rows-test.true c.rows.invariant.2 (sym tells ∙ lt-ltb w.first_row.result i w.if-first_row-i.true)
     ]

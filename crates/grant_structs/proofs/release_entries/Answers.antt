@@ -28,10 +28,10 @@ returns c =
     let ok = granted_at (grants ys) s l in
     let cost = cost_at (grants ys) s l in
     elim c.entries-test.branch [
-      else-entries-test w ↦ c.judged.ensures ∙ rw w.compared-is (all_passed ok cost c.args.n c.entries.invariant.1 (omega arith))
-    | then-entries-test+then-row-rows w ↦
-        let k = w.rows_for-rows.ensures in
-        let g = w.wanted.ensures in
-        let r = w.first_row-row.ensures in
-        c.judged.ensures ∙ rw w.compared-is (held ok cost c.args.n c.entries.invariant.1 w.entries-test.true (costs ys s l i k g r w.compared_rows.ensures) w.saturating_add-compared.ensures (not_granted ys s l i k g r w.if-row-rows.true))
+      | else-entries-test w ↦ c.judged.ensures ∙ rw w.compared-is (all_passed ok cost c.args.n c.entries.invariant.1 (omega arith))
+      | then-entries-test+then-row-rows w ↦
+          let k = w.rows_for-rows.ensures in
+          let g = w.wanted.ensures in
+          let r = w.first_row-row.ensures in
+          c.judged.ensures ∙ rw w.compared-is (held ok cost c.args.n c.entries.invariant.1 w.entries-test.true (costs ys s l i k g r w.compared_rows.ensures) w.saturating_add-compared.ensures (not_granted ys s l i k g r w.if-row-rows.true))
     ]
