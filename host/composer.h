@@ -2,7 +2,7 @@
    are given as texts. It stands above the gate (surfbodkin.h): what it reads, judges and
    hands over goes by the gate's own promises, and a host needs nothing else of the gate.
 
-   To use it, link with libcomposer.a (x86-64), which host/prove staticlib composer builds
+   To use it, link with libcomposer.a (x86-64-v2), which host/prove staticlib composer builds
    as target/staticlib/libcomposer.a:
 
      cc -std=c11 -o order order.c libcomposer.a

@@ -3,7 +3,7 @@
    them and why not, takes a target out of it, compares two messages, keeps the messages
    of a day in one file, and counts such files for a month's bill.
 
-   To use it, link with libsurfbodkin.a (x86-64), which host/prove staticlib surfbodkin
+   To use it, link with libsurfbodkin.a (x86-64-v2), which host/prove staticlib surfbodkin
    builds as target/staticlib/libsurfbodkin.a:
 
      cc -std=c11 -o relay relay.c day_file.c libsurfbodkin.a
