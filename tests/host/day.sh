@@ -479,6 +479,7 @@ day_by_script() {
   gate_day 2 check none
   gate_day 2
   [ -z "$(find "$root/target/host/gate_day" -newer before)" ] || fail 'gate day is built again for nothing'
+  rm -f linked # rt ci takes no tree with a link in it
   printf 'host: day by the script gate: as it should be\n'
 }
 
