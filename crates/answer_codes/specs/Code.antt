@@ -1,26 +1,17 @@
 -- Answers as one number: R114 to R119; of the day file, R154 to R164; of a name, R142; of two ARIs, R188; of two messages, R200; of a struck message, R207; of a month, R216. Interface: all of it.
-use Rattle.std.specs.Prelude.{ℕ, ◌+◌, ◌-◌, ◌*◌, ◌^◌, min, ◌≡◌, List}
-use Rattle.buffer.specs.declared.Number.{Number}
-use Rattle.buffer.specs.declared.Number.TheVariants.{Value, Bad}
+use Rattle.std.specs.declared.option.Option.{Option}
+use Rattle.std.specs.declared.option.Option.TheVariants.{Some, None}
+use Rattle.std.specs.Prelude.{ℕ, Bool, cond, ◌+◌, ◌-◌, ◌*◌, ◌^◌, min, ◌≡◌, List}
+use Rattle.std.specs.declared.result.Result.{Result}
+use Rattle.std.specs.declared.result.Result.TheVariants.{Ok, Err}
 use Rattle.ari.specs.declared.Limits.{Limits}
-use Rattle.reader.specs.declared.Answer.{Answer}
-use Rattle.reader.specs.declared.Answer.TheVariants.{Accepted, Refused}
+use Rattle.ari.specs.declared.Refusal.{Refusal}
+use Rattle.ari.specs.Refusals.{number_of}
 use Rattle.grants.specs.Grants.{Check, passes}
 use Rattle.release.specs.Release.{Release, yes, no}
 use Rattle.listing.specs.declared.Listed.{Listed}
-use Rattle.listing.specs.declared.Listed.TheVariants as listed
-use Rattle.sameness.specs.declared.Sameness.{Sameness}
-use Rattle.sameness.specs.declared.Sameness.TheVariants as sameness
 use Rattle.comparison.specs.declared.Compared.{Compared}
-use Rattle.comparison.specs.declared.Compared.TheVariants as compared
 use Rattle.strike.specs.declared.Struck.{Struck}
-use Rattle.strike.specs.declared.Struck.TheVariants as strikes
-use Rattle.month_figures.specs.declared.Month.{Month}
-use Rattle.month_figures.specs.declared.Month.TheVariants.{Done}
-use Rattle.month_figures.specs.declared.Month.TheVariants as month
-use Rattle.month_figures.specs.declared.Shown.{Shown}
-use Rattle.month_figures.specs.declared.Shown.TheVariants.{Lines}
-use Rattle.month_figures.specs.declared.Shown.TheVariants as shown
 use Rattle.month_figures.specs.Figures.{Source}
 use Rattle.month_figures.specs.State.{Shows}
 use Rattle.month_figures.specs.State as months
@@ -28,45 +19,37 @@ use Rattle.month.specs.Adding.{Adds}
 use Rattle.names.specs.declared.Names.{Names}
 use Rattle.names.specs.declared.Names.TheVariants.{Passes}
 use Rattle.names.specs.declared.Names.TheVariants as names
-use Rattle.day_file.specs.declared.Day.{Day}
-use Rattle.day_file.specs.declared.Day.TheVariants.{Messages}
-use Rattle.day_file.specs.declared.Day.TheVariants as day
 use Rattle.day_file.specs.declared.Found.{Found}
-use Rattle.day_file.specs.declared.Found.TheVariants as found
-use Rattle.day_search.specs.declared.Searched.{Searched}
-use Rattle.day_search.specs.declared.Searched.TheVariants as searched
 use Rattle.day_file.specs.declared.Added.{Added}
-use Rattle.day_file.specs.declared.Added.TheVariants as added
-use Rattle.stream.specs.declared.Fed.{Fed}
-use Rattle.stream.specs.declared.Fed.TheVariants.{GoOn}
-use Rattle.stream.specs.declared.Fed.TheVariants as fed
-use Rattle.stream.specs.Calls.{Opens, Feeds, Closes}
+use Rattle.stream.specs.Calls.{Fed, Opens, Feeds, Closes}
 use Rattle.why_held.specs.declared.Outcome.{Outcome}
 use Rattle.why_held.specs.declared.Outcome.TheVariants as outcomes
 use Rattle.text_write.specs.declared.Written.{Written}
-use Rattle.text_write.specs.declared.Written.TheVariants as written
 
 -- the number in the top byte, and 56 bits; what they have no room for is the greatest that they hold
 abbrev pub refusal_code : ℕ → ℕ → ℕ
 refusal_code r low = r * 2 ^ 56 + min low (2 ^ 56 - 1)
 
+abbrev pub code_of : Refusal → ℕ
+code_of e = refusal_code (number_of e.fault) e.place
+
 -- an item count in bits 32 to 55, and 32 bits below it. No limits of the gate allow more than these hold
 abbrev pub count_code : ℕ → ℕ → ℕ
 count_code n low = min n (2 ^ 24 - 1) * 2 ^ 32 + min low (2 ^ 32 - 1)
 
-abbrev pub check_code : Answer → ℕ
-check_code (Refused r p) = refusal_code r p
-check_code (Accepted n) = count_code n 0
+abbrev pub check_code : Result ℕ Refusal → ℕ
+check_code (Err e) = code_of e
+check_code (Ok n) = count_code n 0
 
 -- the item count and the entries listed
-abbrev pub list_code : Listed → ℕ
-list_code (listed.Refused r p) = refusal_code r p
-list_code (listed.Entries k n) = count_code n k
+abbrev pub list_code : Result Listed Refusal → ℕ
+list_code (Err e) = code_of e
+list_code (Ok l) = count_code l.count l.listed
 
 -- 0 to go on with the next fragment
 abbrev pub fed_code : Fed → ℕ
-fed_code GoOn = 0
-fed_code (fed.Refused r p) = refusal_code r p
+fed_code (Ok u) = 0
+fed_code (Err e) = code_of e
 
 -- the numbers of the answers that `stream` promises
 pub record OpensAs (ws : List ℕ) (r : ℕ) (ws' : List ℕ) : Type 0 where
@@ -80,20 +63,19 @@ pub record FeedsAs (m : Limits) (ws room f : List ℕ) (r : ℕ) (ws' room' : Li
   pub feeds : Feeds m ws room f answer ws' room'
 
 pub record ClosesAs (m : Limits) (ws room out : List ℕ) (r : ℕ) (ws' out' : List ℕ) : Type 0 where
-  pub answer : Listed
+  pub answer : Result Listed Refusal
   pub code : r ≡ list_code answer
   pub closes : Closes m ws room out answer ws' out'
 
 -- R188: 1 if two ARIs are the same
-abbrev pub same_code : Sameness → ℕ
-same_code sameness.Same = count_code 0 1
-same_code sameness.Different = count_code 0 0
-same_code (sameness.Refused r p) = refusal_code r p
+abbrev pub same_code : Result Bool Refusal → ℕ
+same_code (Ok is) = count_code 0 (cond is 1 0)
+same_code (Err e) = code_of e
 
 -- R200: the entries that are not 'same', and all entries
-abbrev pub compare_code : Compared → ℕ
-compare_code (compared.Entries d k) = count_code d k
-compare_code (compared.Refused r p) = refusal_code r p
+abbrev pub compare_code : Result Compared Refusal → ℕ
+compare_code (Ok x) = count_code x.different x.entries
+compare_code (Err e) = refusal_code (number_of e.fault) e.place
 
 -- 19 with the first byte of the first wrong line
 abbrev pub names_code : Names → ℕ
@@ -101,13 +83,13 @@ names_code Passes = 0
 names_code (names.Refused p) = refusal_code 19 p
 
 -- R142: 1 if a name stands for a number; a lent number is then that number, and as it was if not
-abbrev pub number_code : Number → ℕ
-number_code (Value w) = count_code 0 1
-number_code Bad = 0
+abbrev pub number_code : Option ℕ → ℕ
+number_code (Some w) = count_code 0 1
+number_code None = 0
 
-abbrev pub number_after : Number → ℕ → ℕ
-number_after (Value w) was = w
-number_after Bad was = was
+abbrev pub number_after : Option ℕ → ℕ → ℕ
+number_after (Some w) was = w
+number_after None was = was
 
 abbrev pub table_code : Check → ℕ
 table_code passes = 0
@@ -123,62 +105,62 @@ release_code (Release.refused r p) = refusal_code r p
 unfoldable pub held_code : ℕ → ℕ → ℕ → ℕ
 held_code entry reason links = 255 * 2 ^ 56 + min reason 255 * 2 ^ 48 + min links 65535 * 2 ^ 32 + min entry 4294967295
 
-abbrev pub why_code : Outcome → ℕ
-why_code outcomes.Released = 0
-why_code (outcomes.Held k r n) = held_code k r n
-why_code (outcomes.Refused r p) = refusal_code r p
+abbrev pub why_code : Result Outcome Refusal → ℕ
+why_code (Ok outcomes.Released) = 0
+why_code (Ok (outcomes.Held k r n)) = held_code k r n
+why_code (Err e) = code_of e
 
 -- the item count and the bytes written
-abbrev pub text_code : Written → ℕ
-text_code (written.Refused r p) = refusal_code r p
-text_code (written.Bytes k n) = count_code n k
+abbrev pub text_code : Result Written Refusal → ℕ
+text_code (Err e) = code_of e
+text_code (Ok w) = count_code w.count w.length
 
 -- R156 to R158: the number of messages
-abbrev pub day_code : Day → ℕ
-day_code (day.Refused r p) = refusal_code r p
-day_code (Messages n) = count_code 0 n
+abbrev pub day_code : Result ℕ Refusal → ℕ
+day_code (Err e) = code_of e
+day_code (Ok n) = count_code 0 n
 
 -- R159: the message's bytes and its first byte
-abbrev pub find_code : Found → ℕ
-find_code (found.Refused r p) = refusal_code r p
-find_code (found.Part from to) = count_code (to - from) from
+abbrev pub find_code : Result Found Refusal → ℕ
+find_code (Err e) = code_of e
+find_code (Ok x) = count_code (x.to - x.from) x.from
 
 -- R164: the entries found
-abbrev pub search_code : Searched → ℕ
-search_code (searched.Refused r p) = refusal_code r p
-search_code (searched.Entries k) = count_code 0 k
+abbrev pub search_code : Result ℕ Refusal → ℕ
+search_code (Err e) = code_of e
+search_code (Ok k) = count_code 0 k
 
 -- R160: the new file's messages and bytes
-abbrev pub add_code : Added → ℕ
-add_code (added.Refused r p) = refusal_code r p
-add_code (added.File n k) = count_code n k
+abbrev pub add_code : Result Added Refusal → ℕ
+add_code (Err e) = code_of e
+add_code (Ok a) = count_code a.messages a.bytes
 
 -- R207: the shorter message's items and bytes
-abbrev pub strike_code : Struck → ℕ
-strike_code (strikes.Refused r p) = refusal_code r p
-strike_code (strikes.Message n k) = count_code n k
+abbrev pub strike_code : Result Struck Refusal → ℕ
+strike_code (Ok x) = count_code x.items x.bytes
+strike_code (Err e) = code_of e
 
 -- R216: a month's calls: 0 where one is done; the namespaces that were written
-abbrev pub month_code : Month → ℕ
-month_code Done = 0
-month_code (month.Refused r p) = refusal_code r p
+abbrev pub month_code : Result (Unit {0}) Refusal → ℕ
+month_code (Ok u) = 0
+month_code (Err e) = code_of e
 
-abbrev pub shown_code : Shown → ℕ
-shown_code (Lines n) = count_code 0 n
-shown_code (shown.Refused r p) = refusal_code r p
+abbrev pub shown_code : Result ℕ Refusal → ℕ
+shown_code (Ok n) = count_code 0 n
+shown_code (Err e) = code_of e
 
 -- the numbers of the answers that `month_figures` and `month` promise
 pub record MonthOpensAs (ws : List ℕ) (r : ℕ) (ws' : List ℕ) : Type 0 where
-  pub answer : Month
+  pub answer : Result (Unit {0}) Refusal
   pub code : r ≡ month_code answer
   pub opens : months.Opens ws answer ws'
 
 pub record AddsAs (m : Limits) (ws : List ℕ) (s : Source) (r : ℕ) (ws' : List ℕ) : Type 0 where
-  pub answer : Month
+  pub answer : Result (Unit {0}) Refusal
   pub code : r ≡ month_code answer
   pub adds : Adds m ws s answer ws'
 
 pub record ShowsAs (ws out : List ℕ) (r : ℕ) (out' : List ℕ) : Type 0 where
-  pub answer : Shown
+  pub answer : Result ℕ Refusal
   pub code : r ≡ shown_code answer
   pub shows : Shows ws out answer out'

@@ -6,7 +6,7 @@ ghost use Rattle.std.specs.Prelude.{◌≤◌, length};
 use std::env::{Env, FillError};
 
 // No argument; the one word that may stand there; or anything else.
-#[derive(Clone, Copy)]
+#[derive(Clone, Copy, PartialEq, Eq)]
 pub enum Choice {
     Plain,
     Word,
@@ -15,21 +15,14 @@ pub enum Choice {
 
 // Whether there is an argument k. Its bytes need no room for that.
 pub fn is_given(rt: &impl Env, k: usize) -> bool {
-    match rt.arg(k, &mut []) {
-        Ok(_) => true,
-        Err(FillError::TooLong) => true,
-        Err(FillError::NotPresent) => false,
-    }
+    !matches!(rt.arg(k, &mut []), Err(FillError::NotPresent))
 }
 
 // Argument k at the start of a buffer: so many bytes, and none where it is missing or has no room.
 pub fn put(rt: &impl Env, k: usize, word: &mut [u8]) -> usize
     ensures { result ≤ length word.new }
 {
-    match rt.arg(k, word) {
-        Ok(n) => n,
-        Err(_) => 0,
-    }
+    rt.arg(k, word).unwrap_or(0)
 }
 
 // Room for a word: more than any that is asked for has, so that no longer one passes for it.
@@ -45,17 +38,18 @@ pub fn asked(rt: &impl Env, word: &[u8]) -> Choice {
     }
     let mut given = [0u8; WORD];
     let n = put(rt, 1, &mut given);
-    if check::same(&given[..n], word) {
-        return Choice::Word;
+    if &given[..n] == word {
+        Choice::Word
+    } else {
+        Choice::Unknown
     }
-    Choice::Unknown
 }
 
 // Room for a number: more than any has, so that no longer word passes for one.
 const NUMBER: usize = 32;
 
 // Argument k, in plain decimal.
-pub fn number(rt: &impl Env, k: usize) -> buffer::Number {
+pub fn number(rt: &impl Env, k: usize) -> Option<u64> {
     let mut word = [0u8; NUMBER];
     let n = put(rt, k, &mut word);
     buffer::unsigned(&word[..n])

@@ -1,17 +1,16 @@
 -- Items that are due, without limits (Fit): Due is Fit and depth.
 use Prim.Native.Nat.{ℕ, suc, pred, ◌≤◌}
 use mathlib.Core.Path.{◌≡◌, refl}
-use mathlib.Core.Bool.{Bool, true, false, not, ◌&&◌, cond, true≢false}
+use mathlib.Core.Bool.{Bool, true, false, ◌&&◌, cond, true≢false}
 use mathlib.Core.List.{List, []}
 use native.Mathlib.Omega.{arith}
-use lib.ListN.{length}
 use lib.Dec.{eqb}
 use borrow.Author.Tests.{eqb-false, ne_eqb, eq-eqb, le-leb, lt-leb}
-use Rattle.cbor.specs.Head.{text, array, map, Lead, Sound, string_size, is_container}
+use Rattle.cbor.specs.Head.{array, map, Lead, string_size, is_container}
 use Rattle.buffer.proofs.ByteLaws.{within_true}
-use Rattle.ari.specs.Table.{message, Slot, ari, Level, done, due, rule, fits, members}
+use Rattle.ari.specs.Table.{message, Slot, ari, Level, done, due, rule, members}
 use Rattle.cbor.specs.Head.{key_bytes}
-use Rattle.ari.specs.Reader.{Dues, end, sets, frame, push, wrong_version, not_greater, is_empty, key_after, behind}
+use Rattle.ari.specs.Reader.{Dues, end, sets, frame, push, key_after}
 use Rattle.ari.specs.Items.{Items, none, item, depth}
 use Rattle.ari.specs.Due.{Good, Due}
 

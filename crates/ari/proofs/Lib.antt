@@ -27,3 +27,4 @@ pub mod ListingExample
 pub mod Named
 pub mod Well
 pub mod SignedLaws
+pub mod Refusals

@@ -1,19 +1,18 @@
 -- The targets and reports of a message (R168) are those that the rules make, in their order, each with its first byte: `ruled_targets_lem`. The idea: along a
 -- derivation every other item stands at a slot that is none of theirs, and inside them no such slot is due (`Targets`).
-use Prim.Native.Nat.{ℕ, suc, ◌+◌, ◌-◌}
+use Prim.Native.Nat.{ℕ, suc}
 use mathlib.Core.Path.{◌≡◌, refl, sym, ◌∙◌, ap, subst}
 use mathlib.Core.Bool.{Bool, true, false, cond, true≢false}
 use mathlib.Core.List.{List, [], ◌∷◌, ◌++◌, map, map-append, append-nil}
-use lib.ListN.{length}
 use Rattle.cbor.specs.Head.{array, Lead, is_container}
-use Rattle.ari.specs.Table.{Place, message, inside, Slot, version, ari, type, value, nonce, set_time, target, report, Row, Level, done, due, many, rule, types, members}
+use Rattle.ari.specs.Table.{Place, message, inside, Slot, version, ari, type, value, nonce, set_time, target, report, Row, Level, done, due, many, rule, members}
 use Rattle.ari.specs.declared.Input.TheVariants.{Message}
-use Rattle.ari.specs.Items.{Items, none, item, encode, Spot, inside_at, spot_at, spots, spots_of}
+use Rattle.ari.specs.Items.{Items, none, item, Spot, inside_at, spots, spots_of}
 use Rattle.ari.specs.Rules.{Plain, Holds, Ari, literal, namespace_ref, typed, object_ref, Value, simple_value, ac, am, execset, rptset, Targets, no_targets, Reports, no_reports, reports, Sets, no_more, set, Stands, a_message}
 use Rattle.ari.specs.Rules as rules
 use Rattle.ari.specs.References.{Placed, placed, past}
 use Rattle.ari.specs.Targets.{is_target, targets}
-use Rattle.ari.proofs.Due.{Fit, member_level, members_held}
+use Rattle.ari.proofs.Due.{Fit, members_held}
 use Rattle.ari.proofs.Demand.{stands_fit}
 use Rattle.ari.proofs.RulesFit.{less_one, less_two}
 use Rattle.ari.proofs.Referring.{place_of}

@@ -11,7 +11,7 @@ use Rattle.cbor.specs.Byte.{below}
 use Rattle.cbor.specs.Head.{array, Lead, is_container}
 use Rattle.buffer.proofs.ByteLaws.{or_right, within_true, within_is}
 use Rattle.cbor.proofs.HeadLaws.{sound_64}
-use Rattle.ari.specs.Table.{Place, alone, message, inside, param, anywhere, Slot, ari, type, value, namespace, object_namespace, object_type, object_id, params, key, entry, nonce, set_time, target, report, report_time, report_source, Row, row, max64, arrays, literals, ari_rows, types, ExtraTest, none, one, rising, filled, many, reference_level, rule, fits, members}
+use Rattle.ari.specs.Table.{Place, alone, message, inside, param, anywhere, Slot, ari, type, value, namespace, object_namespace, object_type, object_id, params, key, entry, nonce, set_time, target, report, report_time, report_source, Row, row, max64, arrays, literals, ari_rows, types, ExtraTest, none, one, many, reference_level, rule, fits, members}
 use Rattle.cbor.specs.Head.{key_bytes}
 use Rattle.ari.specs.Reader.{wrong_version, not_greater, is_empty}
 use Rattle.ari.specs.Items.{Items, item}

@@ -1,21 +1,21 @@
 -- The shortened form of an accepted input: accepted, with the same count, no longer, and its own shortened form.
-use Prim.Native.Nat.{ℕ, suc, ◌+◌, ◌≤◌, ◌<◌, ◌^◌, max}
-use mathlib.Core.Path.{◌≡◌, refl, sym, ◌∙◌, ap}
-use mathlib.Core.Bool.{Bool, true, false, not, ◌&&◌, cond}
-use mathlib.Core.List.{List, [], ◌∷◌, ◌++◌}
+use Prim.Native.Nat.{ℕ, ◌≤◌}
+use mathlib.Core.Path.{◌≡◌, refl, ◌∙◌}
+use mathlib.Core.Bool.{Bool, true, false, cond}
+use mathlib.Core.List.{List, []}
 use native.Mathlib.Omega.{arith}
 use lib.ListN.{length, length-append}
-use lib.Dec.{leb, eqb}
-use borrow.Author.Tests.{le-leb, lt-leb, leb-true, leb-false}
-use Rattle.cbor.specs.Head.{map, Lead, Sound, counted, a_simple, a_float, Carries, shortest, width, size, lead_of, lead_bytes, short_bytes, key_bytes, string_size, is_container}
+use lib.Dec.{leb}
+use borrow.Author.Tests.{leb-true}
+use Rattle.cbor.specs.Head.{map, Lead, Sound, counted, a_simple, a_float, size, lead_of, string_size}
 use Rattle.cbor.proofs.HeadLaws.{length_lead, shortest_carries, shortest_least, sound_64}
-use Rattle.ari.specs.Table.{message, Slot, ari, Level, done, due, rule, fits, members}
+use Rattle.ari.specs.Table.{message, Slot, ari, Level, done, due, rule, members}
 use Rattle.ari.specs.declared.Limits.{Limits}
 use Rattle.ari.specs.declared.Input.{Input}
-use Rattle.ari.specs.Reader.{first_slot, key_after}
+use Rattle.ari.specs.Reader.{first_slot}
 use Rattle.ari.specs.Items.{Items, none, item, encode, heads, depth, open_ended}
 use Rattle.ari.specs.Due.{Good}
-use Rattle.ari.specs.Rules.{Is, Stands}
+use Rattle.ari.specs.Rules.{Is}
 use Rattle.ari.specs.Shortened.{short_lead, shortened}
 use Rattle.ari.proofs.Due.{Fit, prev_after}
 use Rattle.ari.proofs.Demand.{stands_fit, fit_stands}

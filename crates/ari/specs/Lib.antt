@@ -12,3 +12,4 @@ pub mod Same
 pub mod References
 pub mod Due
 pub mod Signed
+pub mod Refusals

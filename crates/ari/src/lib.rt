@@ -2,6 +2,7 @@
 #![tactic(auto)]
 
 ghost use Rattle.std.specs.Prelude.{◌≡◌, ◌≤◌, min};
+ghost use Rattle.ari.specs.Refusals.{number_of, fault_of, refusal_of};
 ghost use Rattle.ari.specs.Limits.{gate_limits, capped};
 
 // What is read: a single ARI in binary form, or an AMP message.
@@ -18,6 +19,108 @@ pub struct Limits {
     pub items: usize,
     pub containers: usize,
     pub text: usize,
+}
+
+// Why an input is refused. Each has the number of the rules, which C and the programs give.
+#[derive(Clone, Copy, PartialEq, Eq)]
+pub enum Fault {
+    TooLong = 1,
+    Truncated = 2,
+    UnusedHead = 3,
+    LongFloat = 4,
+    TooManyItems = 5,
+    TooDeep = 6,
+    Misplaced = 7,
+    WrongVersion = 8,
+    StringCut = 9,
+    Misspelt = 10,
+    KeyOrder = 11,
+    NoParameters = 12,
+    BytesBehind = 13,
+    NoText = 14,
+    NoAri = 15,
+    NoRoom = 16,
+    NoSuchNumber = 17,
+    Clash = 18,
+    BadLine = 19,
+    BadTrailer = 20,
+    BadOffset = 21,
+    BadMessage = 22,
+    DayFull = 23,
+    BadText = 24,
+    MonthFull = 25,
+    TotalTooLarge = 26,
+    NoSuchTarget = 27,
+}
+
+impl Fault {
+    pub fn number(self) -> u8
+        ensures { result ≡ number_of self }
+    {
+        self as u8
+    }
+}
+
+// An input is refused: why, and where, or how many.
+#[derive(Clone, Copy, PartialEq, Eq)]
+pub struct Refusal {
+    pub fault: Fault,
+    pub place: usize,
+}
+
+// The faults in the order of their numbers.
+const FAULTS: [Fault; 27] = [
+    Fault::TooLong,
+    Fault::Truncated,
+    Fault::UnusedHead,
+    Fault::LongFloat,
+    Fault::TooManyItems,
+    Fault::TooDeep,
+    Fault::Misplaced,
+    Fault::WrongVersion,
+    Fault::StringCut,
+    Fault::Misspelt,
+    Fault::KeyOrder,
+    Fault::NoParameters,
+    Fault::BytesBehind,
+    Fault::NoText,
+    Fault::NoAri,
+    Fault::NoRoom,
+    Fault::NoSuchNumber,
+    Fault::Clash,
+    Fault::BadLine,
+    Fault::BadTrailer,
+    Fault::BadOffset,
+    Fault::BadMessage,
+    Fault::DayFull,
+    Fault::BadText,
+    Fault::MonthFull,
+    Fault::TotalTooLarge,
+    Fault::NoSuchTarget,
+];
+
+// The fault of a number that the rules have.
+fn fault_by(number: u8) -> Fault
+    ensures { result ≡ fault_of number }
+{
+    if number == 0 {
+        return Fault::TooLong;
+    }
+    let k = (number - 1) as usize;
+    if 27 <= k {
+        return Fault::NoSuchTarget;
+    }
+    FAULTS[k]
+}
+
+// The refusal of a number that the rules have.
+pub fn refusal_by(number: u8, place: usize) -> Refusal
+    ensures { result ≡ refusal_of number place }
+{
+    Refusal {
+        fault: fault_by(number),
+        place,
+    }
 }
 
 // Which target of an EXECSET or report of an RPTSET an item lies in: none, or its number, targets and reports counted together from 0 through

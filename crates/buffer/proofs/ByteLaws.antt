@@ -14,6 +14,8 @@ use mir.Syntax.{w8}
 use lib.Pow.{pow-add}
 use lib.Arith.{digits_div, digits_mod, digits_lt, mod-mul}
 use borrow.Author.Tests.{ltb-true, leb-true, eqb-true, lt-ltb, le-leb, eq-eqb}
+use Rattle.std.specs.Prelude.{nat_eq}
+use Rattle.std.specs.Cmp.Lexicographic.{pointwise}
 use Rattle.buffer.specs.Bytes.{be, value, within, all, is_byte, same}
 
 pub and-true : (a b : Bool) → a && b ≡ true → (a ≡ true) × (b ≡ true)
@@ -141,6 +143,13 @@ same_is [] [] e = refl
 same_is [] (y ∷ v) e = absurd (true≢false (sym e))
 same_is (x ∷ u) [] e = absurd (true≢false (sym e))
 same_is (x ∷ u) (y ∷ v) e = let (p, q) = and-true (eqb x y) (same u v) e in rw (eqb-true x y p, same_is u v q)
+
+-- the test that the language has for slices
+pub pointwise_same : (u v : List ℕ) → pointwise nat_eq u v ≡ same u v
+pointwise_same [] [] = refl
+pointwise_same [] (y ∷ v) = refl
+pointwise_same (x ∷ u) [] = refl
+pointwise_same (x ∷ u) (y ∷ v) = rw (pointwise_same u v)
 
 pub same_self : (u : List ℕ) → same u u ≡ true
 same_self [] = refl

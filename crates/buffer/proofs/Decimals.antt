@@ -1,11 +1,11 @@
 -- A number's digits, two at a time; the premises are the facts that the code leaves.
 use Prim.Native.Nat.{ℕ, zero, suc, ◌+◌, ◌-◌, ◌/◌, ◌%◌, ◌^◌, ◌≤◌, ◌<◌}
-use mathlib.Core.Path.{◌≡◌, refl, sym, ◌∙◌, ap}
+use mathlib.Core.Path.{◌≡◌}
 use mathlib.Core.List.{List, [], ◌∷◌, ◌++◌, append_assoc}
 use native.Mathlib.Omega.{arith}
 use borrow.Author.Tests.{lt-ltb, le-ltb}
 use Rattle.buffer.specs.Put.{Put}
-use Rattle.buffer.specs.Decimal.{digit_of, digits, decimal}
+use Rattle.buffer.specs.Decimal.{digit_of, digits}
 use Rattle.buffer.proofs.Putting.{put_size, put_both}
 use Rattle.buffer.proofs.DecimalWays.{few_digits, fewer, tenth_fits, as_decimal}
 

@@ -2,8 +2,6 @@ pub mod ByteLaws
 pub mod Putting
 pub mod Numbers
 pub mod RunLaws
-pub mod SameWays
 pub mod DecimalLaws
 pub mod DecimalWays
 pub mod Decimals
-pub mod Eights

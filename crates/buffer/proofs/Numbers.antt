@@ -1,118 +1,92 @@
--- Big-endian numbers as they are put, stored and loaded, over the width: a number's higher bytes and its lower ones, one behind the other.
-use Prim.Native.Nat.{ℕ, suc, ◌+◌, ◌-◌, ◌*◌, ◌/◌, ◌%◌, ◌^◌, ◌<◌, ◌≤◌}
-use mathlib.Core.Path.{◌≡◌, sym, ◌∙◌, ap}
+-- Big-endian numbers as they are put, stored and loaded: the bytes that the language makes of a number, and the number that it makes of bytes.
+use Prim.Native.Nat.{ℕ, zero, suc, ◌+◌, ◌-◌, ◌*◌, ◌/◌, ◌%◌, ◌^◌, ◌<◌, ◌≤◌}
+use mathlib.Core.Path.{◌≡◌, refl, sym, ◌∙◌, ap}
 use mathlib.Core.List.{List, [], ◌∷◌, ◌++◌}
 use native.Mathlib.Omega.{arith}
-use lib.ListN.{length, take, drop, get_or, set, length-drop}
-use lib.Seq.{sets, take-add, drop-drop, drop-cons, length-take-le}
-use borrow.Author.Tests.{le-leb, lt-leb}
+use native.Mathlib.Nat.{mod-lt, mod-eq_of_lt, pow-suc, mul_comm, add_assoc}
+use mathlib.Core.Bool.{Bool, true, false, cond}
+use lib.ListN.{length, take, drop, get_or, length-drop}
+use lib.Dec.{leb}
+use lib.Seq.{sets, drop-cons, length-take-le}
+use lib.Arith.{digits_div, digits_mod, mod-mul}
+use borrow.Author.Tests.{le-leb, leb-true}
+use Rattle.std.specs.Prelude.{Some, None, MatchOption}
+use Rattle.std.specs.Int.{byte_at, byte_worth, bytes_high_first, sum_through}
 use Rattle.buffer.specs.Put.{Put}
 use Rattle.buffer.specs.Bytes.{be, value, load_at, store_at}
-use Rattle.buffer.proofs.Putting.{sets_append, put_both}
-use Rattle.buffer.proofs.ByteLaws.{length_be, be_join, value_join}
+use Rattle.buffer.proofs.Putting.{sets_append}
+use Rattle.buffer.proofs.ByteLaws.{length_be, pow_pos}
 
--- put
-halves_put : {a b c : List ℕ} {at q r : ℕ} (u v x : ℕ) → x < 256 ^ (u + v) → Put a b at q (be u (x / 256 ^ v)) → Put b c q r (be v (x % 256 ^ v)) → Put a c at r (be (u + v) x)
-halves_put u v x h p w = rw (be_join u v x h) (put_both p w)
+byte_is : (k n : ℕ) → byte_at k n ≡ n / 256 ^ k % 256
+byte_is zero n = omega arith
+byte_is (suc k) n = refl
+
+high_first : (k n : ℕ) → bytes_high_first k n ≡ be k (n % 256 ^ k)
+high_first zero n = refl
+high_first (suc k) n =
+    let r : n % 256 ^ k < 256 ^ k = mod-lt n (pow_pos k) in
+    let d : n % 256 ^ suc k ≡ (n / 256 ^ k % 256) * 256 ^ k + n % 256 ^ k = rw (pow-suc, mul_comm (256 ^ k) 256) (mod-mul n (omega arith) (pow_pos k)) in
+    rw (byte_is k n, d, digits_div (n / 256 ^ k % 256) r, digits_mod (n / 256 ^ k % 256) r, high_first k n)
+
+-- the bytes that `to_be_bytes` gives
+pub bytes_of : (k n : ℕ) → n < 256 ^ k → bytes_high_first k n ≡ be k n
+bytes_of k n h = high_first k n ∙ ap (be k) (mod-eq_of_lt h)
+
+worth : (i b : ℕ) → byte_worth i b ≡ b * 256 ^ i
+worth zero b = omega arith
+worth (suc i) b = refl
+
+sum_same : (f g : ℕ → ℕ) (k : ℕ) → ((i : ℕ) → f i ≡ g i) → sum_through f k ≡ sum_through g k
+sum_same f g zero e = e 0
+sum_same f g (suc k) e = rw (sum_same f g k e, e (suc k))
+
+sum_front : (f : ℕ → ℕ) (k : ℕ) → sum_through f (suc k) ≡ f 0 + sum_through (λ i. f (suc i)) k
+sum_front f zero = refl
+sum_front f (suc k) = rw (sum_front f k) (add_assoc (f 0) (sum_through (λ i. f (suc i)) k) (f (suc (suc k))))
+
+-- the number that `from_be_bytes` gives
+pub number_of : (n : ℕ) (b : List ℕ) → length b ≡ suc n → sum_through (λ i. byte_worth (n - i) (get_or b i 0)) n ≡ value b
+number_of n [] h = absurd (omega arith)
+number_of zero (x ∷ []) h = omega arith
+number_of zero (x ∷ y ∷ b) h = absurd (omega arith)
+number_of (suc n) (x ∷ b) h =
+    let l : length b ≡ suc n = omega arith in
+    let e : suc n - 0 ≡ length b = omega arith in
+    let f : (i : ℕ) → byte_worth (suc n - suc i) (get_or b i 0) ≡ byte_worth (n - i) (get_or b i 0) =
+    λ i. let z : suc n - suc i ≡ n - i = omega arith in ap (λ (k : ℕ). byte_worth k (get_or b i 0)) z in
+    sum_front (λ i. byte_worth (suc n - i) (get_or (x ∷ b) i 0)) n
+    ∙ rw (worth (suc n - 0) x, e, sum_same (λ i. byte_worth (suc n - suc i) (get_or b i 0)) (λ i. byte_worth (n - i) (get_or b i 0)) n f, number_of n b l)
+
+-- a number that is read of the bytes at a place, by what reads of so many bytes
+pub loaded : (n : ℕ) (s : List ℕ) (at r : ℕ)
+    → MatchOption (cond (leb (at + suc n) (length s)) (Some (take (suc n) (drop at s))) None) (r ≡ 0) (λ b. r ≡ sum_through (λ i. byte_worth (n - i) (get_or b i 0)) n)
+    → r ≡ load_at (suc n) s at
+unfolding load_at
+loaded n s at r m = go (leb (at + suc n) (length s)) refl m
+  where
+    go : (t : Bool) → leb (at + suc n) (length s) ≡ t
+        → MatchOption (cond t (Some (take (suc n) (drop at s))) None) (r ≡ 0) (λ b. r ≡ sum_through (λ i. byte_worth (n - i) (get_or b i 0)) n)
+        → r ≡ cond t (value (take (suc n) (drop at s))) 0
+    go true e m =
+        let l : length (take (suc n) (drop at s)) ≡ suc n = length-take-le (suc n) (drop at s) (rw length-drop (omega (arith, leb-true (at + suc n) (length s) e))) in
+        m ∙ number_of n (take (suc n) (drop at s)) l
+    go false e m = m
 
 pub one_put : {a b : List ℕ} {at r : ℕ} (x : ℕ) → Put a b at r (x ∷ []) → Put a b at r (be 1 x)
 one_put x p = let e : x / 1 ≡ x = omega arith in rw e p
 
-module _ {a b c : List ℕ} {at q r : ℕ} (x : ℕ) where
-  pub two_put : x < 2 ^ 16 → Put a b at q ((x / 256) ∷ []) → Put b c q r ((x % 256) ∷ []) → Put a c at r (be 2 x)
-  two_put h p w = halves_put 1 1 x h (one_put (x / 256) p) (one_put (x % 256) w)
+pub joined : (o : List ℕ) (at w x : ℕ) (ys : List ℕ) → sets (sets o at (be w x)) (at + w) ys ≡ sets o at (be w x ++ ys)
+joined o at w x ys = ap (λ (n : ℕ). sets (sets o at (be w x)) (at + n) ys) (sym (length_be w x)) ∙ sym (sets_append o at (be w x) ys)
 
-  pub four_put : x < 2 ^ 32 → Put a b at q (be 2 (x / 65536)) → Put b c q r (be 2 (x % 65536)) → Put a c at r (be 4 x)
-  four_put h p w = halves_put 2 2 x h p w
+-- where there is room
+pub store_room : (w : ℕ) (o : List ℕ) (at x : ℕ) → at + w ≤ length o → store_at w o at x ≡ sets o at (be w x)
+unfolding store_at
+store_room w o at x h = rw (le-leb (at + w) (length o) h)
 
-  pub eight_put : x < 2 ^ 64 → Put a b at q (be 4 (x / 4294967296)) → Put b c q r (be 4 (x % 4294967296)) → Put a c at r (be 8 x)
-  eight_put h p w = halves_put 4 4 x h p w
+pub one_byte : (s : List ℕ) (at : ℕ) → at < length s → get_or s at 0 ≡ value (take 1 (drop at s))
+one_byte s at h = rw (drop-cons s at 0) (omega arith)
 
--- stored
-module _ (o : List ℕ) (at : ℕ) where
-  pub pair_stored : (x y : ℕ) → set (set o at x) (at + 1) y ≡ sets o at (x ∷ y ∷ [])
-  pair_stored x y = let e : at + 1 ≡ suc at = omega arith in rw e
-
-  pub two_stored : (x : ℕ) → set (set o at (x / 256)) (at + 1) (x % 256) ≡ sets o at (be 2 x)
-  two_stored x = let f : x % 256 / 1 ≡ x % 256 = omega arith in rw f (pair_stored (x / 256) (x % 256))
-
-  pub joined : (w x : ℕ) (ys : List ℕ) → sets (sets o at (be w x)) (at + w) ys ≡ sets o at (be w x ++ ys)
-  joined w x ys = ap (λ (n : ℕ). sets (sets o at (be w x)) (at + n) ys) (sym (length_be w x)) ∙ sym (sets_append o at (be w x) ys)
-
-  halves_stored : (u v x : ℕ) {o₁ o₂ : List ℕ} → x < 256 ^ (u + v) → o₁ ≡ sets o at (be u (x / 256 ^ v)) → o₂ ≡ sets o₁ (at + u) (be v (x % 256 ^ v)) → o₂ ≡ sets o at (be (u + v) x)
-  halves_stored u v x h e f =
-      f ∙ ap (λ (l : List ℕ). sets l (at + u) (be v (x % 256 ^ v))) e ∙ joined u (x / 256 ^ v) (be v (x % 256 ^ v)) ∙ ap (sets o at) (sym (be_join u v x h))
-
-  module _ {o₁ o₂ : List ℕ} {x : ℕ} where
-    pub four_stored : x < 2 ^ 32 → o₁ ≡ sets o at (be 2 (x / 65536)) → o₂ ≡ sets o₁ (at + 2) (be 2 (x % 65536)) → o₂ ≡ sets o at (be 4 x)
-    four_stored h e f = halves_stored 2 2 x h e f
-
-    pub eight_stored : x < 2 ^ 64 → o₁ ≡ sets o at (be 4 (x / 4294967296)) → o₂ ≡ sets o₁ (at + 4) (be 4 (x % 4294967296)) → o₂ ≡ sets o at (be 8 x)
-    eight_stored h e f = halves_stored 4 4 x h e f
-
-module _ (w : ℕ) (o : List ℕ) (at x : ℕ) where
-  -- where there is room
-  pub store_room : at + w ≤ length o → store_at w o at x ≡ sets o at (be w x)
-  unfolding store_at
-  store_room h = rw (le-leb (at + w) (length o) h)
-
-  -- and where there is none
-  store_none : length o < at + w → o ≡ store_at w o at x
-  unfolding store_at
-  store_none h = rw (lt-leb (at + w) (length o) h)
-
-  pub store_short : length o < w → o ≡ store_at w o at x
-  store_short h = store_none (omega arith)
-
-  pub store_past : w ≤ length o → length o - w < at → o ≡ store_at w o at x
-  store_past g h = store_none (omega arith)
-
-  pub store_here : {o₁ : List ℕ} → w ≤ length o → at ≤ length o - w → o₁ ≡ sets o at (be w x) → o₁ ≡ store_at w o at x
-  store_here g h e = e ∙ sym (store_room (omega arith))
-
--- loaded
-module _ (s : List ℕ) (at : ℕ) where
-  pub one_byte : at < length s → get_or s at 0 ≡ value (take 1 (drop at s))
-  one_byte h = rw (drop-cons s at 0) (omega arith)
-
-  -- n bytes, and m behind them
-  join : (n m : ℕ) → at + n + m ≤ length s → value (take (n + m) (drop at s)) ≡ value (take n (drop at s)) * 256 ^ m + value (take m (drop (at + n) s))
-  join n m h =
-      let l : length (take m (drop (at + n) s)) ≡ m = length-take-le m (drop (at + n) s) (rw length-drop (omega arith)) in
-      rw (take-add n m (drop at s), drop-drop n at s, value_join, l)
-
-pub push_two : (s : List ℕ) (at x : ℕ) {a b : ℕ} → at + 2 ≤ length s → a ≡ get_or s at 0 → b ≡ get_or s (at + 1) 0
-    → (x * 256 + a) * 256 + b ≡ x * 65536 + value (take 2 (drop at s))
-push_two s at x h p q = omega (arith, join s at 1 1 (omega arith), one_byte s at (omega arith), one_byte s (at + 1) (omega arith))
-
-module _ (w : ℕ) (b : List ℕ) (at : ℕ) where
-  -- where the bytes are there
-  pub load_there : at + w ≤ length b → load_at w b at ≡ value (take w (drop at b))
-  unfolding load_at
-  load_there h = rw (le-leb (at + w) (length b) h)
-
-  -- and where not
-  load_none : length b < at + w → 0 ≡ load_at w b at
-  unfolding load_at
-  load_none h = rw (lt-leb (at + w) (length b) h)
-
-  pub load_short : length b < w → 0 ≡ load_at w b at
-  load_short h = load_none (omega arith)
-
-  pub load_past : w ≤ length b → length b - w < at → 0 ≡ load_at w b at
-  load_past g h = load_none (omega arith)
-
--- two bytes at a time
-module _ (b : List ℕ) (at : ℕ) where
-  pub load_two : {x : ℕ} → 2 ≤ length b → at ≤ length b - 2 → x ≡ 0 * 65536 + value (take 2 (drop at b)) → x ≡ load_at 2 b at
-  load_two h g p = omega (arith, load_there 2 b at (omega arith))
-
-  pub load_four : {x y : ℕ} → 4 ≤ length b → at ≤ length b - 4 → x ≡ 0 * 65536 + value (take 2 (drop at b)) → y ≡ x * 65536 + value (take 2 (drop (at + 2) b))
-      → y ≡ load_at 4 b at
-  load_four h g p q = omega (arith, load_there 4 b at (omega arith), join b at 2 2 (omega arith))
-
-  pub load_eight : {x y z v : ℕ} → 8 ≤ length b → at ≤ length b - 8 → x ≡ 0 * 65536 + value (take 2 (drop at b)) → y ≡ x * 65536 + value (take 2 (drop (at + 2) b))
-      → z ≡ y * 65536 + value (take 2 (drop (at + 4) b)) → v ≡ z * 65536 + value (take 2 (drop (at + 6) b)) → v ≡ load_at 8 b at
-  load_eight h g p q r t = omega (arith, load_there 8 b at (omega arith), join b at 2 2 (omega arith), join b at 4 2 (omega arith), join b at 6 2 (omega arith))
-
-pub ruleset numbers = (two_put, four_put, eight_put, pair_stored, two_stored, four_stored, eight_stored, store_short, store_past, store_here, push_two, load_short, load_past, load_two, load_four, load_eight)
+-- where the bytes are there
+pub load_there : (w : ℕ) (b : List ℕ) (at : ℕ) → at + w ≤ length b → load_at w b at ≡ value (take w (drop at b))
+unfolding load_at
+load_there w b at h = rw (le-leb (at + w) (length b) h)

@@ -1,7 +1,7 @@
 -- A head written and read again; a head read is the one that was written.
 use Prim.Native.Nat.{ℕ, suc, ◌-◌, ◌/◌, ◌%◌, ◌^◌, ◌<◌, ◌≤◌}
 use mathlib.Core.Path.{◌≡◌, refl, sym, ap}
-use mathlib.Core.Bool.{Bool, true, false, not, ◌&&◌, ◌||◌, cond}
+use mathlib.Core.Bool.{Bool, true, false, ◌&&◌, ◌||◌, cond}
 use mathlib.Core.List.{List, [], ◌∷◌, ◌++◌}
 use native.Mathlib.Omega.{arith}
 use native.Mathlib.Nat.{div-add-mod', pow-le-pow_right}
@@ -11,8 +11,8 @@ use lib.Dec.{ltb, leb, eqb}
 use lib.Arith.{digits_div, digits_mod}
 use borrow.Author.Tests.{ltb-true, ltb-false, leb-true, leb-false, eqb-true, eqb-false, lt-ltb, le-ltb, le-leb, lt-leb, eq-eqb, ne_eqb}
 use Rattle.buffer.specs.Bytes.{be, value, all, is_byte}
-use Rattle.cbor.specs.Head.{simple, Lead, width, shortest, major_of, kind_of, argument, lead_bytes, size, short_bytes, lead_of, head_bytes, key_bytes, bad_float, unused, Got, bad, got, get_from, get_head, key_by, key_of, Sound, counted, a_simple, a_float, Carries, itself, after}
-use Rattle.buffer.proofs.ByteLaws.{and-true, or-false, not-false, past, length_be, value_be, value_part_lt, value_part_be}
+use Rattle.cbor.specs.Head.{simple, Lead, width, shortest, major_of, kind_of, argument, lead_bytes, size, lead_of, head_bytes, bad_float, unused, bad, got, get_from, get_head, Sound, counted, a_simple, a_float, Carries, itself, after}
+use Rattle.buffer.proofs.ByteLaws.{and-true, or-false, past, length_be, value_be, value_part_lt, value_part_be}
 
 pub carries_lt : {i a : ℕ} → Carries i a → i < 28
 carries_lt (itself h e) = omega arith

@@ -1,7 +1,7 @@
 -- What the head at a place is, way by way through the tests; the premises are the tests as the code makes them.
-use Prim.Native.Nat.{ℕ, suc, ◌+◌, ◌-◌, ◌/◌, ◌%◌, ◌^◌, ◌<◌, ◌≤◌, zero-le}
-use mathlib.Core.Path.{◌≡◌, refl, sym, ◌∙◌, ap}
-use mathlib.Core.Bool.{Bool, true, false, not, ◌&&◌, ◌||◌, cond}
+use Prim.Native.Nat.{ℕ, suc, ◌+◌, ◌-◌, ◌/◌, ◌%◌, ◌<◌, ◌≤◌, zero-le}
+use mathlib.Core.Path.{◌≡◌, refl, sym, ◌∙◌}
+use mathlib.Core.Bool.{Bool, true, false, ◌&&◌, ◌||◌, cond}
 use mathlib.Core.List.{List, [], ◌∷◌}
 use native.Mathlib.Omega.{arith}
 use native.Mathlib.Numerals.{add-one}
@@ -12,7 +12,7 @@ use borrow.Author.Tests.{lt-ltb, le-ltb, le-leb, lt-leb, eq-eqb, ne_eqb, ltb-tru
 use Rattle.cbor.specs.declared.Head.{Head}
 use Rattle.cbor.specs.declared.Head.TheVariants.{Bad, Good}
 use Rattle.buffer.specs.Bytes.{value, load_at}
-use Rattle.cbor.specs.Head.{map, simple, double, Lead, width, kind_of, argument, size, bad_float, unused, Got, bad, got, get_from, get_head}
+use Rattle.cbor.specs.Head.{map, double, Lead, width, kind_of, argument, size, bad_float, unused, Got, bad, got, get_from, get_head}
 use Rattle.cbor.specs.Answer.{answer, head_at, judged, Passed}
 use Rattle.buffer.proofs.Numbers.{one_byte, load_there}
 

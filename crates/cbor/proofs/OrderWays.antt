@@ -1,51 +1,42 @@
 -- Byte order, way by way through the tests; the premises are the tests as the code makes them.
-use Prim.Native.Nat.{ℕ, zero, suc, ◌+◌, ◌-◌, ◌*◌, ◌/◌, ◌%◌, ◌^◌, ◌<◌, ◌≤◌}
+use Prim.Native.Nat.{ℕ, zero, suc, ◌+◌, ◌*◌, ◌/◌, ◌%◌, ◌^◌, ◌<◌, ◌≤◌}
 use mathlib.Core.Path.{◌≡◌, refl, sym, ◌∙◌, ap}
-use mathlib.Core.Bool.{Bool, true, false, ◌&&◌, ◌||◌, or-false, true≢false}
+use mathlib.Core.Bool.{Bool, true, false, ◌&&◌, ◌||◌, true≢false}
 use mathlib.Core.List.{List, [], ◌∷◌, ◌++◌}
 use mathlib.Core.Logic.{◌⊎◌, inl, inr}
-use mathlib.Core.Bool.{cond, not}
+use mathlib.Core.Bool.{cond}
 use native.Mathlib.Omega.{arith}
 use native.Mathlib.Nat.{mod-lt, div-add-mod', mul-le-mul_right, suc-mul}
-use native.Mathlib.Numerals.{add-one}
-use lib.ListN.{length, drop, get_or, drop_of_length-le, length-drop}
-use lib.Seq.{drop-cons, drop_at}
+use lib.ListN.{length, drop, get_or}
+use lib.Seq.{drop_at}
 use lib.Dec.{ltb, leb, eqb}
-use borrow.Author.Tests.{lt-ltb, le-ltb, eq-eqb, ne_eqb, ltb-true, ltb-false, eqb-true, le-leb, lt-leb, leb-true, not-true, not-false}
+use borrow.Author.Tests.{lt-ltb, le-ltb, eq-eqb, ne_eqb, ltb-true, ltb-false, eqb-true, le-leb, lt-leb, leb-true}
 use mir.Syntax.{w8}
 use mir.Val.{Fits}
 use Rattle.buffer.specs.Bytes.{be, part}
 use Rattle.buffer.proofs.RunLaws.{part_all}
+use Rattle.std.specs.Prelude.{Some}
+use Rattle.std.proofs.Common.{Ordering}
+use Rattle.std.specs.Ordering.{MatchOrdering, nat_cmp, is_lt, is_some_and}
+use Rattle.std.specs.Cmp.Lexicographic.{slice_partial_cmp}
+use Rattle.std.proofs.lemmas.Cmp.{same_from_slice_cmp_tested}
+use Rattle.std.proofs.lemmas.Bool.Decides.{nat_tests}
 use Rattle.cbor.specs.Byte.{below}
-use Rattle.cbor.specs.Head.{width, shortest, major_of, lead_bytes, short_bytes, key_of, size, Lead, Got, bad, got, get_head, Sound, counted, itself, after}
-use Rattle.cbor.specs.declared.Key.{Key}
-use Rattle.cbor.specs.Keys.{OwnKey, KeyAt, KeyHead}
+use Rattle.cbor.specs.Head.{width, shortest, major_of, lead_bytes, short_bytes, key_of, size, Lead, bad, got, get_head, Sound, counted, itself, after}
+use Rattle.cbor.specs.Keys.{OwnKey, KeyAt}
 use Rattle.cbor.specs.declared.Head.{Head}
 use Rattle.cbor.specs.declared.Head.TheVariants.{Bad, Good}
 use Rattle.cbor.specs.Answer.{head_at}
 use Rattle.cbor.proofs.HeadLaws.{width_small, length_lead, get_head_back}
 use Rattle.cbor.proofs.HeadWays.{Read, read, refused}
 
-module _ (a b : List ℕ) (i : ℕ) (e : below a b ≡ below (drop i a) (drop i b)) where
-  pub second_ends : i < length a → length b ≤ i → false ≡ below a b
-  second_ends h k = rw (e, drop-cons a i 0 h, drop_of_length-le b k)
-
-  pub first_ends : length a ≤ i → ltb i (length b) ≡ below a b
-  first_ends h = rw (e, drop_of_length-le a h) (go (drop i b) (length-drop i b))
-    where
-      go : (l : List ℕ) → length l ≡ length b - i → ltb i (length b) ≡ below [] l
-      go [] q = le-ltb i (length b) (omega arith)
-      go (y ∷ ys) q = lt-ltb i (length b) (omega arith)
-
-  module _ (h : i < length a) (k : i < length b) where
-    pub differ : (get_or a i 0 ≡ get_or b i 0 → ⊥) → ltb (get_or a i 0) (get_or b i 0) ≡ below a b
-    differ n = rw (e, drop-cons a i 0 h, drop-cons b i 0 k, ne_eqb (get_or a i 0) (get_or b i 0) n, or-false)
-
-    pub agree : get_or a i 0 ≡ get_or b i 0 → below a b ≡ below (drop (i + 1) a) (drop (i + 1) b)
-    agree q =
-        rw (e, add-one i, drop-cons a i 0 h, drop-cons b i 0 k, eq-eqb (get_or a i 0) (get_or b i 0) q, le-ltb (get_or a i 0) (get_or b i 0) (omega arith))
-
-pub ruleset orders = (second_ends, first_ends, differ, agree)
+-- the order that the language has for slices
+pub slices_below : (a b : List ℕ) (r : Bool) → r ≡ is_some_and is_lt (slice_partial_cmp (λ x y. Some (nat_cmp x y)) a b) → r ≡ below a b
+slices_below = same_from_slice_cmp_tested nat_cmp is_lt below refl (λ y ys. refl) (λ x xs. refl) more
+  where
+    more : (x y : ℕ) (xs ys : List ℕ) (o : Ordering) → o ≡ nat_cmp x y
+        → MatchOrdering o (below (x ∷ xs) (y ∷ ys) ≡ true) (below (x ∷ xs) (y ∷ ys) ≡ below xs ys) (below (x ∷ xs) (y ∷ ys) ≡ false)
+    more x y xs ys o e = grind (arith, nat_tests)
 
 no_and : (t : Bool) → (t && false) ≡ false
 no_and true = refl
@@ -208,76 +199,60 @@ no_key_bad : (s : List ℕ) (r : ℕ) → get_head s ≡ bad r → key_of s ≡ 
 unfolding key_of
 no_key_bad s r e = rw e
 
-abbrev no_key : Key
-no_key = record { is = false; kind = 0; arg = 0; next = 0 }
-
 module _ (s : List ℕ) {h : Head} (e : h ≡ head_at s 0) where
-  pub no_head : {r : ℕ} → h ≡ Bad r → KeyHead s no_key
-  no_head {r} f = record { by = no_key_bad s r (refused s 0 e f) }
+  pub no_head : {r : ℕ} → h ≡ Bad r → key_of s ≡ []
+  no_head {r} f = no_key_bad s r (refused s 0 e f)
 
   module _ {k a n : ℕ} (f : h ≡ Good k a n) where
     abbrev r : Read s 0 k a n
     r = read s 0 e f
 
-    pub no_count : 5 < k → KeyHead s no_key
-    no_count g = record { by = no_key_got s r.lead r.is_got (omega (arith, r.kind_is)) }
+    pub no_count : 5 < k → key_of s ≡ []
+    no_count g = no_key_got s r.lead r.is_got (omega (arith, r.kind_is))
 
-    pub key_at_lem : k ≤ 5 → a < 2 ^ 64 → n ≤ length s → KeyHead s (record { is = true; kind = k; arg = a; next = n })
+    pub key_at_lem : k ≤ 5 → a < 2 ^ 64 → n ≤ length s → KeyAt s k a n
     key_at_lem g l i =
         let z : size r.lead ≡ n = omega (arith, r.next_is) in
         let q = key_got s r.lead r.is_got (omega (arith, r.kind_is)) in
-        record { by = record { counts = g; small = l; inside = i; key_is = q ∙ ap (λ (w : List ℕ). short_bytes r.lead.kind r.lead.arg ++ w) (ap (λ (j : ℕ). drop j s) z) ∙ rw (r.kind_is, r.arg_is) } }
+        record { counts = g; small = l; inside = i; key_is = q ∙ ap (λ (w : List ℕ). short_bytes r.lead.kind r.lead.arg ++ w) (ap (λ (j : ℕ). drop j s) z) ∙ rw (r.kind_is, r.arg_is) }
 
 -- two keys
-module _ {a b : List ℕ} {x y : Key} (p : KeyHead a x) (q : KeyHead b y) where
-  pub second_none : not y.is ≡ true → false ≡ below (key_of a) (key_of b)
-  second_none e = rw (rw (not-true y.is e) at q.by) (sym (nothing_below (key_of a)))
-    where
-      nothing_below : (u : List ℕ) → below u [] ≡ false
-      nothing_below [] = refl
-      nothing_below (z ∷ u) = refl
+pub second_none : (u v : List ℕ) → v ≡ [] → false ≡ below u v
+second_none u v e = rw e (sym (nothing_below u))
+  where
+    nothing_below : (u : List ℕ) → below u [] ≡ false
+    nothing_below [] = refl
+    nothing_below (z ∷ u) = refl
 
-  module _ (e : not y.is ≡ false) where
-    second : KeyAt b y.kind y.arg y.next
-    second = rw (not-false y.is e) at q.by
+module _ (a b : List ℕ) {m w q : ℕ} (second : KeyAt b m w q) where
+  pub first_none : key_of a ≡ [] → true ≡ below (key_of a) (key_of b)
+  unfolding short_bytes
+  first_none f = rw (f, second.key_is)
 
-    pub first_none : not x.is ≡ true → true ≡ below (key_of a) (key_of b)
-    unfolding short_bytes
-    first_none f = rw (rw (not-true x.is f) at p.by, second.key_is)
+  module _ {k v p : ℕ} (first : KeyAt a k v p) where
+    pub kinds_differ : (k ≡ m → ⊥) → ltb k m ≡ below (key_of a) (key_of b)
+    kinds_differ n = rw (first.key_is, second.key_is) (go (ltb k m) refl)
+      where
+        go : (t : Bool) → ltb k m ≡ t
+            → t ≡ below (short_bytes k v ++ drop p a) (short_bytes m w ++ drop q b)
+        go true h = sym (by_kind k v m w (drop p a) (drop q b) first.counts second.counts (ltb-true k m h))
+        go false h =
+            let l = ltb-false k m h in
+            sym (not_both (short_bytes m w ++ drop q b) (short_bytes k v ++ drop p a) (by_kind m w k v (drop q b) (drop p a) second.counts first.counts (omega arith)))
 
-    module _ (f : not x.is ≡ false) where
-      first : KeyAt a x.kind x.arg x.next
-      first = rw (not-false x.is f) at p.by
-
-      pub kinds_differ : (x.kind ≡ y.kind → ⊥) → ltb x.kind y.kind ≡ below (key_of a) (key_of b)
-      kinds_differ n = rw (first.key_is, second.key_is) (go (ltb x.kind y.kind) refl)
+    module _ (same_kind : k ≡ m) where
+      pub arguments_differ : (v ≡ w → ⊥) → ltb v w ≡ below (key_of a) (key_of b)
+      arguments_differ n = rw (first.key_is, second.key_is) (go (ltb v w) refl)
         where
-          go : (t : Bool) → ltb x.kind y.kind ≡ t
-              → t ≡ below (short_bytes x.kind x.arg ++ drop x.next a) (short_bytes y.kind y.arg ++ drop y.next b)
-          go true h = sym (by_kind x.kind x.arg y.kind y.arg (drop x.next a) (drop y.next b) first.counts second.counts (ltb-true x.kind y.kind h))
+          go : (t : Bool) → ltb v w ≡ t
+              → t ≡ below (short_bytes k v ++ drop p a) (short_bytes m w ++ drop q b)
+          go true h = sym (by_argument k v m w (drop p a) (drop q b) first.counts second.counts same_kind (ltb-true v w h) second.small)
           go false h =
-              let l = ltb-false x.kind y.kind h in
-              sym (not_both (short_bytes y.kind y.arg ++ drop y.next b) (short_bytes x.kind x.arg ++ drop x.next a) (by_kind y.kind y.arg x.kind x.arg (drop y.next b) (drop x.next a) second.counts first.counts (omega arith)))
+              let l = ltb-false v w h in
+              sym (not_both (short_bytes m w ++ drop q b) (short_bytes k v ++ drop p a) (by_argument m w k v (drop q b) (drop p a) second.counts first.counts (sym same_kind) (omega arith) first.small))
 
-      module _ (k : x.kind ≡ y.kind) where
-        pub arguments_differ : (x.arg ≡ y.arg → ⊥) → ltb x.arg y.arg ≡ below (key_of a) (key_of b)
-        arguments_differ n = rw (first.key_is, second.key_is) (go (ltb x.arg y.arg) refl)
-          where
-            go : (t : Bool) → ltb x.arg y.arg ≡ t
-                → t ≡ below (short_bytes x.kind x.arg ++ drop x.next a) (short_bytes y.kind y.arg ++ drop y.next b)
-            go true h = sym (by_argument x.kind x.arg y.kind y.arg (drop x.next a) (drop y.next b) first.counts second.counts k (ltb-true x.arg y.arg h) second.small)
-            go false h =
-                let l = ltb-false x.arg y.arg h in
-                sym (not_both (short_bytes y.kind y.arg ++ drop y.next b) (short_bytes x.kind x.arg ++ drop x.next a) (by_argument y.kind y.arg x.kind x.arg (drop y.next b) (drop x.next a) second.counts first.counts (sym k) (omega arith) first.small))
-
-        pub strings_decide : x.arg ≡ y.arg → {r : Bool} → r ≡ below (part a x.next (length a)) (part b y.next (length b)) → r ≡ below (key_of a) (key_of b)
-        strings_decide m d = d ∙ rw (part_all a x.next, part_all b y.next, first.key_is, second.key_is) (sym (by_string x.kind x.arg y.kind y.arg _ _ first.counts second.counts k m))
-
-      pub first_inside : x.next ≤ length a
-      first_inside = first.inside
-
-    pub second_inside : y.next ≤ length b
-    second_inside = second.inside
+      pub strings_decide : v ≡ w → {r : Bool} → r ≡ below (part a p (length a)) (part b q (length b)) → r ≡ below (key_of a) (key_of b)
+      strings_decide e d = d ∙ rw (part_all a p, part_all b q, first.key_is, second.key_is) (sym (by_string k v m w _ _ first.counts second.counts same_kind e))
 
 -- A key whose head is the shortest is ordered by its own bytes.
 own_lead : (l : Lead) (xs : List ℕ) → Sound l → l.kind ≤ 5 → shortest l.arg ≡ l.info → key_of (lead_bytes l ++ xs) ≡ lead_bytes l ++ xs
@@ -351,4 +326,4 @@ module _ {s : List ℕ} where
 pub own_order : {a b : List ℕ} {r t w : Bool} → OwnKey a r → OwnKey b t → r ≡ true → t ≡ true → w ≡ below a b → w ≡ below (key_of a) (key_of b)
 own_order p q e f o = rw (p.own e, q.own f) o
 
-pub ruleset keys = (own_none, own_short, own_middle, own_wide, own_order, no_head, no_count, key_at_lem, second_none, first_none, kinds_differ, arguments_differ, strings_decide, first_inside, second_inside)
+pub ruleset keys = (own_none, own_short, own_middle, own_wide, own_order, no_head, no_count, key_at_lem, second_none, first_none, kinds_differ, arguments_differ, strings_decide)

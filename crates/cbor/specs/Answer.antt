@@ -1,10 +1,10 @@
 -- What the functions answer: the definitions at a place of the input, and their parts. Interface: head_at, Passed. Private to src/: answer, judged, follows, Tail, Sequence.
-use Rattle.std.specs.Prelude.{ℕ, ◌+◌, ◌-◌, ◌<◌, ◌≤◌, Bool, ◌&&◌, ◌||◌, cond, ◌≡◌, List, length, drop, get_or, ltb, eqb}
+use Rattle.std.specs.Prelude.{ℕ, ◌+◌, ◌<◌, ◌≤◌, Bool, ◌&&◌, cond, ◌≡◌, List, length, drop, get_or, ltb}
 use Rattle.cbor.specs.declared.Head.{Head}
 use Rattle.cbor.specs.declared.Head.TheVariants.{Bad, Good}
 use Rattle.buffer.specs.Bytes.{within}
 use Rattle.cbor.specs.Utf8.{utf8_from, utf8}
-use Rattle.cbor.specs.Head.{double, kind_of, Lead, size, unused, bad_float, Got, bad, got, get_head}
+use Rattle.cbor.specs.Head.{double, kind_of, size, unused, bad_float, Got, bad, got, get_head}
 
 -- a head that starts at `at`
 abbrev pub answer : ℕ → Got → Head

@@ -1,6 +1,6 @@
 -- Item heads: R9 to R19, and the tests 2, 3 and 4 (R52 to R54). Interface: the kinds, Lead, size, lead_bytes, short_bytes, head_bytes, key_bytes, key_of, get_head, Sound,
 -- string_size, is_container, arity; the others are the parts of these.
-use Rattle.std.specs.Prelude.{ℕ, suc, ◌+◌, ◌-◌, ◌*◌, ◌/◌, ◌%◌, ◌^◌, ◌<◌, ◌≤◌, ◌≡◌, Bool, true, false, not, ◌&&◌, ◌||◌, cond, List, [], ◌∷◌, ◌++◌, length, take, drop, ltb, leb, eqb}
+use Rattle.std.specs.Prelude.{ℕ, suc, ◌+◌, ◌-◌, ◌*◌, ◌/◌, ◌%◌, ◌^◌, ◌<◌, ◌≤◌, ◌≡◌, Bool, false, not, ◌&&◌, ◌||◌, cond, List, [], ◌∷◌, ◌++◌, length, take, drop, ltb, leb, eqb}
 use Rattle.buffer.specs.Bytes.{be, value, within}
 
 -- The kinds of items: the major types 0 to 5, the simple values, and the floats f9, fa and fb.

@@ -1,5 +1,5 @@
 -- Private to src/: what orders a key, as the code has it.
-use Rattle.std.specs.Prelude.{ℕ, ◌^◌, ◌<◌, ◌≤◌, ◌≡◌, Bool, true, false, List, [], ◌++◌, length, drop}
+use Rattle.std.specs.Prelude.{ℕ, ◌^◌, ◌<◌, ◌≤◌, ◌≡◌, Bool, true, Option, Some, None, List, [], ◌++◌, length, drop}
 use Rattle.cbor.specs.Head.{short_bytes, key_of}
 use Rattle.cbor.specs.declared.Key.{Key}
 
@@ -10,12 +10,10 @@ pub record KeyAt (s : List ℕ) (kind arg next : ℕ) : Type 0 where
   pub inside : next ≤ length s
   pub key_is : key_of s ≡ short_bytes kind arg ++ drop next s
 
-abbrev pub KeyBy : List ℕ → ℕ → ℕ → ℕ → Bool → Type 0
-KeyBy s kind arg next true = KeyAt s kind arg next
-KeyBy s kind arg next false = key_of s ≡ []
-
-pub record KeyHead (s : List ℕ) (x : Key) : Type 0 where
-  pub by : KeyBy s x.kind x.arg x.next x.is
+-- the key of a string, if it has one
+abbrev pub KeyHead : List ℕ → Option Key → Type 0
+KeyHead s (Some x) = KeyAt s x.kind x.arg x.next
+KeyHead s None = key_of s ≡ []
 
 -- where the answer is yes, a key's own bytes order it
 pub record OwnKey (s : List ℕ) (r : Bool) : Type 0 where

@@ -472,37 +472,16 @@ pub fn is_utf8(s: &[u8]) -> bool
 pub fn is_below(a: &[u8], b: &[u8]) -> bool
     ensures { result ≡ below a.now b.now }
 {
-    let mut i = 0;
-    while i < a.len() {
-        if b.len() <= i {
-            return false;
-        }
-        let x = a[i];
-        let y = b[i];
-        if x != y {
-            return x < y;
-        }
-        i += 1;
-    }
-    i < b.len()
+    a < b
 }
 
-// What orders a key: its kind, its argument, and its string, which stands from a place on. What has no head of a number, a string or a container comes
-// before all keys.
+// What orders a key: its kind, its argument, and its string, which stands from a place on.
 #[derive(Clone, Copy)]
 struct Key {
-    is: bool,
     kind: u8,
     arg: u64,
     next: usize,
 }
-
-const NO_KEY: Key = Key {
-    is: false,
-    kind: 0,
-    arg: 0,
-    next: 0,
-};
 
 // The head of a key, as `head_again` would read it: the other caller of `long_again`.
 fn key_head(s: &[u8]) -> Head
@@ -519,22 +498,13 @@ fn key_head(s: &[u8]) -> Head
     Head::Bad(2)
 }
 
-fn key_of(s: &[u8]) -> Key
+// What has no head of a number, a string or a container is no key, and comes before all keys.
+fn key_of(s: &[u8]) -> Option<Key>
     ensures { KeyHead s.now result }
 {
     match key_head(s) {
-        Head::Good { kind, arg, next } => {
-            if MAP < kind {
-                return NO_KEY;
-            }
-            Key {
-                is: true,
-                kind,
-                arg,
-                next,
-            }
-        }
-        Head::Bad(_) => NO_KEY,
+        Head::Good { kind, arg, next } if kind <= MAP => Some(Key { kind, arg, next }),
+        _ => None,
     }
 }
 
@@ -579,28 +549,22 @@ fn is_own_key(s: &[u8]) -> bool
 pub fn is_key_below(a: &[u8], b: &[u8]) -> bool
     ensures { result ≡ below (key_of a.now) (key_of b.now) }
 {
-    if is_own_key(a) {
-        if is_own_key(b) {
-            return is_below(a, b);
-        }
+    if is_own_key(a) && is_own_key(b) {
+        return is_below(a, b);
     }
-    let x = key_of(a);
-    let y = key_of(b);
-    if !y.is {
+    let Some(y) = key_of(b) else {
         return false;
-    }
-    if !x.is {
+    };
+    let Some(x) = key_of(a) else {
         return true;
-    }
+    };
     if x.kind != y.kind {
         return x.kind < y.kind;
     }
     if x.arg != y.arg {
         return x.arg < y.arg;
     }
-    let p = x.next;
-    let q = y.next;
-    is_below(&a[p..], &b[q..])
+    is_below(&a[x.next..], &b[y.next..])
 }
 
 // The head of a number, a length or a simple value in its shortest form. A float, or a simple value past 23, puts nothing.

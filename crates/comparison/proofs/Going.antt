@@ -19,16 +19,15 @@ use Rattle.ari.specs.declared.Limits.{Limits}
 use Rattle.ari.specs.declared.Input.TheVariants.{Message}
 use Rattle.ari.specs.Reader.{read}
 use Rattle.item_table.specs.Entries.{Tabled}
-use Rattle.reader.specs.declared.Answer.{Answer as Answered}
-use Rattle.reader.specs.declared.Answer.TheVariants.{Accepted}
-use Rattle.reader.specs.declared.Answer.TheVariants as answers
-use Rattle.reader.specs.Answers.{answer_of, Kept}
-use Rattle.reader.proofs.Kept.{accepted, refused, tabled}
+use Rattle.std.specs.declared.result.Result.{Result}
+use Rattle.std.specs.declared.result.Result.TheVariants.{Ok, Err}
+use Rattle.ari.specs.declared.Refusal.{Refusal}
+use Rattle.ari.specs.Refusals.{refused}
+use Rattle.reader.specs.Results.{result_of, Keeps}
+use Rattle.reader.proofs.Results.{is_accepted, is_refused, tabled}
 use Rattle.comparison.specs.declared.Difference.{Difference}
-use Rattle.comparison.specs.declared.Tally.{Tally}
 use Rattle.comparison.specs.declared.Compared.{Compared}
-use Rattle.comparison.specs.declared.Compared.TheVariants.{Entries, Refused}
-use Rattle.comparison.specs.Comparison.{parts, Entry, only_first, only_second, entry_of, compared, comparison, what_of, entry_bytes, entries_bytes, different, enough_for, second_by, compare_messages, room_after}
+use Rattle.comparison.specs.Comparison.{parts, Entry, only_first, only_second, entry_of, compared, comparison, what_of, entry_bytes, entries_bytes, different, enough_for, second_by, compared_by, compare_messages, room_after}
 use Rattle.comparison.specs.Code.{Table, whole, targets_in, next_target, target_behind, Reached, part_at, entry_at, without_items, difference_of, difference_bytes, is_different, tally_of}
 use Rattle.comparison.proofs.Words.{few_words, behind_later, behind_further, parts_at, Standing, one, over, standing, reached_first, reached_behind, parts_first, targets_are, few_targets, length_compared}
 
@@ -107,7 +106,7 @@ length_comparison : {a t b u : List ℕ} → Table a t → Table b u → length 
 unfolding comparison
 length_comparison {a} {t} {b} {u} c d = length_compared (parts a) (parts b) ∙ rw (targets_are c, targets_are d)
 
-tally_by : (es : List Entry) {n k : ℕ} → n ≡ different es → k ≡ length es → ◌≡◌ {A = Tally} (record { different = n; entries = k }) (tally_of es)
+tally_by : (es : List Entry) {n k : ℕ} → n ≡ different es → k ≡ length es → ◌≡◌ {A = Compared} (record { different = n; entries = k }) (tally_of es)
 tally_by es e f = rw (e, f)
 
 -- The entries so far are put, and those of what is left would follow.
@@ -209,7 +208,7 @@ module _ {a t b u o o' : List ℕ} {i j p n : ℕ} (v : Gone a t b u o o' i j p 
     fitting : 0 + length bytes ≤ length o
     fitting = omega (arith, length_entries g.done, few_done, g.room)
 
-    pub gone_tally : ◌≡◌ {A = Tally} (record { different = n; entries = p / 24 }) (tally_of (comparison a b))
+    pub gone_tally : ◌≡◌ {A = Compared} (record { different = n; entries = p / 24 }) (tally_of (comparison a b))
     gone_tally =
         let e : p / 24 ≡ length g.done = omega (arith, g.put.place, fitting, length_entries g.done) in
         tally_by g.done g.count e ∙ ap tally_of (sym all_done)
@@ -239,7 +238,7 @@ module _ {a t b u : List ℕ} (c : Table a t) (d : Table b u) where
     counted : k ≡ length (comparison a b)
     counted = g ∙ rw (e, f) (sym (length_comparison c d))
 
-    pub too_few : (room : ℕ) → room < k → Refused 16 k ≡ enough_for (comparison a b) room
+    pub too_few : (room : ℕ) → room < k → refused 16 k ≡ enough_for (comparison a b) room
     too_few room h = rw (counted, lt-ltb room (length (comparison a b)) (omega (arith, counted)))
 
     pub enough : (room : ℕ) → k ≤ room → length (comparison a b) ≤ room
@@ -249,10 +248,10 @@ module _ (es : List Entry) where
   pub in_bytes : (o : List ℕ) → length es ≤ length o / 24 → 24 * length es ≤ length o
   in_bytes o h = omega arith
 
-  pub tallied : (room : ℕ) → length es ≤ room → {r : Tally} → r ≡ tally_of es → Entries r.different r.entries ≡ enough_for es room
+  pub tallied : (room : ℕ) → length es ≤ room → {r : Compared} → r ≡ tally_of es → Ok r ≡ enough_for es room
   tallied room h e = rw (e, le-ltb room (length es) h)
 
-  pub room_written : (o : List ℕ) {r : Tally} → r ≡ tally_of es → {o' : List ℕ} → o' ≡ entries_bytes es ++ drop (24 * length es) o → o' ≡ room_after (Entries r.different r.entries) es o
+  pub room_written : (o : List ℕ) {r : Compared} → r ≡ tally_of es → {o' : List ℕ} → o' ≡ entries_bytes es ++ drop (24 * length es) o → o' ≡ room_after (Ok r) es o
   room_written o e f = f ∙ rw e
 
 pub ruleset rooms = (surely, too_few, enough, in_bytes, tallied, room_written)
@@ -269,30 +268,27 @@ front {n = n} {t = t} c =
       kept = λ k h. let l : k < n = omega arith in get_or-take n t k 0 l ∙ c.kept k l;
     }
 
-module _ (m : Limits) (b : List ℕ) {y : Answered} (e : y ≡ answer_of (read m Message b)) {t t' : List ℕ} (k : Kept Message b y t t') (l : length t' ≡ length t)
-    (bytes : (j : ℕ) → Fits w8 (get_or b j 0)) (fit : (min m.items (length b) ≤ length t) × (m.bytes < 65536) × (m.containers < 256)) {n : ℕ} (f : y ≡ Accepted n) where
-  pub table_kept : Table b (take (n - 0) t')
-  table_kept = let z : n - 0 ≡ n = omega arith in rw z (whole (front (tabled m Message b e k l bytes fit f)))
+module _ (m : Limits) (b : List ℕ) {y : Result ℕ Refusal} (e : y ≡ result_of (read m Message b)) {t t' : List ℕ} (k : Keeps Message b y t t') (l : length t' ≡ length t)
+    (bytes : (j : ℕ) → Fits w8 (get_or b j 0)) (fit : (min m.items (length b) ≤ length t) × (m.bytes < 65536) × (m.containers < 256)) {n : ℕ} (f : y ≡ Ok n) where
+  pub table_kept : Table b (take n t')
+  table_kept = whole (front (tabled m Message b e k l bytes fit f))
 
   pub items_kept : n ≤ length t'
   items_kept = (tabled m Message b e k l bytes fit f).room
 
 -- the refusals in their order
-module _ (m : Limits) (a b : List ℕ) (room : ℕ) where
-  module _ {y : Answered} (e : y ≡ answer_of (read m Message b)) where
-    pub second_refused : {r p : ℕ} → y ≡ answers.Refused r p → Refused r p ≡ second_by (read m Message b) (comparison a b) room
-    second_refused f = rw (refused m Message b e f)
+module _ (m : Limits) (a b : List ℕ) (room : ℕ) {x : Result ℕ Refusal} (e : x ≡ result_of (read m Message a)) where
+  pub first_refused : {z : Refusal} → x ≡ Err z → Err z ≡ compare_messages m a b room
+  unfolding compare_messages
+  first_refused f = is_refused m Message a e f (λ z. compared_by z (read m Message b) (comparison a b) room) (λ r p. refl)
 
-    pub second_accepted : {k : ℕ} → y ≡ Accepted k → {r : Compared} → r ≡ enough_for (comparison a b) room → r ≡ second_by (read m Message b) (comparison a b) room
-    second_accepted f h = h ∙ rw (accepted m Message b e f)
-
-  module _ {x : Answered} (e : x ≡ answer_of (read m Message a)) where
-    pub first_refused : {r p : ℕ} → x ≡ answers.Refused r p → Refused r p ≡ compare_messages m a b room
+  module _ {n : ℕ} (f : x ≡ Ok n) {y : Result ℕ Refusal} (g : y ≡ result_of (read m Message b)) where
+    pub second_refused : {z : Refusal} → y ≡ Err z → Err z ≡ compare_messages m a b room
     unfolding compare_messages
-    first_refused f = rw (refused m Message a e f)
+    second_refused h = rw (is_accepted m Message a e f) (is_refused m Message b g h (λ z. second_by z (comparison a b) room) (λ r p. refl))
 
-    pub first_accepted : {n : ℕ} → x ≡ Accepted n → {r : Compared} → r ≡ second_by (read m Message b) (comparison a b) room → r ≡ compare_messages m a b room
+    pub both_accepted : {k : ℕ} → y ≡ Ok k → {r : Result Compared Refusal} → r ≡ enough_for (comparison a b) room → r ≡ compare_messages m a b room
     unfolding compare_messages
-    first_accepted f h = h ∙ rw (accepted m Message a e f)
+    both_accepted h q = q ∙ rw (is_accepted m Message a e f, is_accepted m Message b g h) refl
 
-pub ruleset outcomes = (table_kept, items_kept, second_refused, second_accepted, first_refused, first_accepted)
+pub ruleset outcomes = (first_refused, second_refused, both_accepted)

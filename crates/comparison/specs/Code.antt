@@ -8,7 +8,7 @@ use Rattle.ari.specs.Targets.{is_target}
 use Rattle.item_table.specs.Entries.{item_of, spot_number, Tabled}
 use Rattle.item_records.specs.Numbered.{is_target_by}
 use Rattle.comparison.specs.declared.Difference.{Difference}
-use Rattle.comparison.specs.declared.Tally.{Tally}
+use Rattle.comparison.specs.declared.Compared.{Compared}
 use Rattle.comparison.specs.Comparison.{Part, Entry, only_first, only_second, entry_of, what_of, first_of, second_of, different}
 
 -- the whole table of an accepted message
@@ -70,5 +70,5 @@ abbrev pub is_different : Difference → ℕ
 is_different e = cond (eqb e.what 0) 0 1
 
 -- all of them
-abbrev pub tally_of : List Entry → Tally
+abbrev pub tally_of : List Entry → Compared
 tally_of es = record { different = different es; entries = length es }

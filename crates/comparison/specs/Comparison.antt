@@ -11,7 +11,10 @@ use Rattle.ari.specs.Targets.{is_target}
 use Rattle.ari.specs.Same.{folded_at, folded}
 use Rattle.grammar.specs.Code.{slot_number}
 use Rattle.comparison.specs.declared.Compared.{Compared}
-use Rattle.comparison.specs.declared.Compared.TheVariants.{Entries, Refused}
+use Rattle.std.specs.declared.result.Result.{Result}
+use Rattle.std.specs.declared.result.Result.TheVariants.{Ok, Err}
+use Rattle.ari.specs.declared.Refusal.{Refusal}
+use Rattle.ari.specs.Refusals.{refused}
 
 -- R195: a target or report: the number of its item in the message, and the item with all that it holds
 pub record Part : Type 0 where
@@ -103,22 +106,22 @@ different [] = 0
 different (e ∷ es) = let r = different es in cond (eqb (what_of e) 0) r (suc r)
 
 -- R200: where the room has fewer whole entries, 16 with their number
-abbrev pub enough_for : List Entry → ℕ → Compared
-enough_for es room = cond (ltb room (length es)) (Refused 16 (length es)) (Entries (different es) (length es))
+abbrev pub enough_for : List Entry → ℕ → Result Compared Refusal
+enough_for es room = cond (ltb room (length es)) (refused 16 (length es)) (Ok (record { different = different es; entries = length es }))
 
 -- R200: before that the first's refusal, then the second's
-abbrev pub second_by : Answer → List Entry → ℕ → Compared
-second_by (refuse r p) es room = Refused r p
+abbrev pub second_by : Answer → List Entry → ℕ → Result Compared Refusal
+second_by (refuse r p) es room = refused r p
 second_by (accept n) es room = enough_for es room
 
-abbrev pub compared_by : Answer → Answer → List Entry → ℕ → Compared
-compared_by (refuse r p) second es room = Refused r p
+abbrev pub compared_by : Answer → Answer → List Entry → ℕ → Result Compared Refusal
+compared_by (refuse r p) second es room = refused r p
 compared_by (accept n) second es room = second_by second es room
 
-unfoldable pub compare_messages : Limits → List ℕ → List ℕ → ℕ → Compared
+unfoldable pub compare_messages : Limits → List ℕ → List ℕ → ℕ → Result Compared Refusal
 compare_messages m a b room = compared_by (read m Message a) (read m Message b) (comparison a b) room
 
 -- a refusal leaves the room as it was, an acceptance what is past its answer
-abbrev pub room_after : Compared → List Entry → List ℕ → List ℕ
-room_after (Refused r p) es out = out
-room_after (Entries d k) es out = entries_bytes es ++ drop (24 * k) out
+abbrev pub room_after : Result Compared Refusal → List Entry → List ℕ → List ℕ
+room_after (Err e) es out = out
+room_after (Ok x) es out = entries_bytes es ++ drop (24 * x.entries) out

@@ -4,21 +4,18 @@
 ghost use Rattle.std.specs.Prelude.{◌≡◌, true, ◌++◌, suc, ◌*◌, ◌/◌, ◌<◌, ◌≤◌, min, max, length, drop};
 ghost use Rattle.buffer.specs.Bytes.{be};
 ghost use Rattle.buffer.specs.Put.{Put};
-ghost use Rattle.ari.specs.declared.Input.TheVariants as input;
-ghost use Rattle.ari.specs.Reader.{read};
 ghost use Rattle.ari.specs.Limits.{gate_limits, capped};
 ghost use Rattle.item_table.specs.Entries.{item_of};
-ghost use Rattle.comparison.specs.Comparison.{parts, entry_of, entry_bytes, entries_bytes, comparison, enough_for, second_by, compare_messages, room_after};
+ghost use Rattle.comparison.specs.Comparison.{parts, entry_of, entry_bytes, entries_bytes, comparison, enough_for, compare_messages, room_after};
 ghost use Rattle.comparison.specs.Code.{Table, is_target_word, targets_in, next_target, target_behind, Reached, Both, part_at, entry_at, without_items, difference_of, difference_bytes, is_different, tally_of};
 
-use ari::{Input, Limits};
-use reader::Answer;
+use ari::{Fault, Input, Limits, Refusal};
 
-// The entries written, and how many of them are not 'same'; or the first message's refusal, the second's, or 16 with the number of entries.
+// The entries written, and how many of them are not 'same'.
 #[derive(Clone, Copy)]
-pub enum Compared {
-    Entries { different: usize, entries: usize },
-    Refused { number: u8, place: usize },
+pub struct Compared {
+    pub different: usize,
+    pub entries: usize,
 }
 
 // What an entry says of a position.
@@ -42,12 +39,6 @@ struct Difference {
     what: u64,
     first: u64,
     second: u64,
-}
-
-#[derive(Clone, Copy)]
-struct Tally {
-    different: usize,
-    entries: usize,
 }
 
 fn is_target_word(entry: u64) -> bool
@@ -191,7 +182,7 @@ fn is_different(e: Difference) -> usize
 }
 
 // All entries, where there is room for them.
-fn put_entries(a: &[u8], b: &[u8], xs: &[u64], ys: &[u64], out: &mut [u8]) -> Tally
+fn put_entries(a: &[u8], b: &[u8], xs: &[u64], ys: &[u64], out: &mut [u8]) -> Compared
     requires table { Table a.now xs.now × Table b.now ys.now }
     requires b_in_bounds { 24 * length (comparison a.now b.now) ≤ length out.old }
     ensures value { result ≡ tally_of (comparison a.now b.now) }
@@ -208,65 +199,39 @@ fn put_entries(a: &[u8], b: &[u8], xs: &[u64], ys: &[u64], out: &mut [u8]) -> Ta
         i = target_behind(xs, i);
         j = target_behind(ys, j);
     }
-    Tally {
+    Compared {
         different,
         entries: p / ENTRY,
     }
 }
 
-fn put_all(a: &[u8], b: &[u8], xs: &[u64], ys: &[u64], out: &mut [u8]) -> Compared
-    requires table { Table a.now xs.now × Table b.now ys.now }
-    requires b_in_bounds { length (comparison a.now b.now) ≤ length out.old / 24 }
-    ensures value { result ≡ enough_for (comparison a.now b.now) (length out.old / 24) }
-    ensures out_after { out.new ≡ room_after result (comparison a.now b.now) out.old }
-{
-    let t = put_entries(a, b, xs, ys, out);
-    Compared::Entries {
-        different: t.different,
-        entries: t.entries,
-    }
-}
-
 // Two accepted messages by their tables. Room for an entry for each item is surely enough: only for less are targets and reports counted before.
-fn compare_tables(a: &[u8], b: &[u8], xs: &[u64], ys: &[u64], out: &mut [u8]) -> Compared
+fn compare_tables(
+    a: &[u8],
+    b: &[u8],
+    xs: &[u64],
+    ys: &[u64],
+    out: &mut [u8],
+) -> Result<Compared, Refusal>
     requires { Table a.now xs.now × Table b.now ys.now }
     ensures value { result ≡ enough_for (comparison a.now b.now) (length out.old / 24) }
     ensures out_after { out.new ≡ room_after result (comparison a.now b.now) out.old }
 {
     let room = out.len() / ENTRY;
     if most(xs.len(), ys.len()) <= room {
-        return put_all(a, b, xs, ys, out);
+        return Ok(put_entries(a, b, xs, ys, out));
     }
     let entries = most(count_targets(xs), count_targets(ys));
     if room < entries {
-        return Compared::Refused {
-            number: 16,
+        return Err(Refusal {
+            fault: Fault::NoRoom,
             place: entries,
-        };
+        });
     }
-    put_all(a, b, xs, ys, out)
+    Ok(put_entries(a, b, xs, ys, out))
 }
 
-// The second message; the first is accepted, and xs is its table.
-fn compare_second(
-    limits: Limits,
-    a: &[u8],
-    b: &[u8],
-    xs: &[u64],
-    out: &mut [u8],
-    ys: &mut [u64],
-) -> Compared
-    requires table { Table a.now xs.now }
-    requires b_in_bounds { (min limits.items (length b.now) ≤ length ys.old) × (limits.bytes < 65536) × (limits.containers < 256) }
-    ensures value { result ≡ second_by (read limits input.Message b.now) (comparison a.now b.now) (length out.old / 24) }
-    ensures out_after { out.new ≡ room_after result (comparison a.now b.now) out.old }
-{
-    match reader::keep(Input::Message, limits, b, ys) {
-        Answer::Refused { number, place } => Compared::Refused { number, place },
-        Answer::Accepted(count) => compare_tables(a, b, xs, &ys[0..count], out),
-    }
-}
-
+// In two tables with room for the items.
 fn compare_in(
     limits: Limits,
     a: &[u8],
@@ -274,48 +239,57 @@ fn compare_in(
     out: &mut [u8],
     xs: &mut [u64],
     ys: &mut [u64],
-) -> Compared
+) -> Result<Compared, Refusal>
     requires a_in_bounds { (min limits.items (length a.now) ≤ length xs.old) × (limits.bytes < 65536) × (limits.containers < 256) }
     requires b_in_bounds { min limits.items (length b.now) ≤ length ys.old }
     ensures value { result ≡ compare_messages limits a.now b.now (length out.old / 24) }
     ensures out_after { out.new ≡ room_after result (comparison a.now b.now) out.old }
 {
-    match reader::keep(Input::Message, limits, a, xs) {
-        Answer::Refused { number, place } => Compared::Refused { number, place },
-        Answer::Accepted(count) => compare_second(limits, a, b, &xs[0..count], out, ys),
-    }
+    let count = reader::keep(Input::Message, limits, a, xs)?;
+    let other = reader::keep(Input::Message, limits, b, ys)?;
+    compare_tables(a, b, &xs[..count], &ys[..other], out)
 }
 
-// Tables of 128 serve two small messages, and are cleared in a fraction of the time.
-fn compare_small(limits: Limits, a: &[u8], b: &[u8], out: &mut [u8]) -> Compared
-    requires a_len_bound { (length a.now ≤ 128) × (limits.bytes < 65536) × (limits.containers < 256) }
-    requires b_len_bound { length b.now ≤ 128 }
+// In tables of so many entries.
+fn compare_by_tables<const N: usize>(
+    limits: Limits,
+    a: &[u8],
+    b: &[u8],
+    out: &mut [u8],
+) -> Result<Compared, Refusal>
+    requires fits { N ≤ 4096 }
+    requires a_in_bounds { (min limits.items (length a.now) ≤ N) × (limits.bytes < 65536) × (limits.containers < 256) }
+    requires b_in_bounds { min limits.items (length b.now) ≤ N }
     ensures value { result ≡ compare_messages limits a.now b.now (length out.old / 24) }
     ensures out_after { out.new ≡ room_after result (comparison a.now b.now) out.old }
 {
-    let mut xs = [0u64; 128];
-    let mut ys = [0u64; 128];
+    let mut xs = [0u64; N];
+    let mut ys = [0u64; N];
     compare_in(limits, a, b, out, &mut xs, &mut ys)
 }
 
-// What differs between two messages within these limits, none above the gate's own: the entries go into the lent room.
-pub fn compare_within(limits: Limits, a: &[u8], b: &[u8], out: &mut [u8]) -> Compared
+// What differs between two messages within these limits, none above the gate's own: the entries go into the lent room. Or the first message's refusal, the
+// second's, or 16 with the number of entries.
+pub fn compare_within(
+    limits: Limits,
+    a: &[u8],
+    b: &[u8],
+    out: &mut [u8],
+) -> Result<Compared, Refusal>
     ensures value { result ≡ compare_messages (capped limits) a.now b.now (length out.old / 24) }
     ensures out_after { out.new ≡ room_after result (comparison a.now b.now) out.old }
 {
     let limit = ari::cap(limits);
-    if a.len() <= 128 {
-        if b.len() <= 128 {
-            return compare_small(limit, a, b, out);
-        }
+    // Small tables are cleared in a fraction of the time.
+    if a.len() <= 128 && b.len() <= 128 {
+        compare_by_tables::<128>(limit, a, b, out)
+    } else {
+        compare_by_tables::<{ ari::ITEMS }>(limit, a, b, out)
     }
-    let mut xs = [0u64; ari::ITEMS];
-    let mut ys = [0u64; ari::ITEMS];
-    compare_in(limit, a, b, out, &mut xs, &mut ys)
 }
 
 // What differs between two messages.
-pub fn compare(a: &[u8], b: &[u8], out: &mut [u8]) -> Compared
+pub fn compare(a: &[u8], b: &[u8], out: &mut [u8]) -> Result<Compared, Refusal>
     ensures value { result ≡ compare_messages gate_limits a.now b.now (length out.old / 24) }
     ensures out_after { out.new ≡ room_after result (comparison a.now b.now) out.old }
 {

@@ -20,15 +20,18 @@ use Rattle.ari.specs.Rules.{Stands}
 use Rattle.ari.specs.Limits.{gate_limits, capped}
 use Rattle.ari.specs.Items.{Items, encode}
 use Rattle.ari.specs.Decode.{decode}
+use Rattle.std.specs.Prelude.{Option, Some, None, Result, Ok, Err}
+use Rattle.ari.specs.declared.Refusal.{Refusal}
+use Rattle.ari.specs.Refusals.{refusal_of}
+use Rattle.ari.specs.Refusals as refusals
 use Rattle.text.specs.Answer.{refused, lent}
 use Rattle.text_write.specs.declared.Written.{Written}
 use Rattle.text_write.specs.Written.{written_of, room_after}
 use Rattle.composer.specs.Compose.{Nonce, null, number, string, other, nonce_of, in_range, nonce_string, wrong, targets, texts_in, order_of, finished, composed_by, compose}
 use Rattle.composer.specs.Code.{feeds, InRange, front_bytes, RestIs, gather_at, TargetsPut, OrderOver, AllBuilt, OrderBuilt, Order}
 use Rattle.composer.specs.declared.Built.{Built}
-use Rattle.composer.specs.declared.Built.TheVariants.{Wrong, Over, Whole}
-use Rattle.composer.specs.declared.Rest.{Rest}
-use Rattle.composer.specs.declared.Rest.TheVariants as rest
+use Rattle.composer.specs.declared.BuildError.{BuildError}
+use Rattle.composer.specs.declared.BuildError.TheVariants.{Wrong, Over}
 use Rattle.composer.proofs.Texts.{clean, many_feeds}
 use Rattle.composer.proofs.Gathering.{Are, gathered_exactly, are_targets, are_many, are_bytes}
 use Rattle.composer.proofs.Order.{order_stands, order_bytes, its_tree}
@@ -67,7 +70,7 @@ module _ (l : Limits) (b : List ℕ) (bytes : (j : ℕ) → Fits w8 (get_or b j 
     as_many : {n : ℕ} {ts : Items} → gather_at (capped l) b 0 0 ≡ targets n ts → n ≡ many
     as_many e = are_many (gathered e) ∙ many_feeds b ∙ sym f
 
-    pub too_many : (z : Nonce) (room : List ℕ) → length room ≤ many → OrderBuilt (capped l) z b room room (Over 0 0)
+    pub too_many : (z : Nonce) (room : List ℕ) → length room ≤ many → OrderBuilt (capped l) z b room room (Err (Over 0 0))
     too_many z room h = record {
       built = record {
         inside = omega arith;
@@ -93,7 +96,7 @@ module _ (l : Limits) (b : List ℕ) (bytes : (j : ℕ) → Fits w8 (get_or b j 
       front_length : {n : ℕ} {ts : Items} → gather_at (capped l) b 0 0 ≡ targets n ts → length (encode (order_of z n ts)) ≡ length (front_bytes z many) + length (encode ts)
       front_length {n} {ts} e = ap length (order_bytes z n ts) ∙ length-append (front_bytes z n) (encode ts) ∙ rw (as_many e)
 
-      pub front_over : length room' ≤ q → OrderBuilt (capped l) z b room room' (Over 0 0)
+      pub front_over : length room' ≤ q → OrderBuilt (capped l) z b room room' (Err (Over 0 0))
       front_over h = record {
         built = record {
           inside = omega arith;
@@ -108,12 +111,12 @@ module _ (l : Limits) (b : List ℕ) (bytes : (j : ℕ) → Fits w8 (get_or b j 
         ends : q ≡ length (front_bytes z many)
         ends = omega (arith, p.place, put_size p)
 
-        pub all_built : {room'' : List ℕ} {r : Built} → TargetsPut (capped l) b room' room'' q 5 r → OrderBuilt (capped l) z b room room'' r
+        pub all_built : {room'' : List ℕ} {r : Result Built BuildError} → TargetsPut (capped l) b room' room'' q 5 r → OrderBuilt (capped l) z b room room'' r
         all_built {room''} {r} t = go r t
           where
-            go : (r : Built) → TargetsPut (capped l) b room' room'' q 5 r → OrderBuilt (capped l) z b room room'' r
-            go (Wrong j) x = record { built = x.built; sized = x.sized ∙ put_size p }
-            go (Over i j) x =
+            go : (r : Result Built BuildError) → TargetsPut (capped l) b room' room'' q 5 r → OrderBuilt (capped l) z b room room'' r
+            go (Err (Wrong j)) x = record { built = x.built; sized = x.sized ∙ put_size p }
+            go (Err (Over i j)) x =
                 let y = x.built.left_over in
                 record {
                   built = record {
@@ -129,12 +132,12 @@ module _ (l : Limits) (b : List ℕ) (bytes : (j : ℕ) → Fits w8 (get_or b j 
                   };
                   sized = x.sized ∙ put_size p;
                 }
-            go (Whole size count) x =
+            go (Ok v) x =
                 let y = x.built in
                 let whole = put_both p y.put in
                 let n : y.many ≡ many = as_many y.are in
                 let bs : encode (order_of z y.many y.items) ≡ front_bytes z many ++ encode y.items = order_bytes z y.many y.items ∙ rw n in
-                let len : size ≡ length (front_bytes z many ++ encode y.items)
+                let len : v.size ≡ length (front_bytes z many ++ encode y.items)
                 = omega (arith, y.size_is, ends, length-append (front_bytes z many) (encode y.items)) in
                 record {
                   built = record {
@@ -151,18 +154,18 @@ module _ (l : Limits) (b : List ℕ) (bytes : (j : ℕ) → Fits w8 (get_or b j 
                 }
 
   -- what a built order answers
-  module _ {z : Nonce} {scratch scratch' : List ℕ} {w : Built} (x : OrderBuilt (capped l) z b scratch scratch' w) where
-    module _ {k : ℕ} (e : w ≡ Wrong k) where
+  module _ {z : Nonce} {scratch scratch' : List ℕ} {w : Result Built BuildError} (x : OrderBuilt (capped l) z b scratch scratch' w) where
+    module _ {k : ℕ} (e : w ≡ Err (Wrong k)) where
       first_wrong : gather_at (capped l) b 0 0 ≡ wrong k
       first_wrong = (rw e at x).built
 
-      pub wrong_text : (i : ℕ) {a : Written} → a ≡ written_of (refused 24 k) → a ≡ written_of (lent i (composed_by (capped l) z (gather_at (capped l) b 0 0)))
-      wrong_text i q = rw first_wrong q
+      pub wrong_text : (i : ℕ) {f : Refusal} → f ≡ refusal_of 24 k → Err f ≡ written_of (lent i (composed_by (capped l) z (gather_at (capped l) b 0 0)))
+      wrong_text i q = rw first_wrong (ap Err q)
 
       pub wrong_text_kept : (i : ℕ) (room : List ℕ) → room ≡ room_after room (lent i (composed_by (capped l) z (gather_at (capped l) b 0 0)))
       wrong_text_kept i room = rw first_wrong
 
-    module _ {p k : ℕ} (e : w ≡ Over p k) where
+    module _ {p k : ℕ} (e : w ≡ Err (Over p k)) where
       over : OrderOver (capped l) z b (length scratch') p k
       over = (rw e at x).built
 
@@ -175,18 +178,18 @@ module _ (l : Limits) (b : List ℕ) (bytes : (j : ℕ) → Fits w8 (get_or b j 
       pub rest_room : gate_limits.bytes < length scratch → gate_limits.bytes ≤ length scratch'
       rest_room h = omega (arith, x.sized)
 
-      module _ {v : Rest} (y : RestIs (gather_at (capped l) b p k) v) where
-        module _ {j : ℕ} (f : v ≡ rest.Wrong j) where
+      module _ {v : Option ℕ} (y : RestIs (gather_at (capped l) b p k) v) where
+        module _ {j : ℕ} (f : v ≡ Some j) where
           later_wrong : gather_at (capped l) b 0 0 ≡ wrong j
           later_wrong = over.wrongs j (rw f at y).rest
 
-          pub later_text : (i : ℕ) {a : Written} → a ≡ written_of (refused 24 j) → a ≡ written_of (lent i (composed_by (capped l) z (gather_at (capped l) b 0 0)))
-          later_text i q = rw later_wrong q
+          pub later_text : (i : ℕ) {f : Refusal} → f ≡ refusal_of 24 j → Err f ≡ written_of (lent i (composed_by (capped l) z (gather_at (capped l) b 0 0)))
+          later_text i q = rw later_wrong (ap Err q)
 
           pub later_text_kept : (i : ℕ) (room : List ℕ) → room ≡ room_after room (lent i (composed_by (capped l) z (gather_at (capped l) b 0 0)))
           later_text_kept i room = rw later_wrong
 
-        module _ (f : v ≡ rest.Right) (h : gate_limits.bytes < length scratch) where
+        module _ (f : v ≡ None) (h : gate_limits.bytes < length scratch) where
           long_order : composed_by (capped l) z (gather_at (capped l) b 0 0) ≡ refused 1 0
           unfolding finished
           long_order =
@@ -197,39 +200,39 @@ module _ (l : Limits) (b : List ℕ) (bytes : (j : ℕ) → Fits w8 (get_or b j 
               too_long : (g : Items) → (capped l).bytes < length (encode g) → finished (capped l) g ≡ refused 1 0
               too_long g n = rw (lt-ltb (capped l).bytes (length (encode g)) n)
 
-          pub too_long_order : (i : ℕ) {a : Written} → a ≡ written_of (refused 1 0) → a ≡ written_of (lent i (composed_by (capped l) z (gather_at (capped l) b 0 0)))
-          too_long_order i q = rw long_order q
+          pub too_long_order : (i : ℕ) → refusals.refused 1 0 ≡ written_of (lent i (composed_by (capped l) z (gather_at (capped l) b 0 0)))
+          too_long_order i = rw long_order
 
           pub too_long_order_kept : (i : ℕ) (room : List ℕ) → room ≡ room_after room (lent i (composed_by (capped l) z (gather_at (capped l) b 0 0)))
           too_long_order_kept i room = rw long_order
 
-    module _ {size count : ℕ} (e : w ≡ Whole size count) where
-      all : AllBuilt (capped l) z b scratch' size count
+    module _ {v : Built} (e : w ≡ Ok v) where
+      all : AllBuilt (capped l) z b scratch' v.size v.count
       all = (rw e at x).built
 
-      pub order_inside : size ≤ length scratch'
+      pub order_inside : v.size ≤ length scratch'
       order_inside = all.fits
 
       module _ (r : in_range z ≡ true) where
         it_stands : Stands Message (order_of z all.many all.items)
         it_stands = order_stands z r all.nonce_fits all.few (are_targets (gathered all.are))
 
-        its_bytes : encode (order_of z all.many all.items) ≡ take (size - 0) scratch'
-        its_bytes = sym (rw (less_none size) all.bytes)
+        its_bytes : encode (order_of z all.many all.items) ≡ take (v.size - 0) scratch'
+        its_bytes = sym (rw (less_none v.size) all.bytes)
 
-        pub an_order : Order (take (size - 0) scratch') count
+        pub an_order : Order (take (v.size - 0) scratch') v.count
         an_order = record { items = order_of z all.many all.items; stands = it_stands; bytes = its_bytes; count_is = sym all.count_is }
 
-        finished_is : finished (capped l) (decode (take (size - 0) scratch')) ≡ composed_by (capped l) z (gather_at (capped l) b 0 0)
+        finished_is : finished (capped l) (decode (take (v.size - 0) scratch')) ≡ composed_by (capped l) z (gather_at (capped l) b 0 0)
         finished_is =
-            let d : order_of z all.many all.items ≡ decode (take (size - 0) scratch') = its_tree it_stands ∙ ap decode its_bytes in
+            let d : order_of z all.many all.items ≡ decode (take (v.size - 0) scratch') = its_tree it_stands ∙ ap decode its_bytes in
             ap (finished (capped l)) (sym d) ∙ sym (ap (composed_by (capped l) z) all.are)
 
-        pub finished_order : (i : ℕ) {a : Written} → a ≡ written_of (lent i (finished (capped l) (decode (take (size - 0) scratch'))))
+        pub finished_order : (i : ℕ) {a : Result Written Refusal} → a ≡ written_of (lent i (finished (capped l) (decode (take (v.size - 0) scratch'))))
             → a ≡ written_of (lent i (composed_by (capped l) z (gather_at (capped l) b 0 0)))
         finished_order i q = rw (← finished_is) q
 
-        pub finished_order_room : (i : ℕ) (room : List ℕ) {room' : List ℕ} → room' ≡ room_after room (lent i (finished (capped l) (decode (take (size - 0) scratch'))))
+        pub finished_order_room : (i : ℕ) (room : List ℕ) {room' : List ℕ} → room' ≡ room_after room (lent i (finished (capped l) (decode (take (v.size - 0) scratch'))))
             → room' ≡ room_after room (lent i (composed_by (capped l) z (gather_at (capped l) b 0 0)))
         finished_order_room i room q = rw (← finished_is) q
 
@@ -244,16 +247,16 @@ module _ (l : Limits) (kind n : ℕ) (s b : List ℕ) {x : Bool} (r : InRange ki
   pub in_range_lem : not x ≡ false → in_range (nonce_of kind n s) ≡ true
   in_range_lem e = sym (r.is s) ∙ not-false x e
 
-  pub no_nonce : not x ≡ true → (i : ℕ) {a : Written} → a ≡ written_of (refused 7 0) → a ≡ written_of (lent i (compose (capped l) (nonce_of kind n s) b))
+  pub no_nonce : not x ≡ true → (i : ℕ) → refusals.refused 7 0 ≡ written_of (lent i (compose (capped l) (nonce_of kind n s) b))
   unfolding compose
-  no_nonce e i q = rw (← r.is s, not-true x e) q
+  no_nonce e i = rw (← r.is s, not-true x e)
 
   pub no_nonce_kept : not x ≡ true → (i : ℕ) (room : List ℕ) → room ≡ room_after room (lent i (compose (capped l) (nonce_of kind n s) b))
   unfolding compose
   no_nonce_kept e i room = rw (← r.is s, not-true x e)
 
   module _ (e : not x ≡ false) where
-    pub a_nonce : (i : ℕ) {a : Written} → a ≡ written_of (lent i (composed_by (capped l) (nonce_of kind n s) (gather_at (capped l) b 0 0)))
+    pub a_nonce : (i : ℕ) {a : Result Written Refusal} → a ≡ written_of (lent i (composed_by (capped l) (nonce_of kind n s) (gather_at (capped l) b 0 0)))
         → a ≡ written_of (lent i (compose (capped l) (nonce_of kind n s) b))
     unfolding compose
     a_nonce i q = rw (in_range_lem e) q

@@ -12,15 +12,16 @@ use mir.Val.{Fits}
 use Rattle.buffer.proofs.ByteLaws.{all_bytes}
 use Rattle.ari.specs.declared.Limits.{Limits}
 use Rattle.ari.specs.declared.Input.TheVariants.{Message}
-use Rattle.ari.specs.Reader.{refuse, accept, read}
-use Rattle.ari.specs.Reader as reader
+use Rattle.ari.specs.Reader.{read}
 use Rattle.ari.specs.Items.{encode, heads, depth}
 use Rattle.ari.specs.Decode.{decode}
 use Rattle.ari.specs.Rules.{Is}
 use Rattle.ari.proofs.Demand.{demand_two, is_read}
-use Rattle.reader.specs.declared.Answer.{Answer}
-use Rattle.reader.specs.declared.Answer.TheVariants.{Accepted, Refused}
-use Rattle.reader.specs.Answers.{answer_of}
+use Rattle.std.specs.Prelude.{Result, Ok, Err}
+use Rattle.ari.specs.declared.Refusal.{Refusal}
+use Rattle.ari.specs.Refusals as refusals
+use Rattle.reader.specs.Results.{result_of}
+use Rattle.reader.proofs.Results.{is_accepted}
 use Rattle.text.specs.Answer.{refused, output, lent}
 use Rattle.text_write.specs.declared.Written.{Written}
 use Rattle.text_write.specs.Written.{written_of, room_after}
@@ -43,8 +44,8 @@ module _ {m m' : Limits} (c : m ≡ m') (b : List ℕ) {count : ℕ} (o : Order 
     unfolding finished
     long = rw (← c, bytes_are, lt-ltb m.bytes (length b) h)
 
-    pub over_bytes : (k : ℕ) {w : Written} → w ≡ written_of (refused 1 0) → w ≡ written_of (lent k (finished m' (decode b)))
-    over_bytes k e = rw long e
+    pub over_bytes : (k : ℕ) → refusals.refused 1 0 ≡ written_of (lent k (finished m' (decode b)))
+    over_bytes k = rw long
 
     pub over_bytes_kept : (k : ℕ) (room : List ℕ) → room ≡ room_after room (lent k (finished m' (decode b)))
     over_bytes_kept k room = rw long
@@ -55,14 +56,14 @@ module _ {m m' : Limits} (c : m ≡ m') (b : List ℕ) {count : ℕ} (o : Order 
       unfolding finished
       many = rw (← c, bytes_are, le-ltb m.bytes (length b) h, heads_are, lt-ltb m.items count i)
 
-      pub over_items : (k : ℕ) {w : Written} → w ≡ written_of (refused 5 0) → w ≡ written_of (lent k (finished m' (decode b)))
-      over_items k e = rw many e
+      pub over_items : (k : ℕ) → refusals.refused 5 0 ≡ written_of (lent k (finished m' (decode b)))
+      over_items k = rw many
 
       pub over_items_kept : (k : ℕ) (room : List ℕ) → room ≡ room_after room (lent k (finished m' (decode b)))
       over_items_kept k room = rw many
 
-    module _ (i : count ≤ m.items) {a : Answer} (q : a ≡ answer_of (read m Message b)) where
-      module _ {r p : ℕ} (g : a ≡ Refused r p) where
+    module _ (i : count ≤ m.items) {a : Result ℕ Refusal} (q : a ≡ result_of (read m Message b)) where
+      module _ {r : Refusal} (g : a ≡ Err r) where
         deep : m.containers < depth (decode b)
         deep = go (leb (depth (decode b)) m.containers) refl
           where
@@ -72,7 +73,7 @@ module _ {m m' : Limits} (c : m ≡ m') (b : List ℕ) {count : ℕ} (o : Order 
                 let y : Is m Message b (decode b) count
                 = record { stands = rw tree at o.stands; bytes = bytes_are; count = heads_are; short = h; few = i; shallow = d } in
                 let x = is_read m Message b y in
-                let u : a ≡ Accepted count = q ∙ ap answer_of x in
+                let u : a ≡ Ok count = q ∙ ap result_of x in
                 absurd (let v : ◌≡◌ {A = ℕ} 0 1 = cc in omega arith)
             go false z = leb-false (depth (decode b)) m.containers z
 
@@ -81,19 +82,15 @@ module _ {m m' : Limits} (c : m ≡ m') (b : List ℕ) {count : ℕ} (o : Order 
         too_deep =
             rw (← c, bytes_are, le-ltb m.bytes (length b) h, heads_are, le-ltb m.items count i, lt-ltb m.containers (depth (decode b)) deep)
 
-        pub over_containers : (k : ℕ) {w : Written} → w ≡ written_of (refused 6 0) → w ≡ written_of (lent k (finished m' (decode b)))
-        over_containers k e = rw too_deep e
+        pub over_containers : (k : ℕ) → refusals.refused 6 0 ≡ written_of (lent k (finished m' (decode b)))
+        over_containers k = rw too_deep
 
         pub over_containers_kept : (k : ℕ) (room : List ℕ) → room ≡ room_after room (lent k (finished m' (decode b)))
         over_containers_kept k room = rw too_deep
 
-      module _ {n : ℕ} (g : a ≡ Accepted n) (bytes : (j : ℕ) → Fits w8 (get_or b j 0)) where
-        accepted : (x : reader.Answer) → a ≡ answer_of x → x ≡ accept n
-        accepted (refuse r p) e = absurd (let z : ◌≡◌ {A = ℕ} 0 1 = cc in omega arith)
-        accepted (accept k) e = let z : k ≡ n = cc in ap accept z
-
+      module _ {n : ℕ} (g : a ≡ Ok n) (bytes : (j : ℕ) → Fits w8 (get_or b j 0)) where
         is : Is m Message b (decode b) n
-        is = (demand_two m Message b n (all_bytes b bytes)).0 (accepted (read m Message b) q)
+        is = (demand_two m Message b n (all_bytes b bytes)).0 (is_accepted m Message b q g)
 
         done : finished m' (decode b) ≡ output b n
         unfolding finished
@@ -108,7 +105,7 @@ module _ {m m' : Limits} (c : m ≡ m') (b : List ℕ) {count : ℕ} (o : Order 
               le-ltb m.containers (depth (decode b)) is.shallow,
             )
 
-        pub handed : (k : ℕ) {w : Written} → w ≡ written_of (lent k (output b n)) → w ≡ written_of (lent k (finished m' (decode b)))
+        pub handed : (k : ℕ) {w : Result Written Refusal} → w ≡ written_of (lent k (output b n)) → w ≡ written_of (lent k (finished m' (decode b)))
         handed k e = rw done e
 
         pub handed_room : (k : ℕ) (room : List ℕ) {room' : List ℕ} → room' ≡ room_after room (lent k (output b n))

@@ -21,10 +21,11 @@ use Rattle.ari.proofs.Decoded.{heads_encode}
 use Rattle.ari.proofs.Join.{join, encode_join, heads_join, join_none}
 use Rattle.composer.specs.Compose.{nothing, reference, reference_in, reference_by, reference_of, Gathered, wrong, targets, with_first, gather}
 use Rattle.composer.specs.Code.{in_text, IsLong, IsTarget, TakesText, PutsText, gather_at, TargetsPut, RestIs}
-use Rattle.composer.specs.declared.Taken.{Taken}
-use Rattle.composer.specs.declared.Taken.TheVariants.{Nothing, TooLong, Target}
-use Rattle.composer.specs.declared.Built.TheVariants.{Wrong, Over, Whole}
-use Rattle.composer.specs.declared.Rest.TheVariants as rest
+use Rattle.std.specs.Prelude.{Option, Some, None, Result, Ok, Err}
+use Rattle.composer.specs.declared.Target.{Target}
+use Rattle.composer.specs.declared.TextError.{TextError}
+use Rattle.composer.specs.declared.TextError.TheVariants.{Other, TooLong}
+use Rattle.composer.specs.declared.BuildError.TheVariants.{Wrong, Over}
 use Rattle.composer.proofs.Texts.{not_ended, ended, none_left}
 use Rattle.composer.proofs.Reading.{tree_of}
 use Rattle.composer.proofs.Gathering.{firsts, encode_front}
@@ -76,7 +77,7 @@ going_begins m b room at first h i = record {
 }
 
 module _ {m : Limits} {b room₀ room : List ℕ} {at first p k q n : ℕ} (g : Going m b room₀ room at first p k q n) where
-  pub going_ends : length b ≤ p → TargetsPut m b room₀ room at first (Whole q n)
+  pub going_ends : length b ≤ p → TargetsPut m b room₀ room at first (Ok (record { size = q; count = n }))
   going_ends h =
       let z : gather_at m b p k ≡ targets 0 none = ap (gather m k) (none_left b p h) in
       record {
@@ -93,7 +94,7 @@ module _ {m : Limits} {b room₀ room : List ℕ} {at first p k q n : ℕ} (g : 
       }
 
   module _ (more : p < length b) {e : ℕ} (r : RunTo in_text b p e) where
-    pub last_unended : e ≡ length b → TargetsPut m b room₀ room at first (Wrong k)
+    pub last_unended : e ≡ length b → TargetsPut m b room₀ room at first (Err (Wrong k))
     last_unended h =
         let z : gather_at m b p k ≡ wrong k = ap (gather m k) (not_ended b p more r h) in
         record { built = g.gathers ∙ ap (before g.many g.items) z; sized = g.sized }
@@ -102,19 +103,21 @@ module _ {m : Limits} {b room₀ room : List ℕ} {at first p k q n : ℕ} (g : 
       text_is : gather_at m b p k ≡ with_first k (reference_of m (part b p e)) (gather_at m b (e + 1) (k + 1))
       text_is = rw (add-one k) (ap (gather m k) (ended b p more r h))
 
-      module _ {w : Taken} {room' : List ℕ} (x : PutsText m (part b p e) room room' q w) where
+      module _ {w : Result Target TextError} {room' : List ℕ} (x : PutsText m (part b p e) room room' q w) where
         sized_on : length room' ≡ length room₀
         sized_on = x.sized ∙ g.sized
 
-        pub no_reference : w ≡ Nothing → TargetsPut m b room₀ room' at first (Wrong k)
-        no_reference c =
+        pub no_reference : {v : TextError} → w ≡ Err v → v ≡ Other → TargetsPut m b room₀ room' at first (Err (Wrong k))
+        no_reference d f =
+            let c = d ∙ ap Err f in
             let y : reference_of m (part b p e) ≡ nothing = (rw c at x).taken in
             let z : gather_at m b p k ≡ wrong k = text_is ∙ rw y in
             record { built = g.gathers ∙ ap (before g.many g.items) z; sized = sized_on }
 
-        pub no_room_left : w ≡ TooLong → TargetsPut m b room₀ room' at first (Over p k)
+        pub no_room_left : {v : TextError} → w ≡ Err v → v ≡ TooLong → TargetsPut m b room₀ room' at first (Err (Over p k))
         unfolding reference_of
-        no_room_left c =
+        no_room_left d f =
+            let c = d ∙ ap Err f in
             let y : IsLong m (part b p e) (length room - q) = (rw c at x).taken in
             record {
               built = record {
@@ -151,13 +154,13 @@ module _ {m : Limits} {b room₀ room : List ℕ} {at first p k q n : ℕ} (g : 
                   ap length u,
                 )
 
-        pub target_put : {size count : ℕ} → w ≡ Target size count → Going m b room₀ room' at first (e + 1) (k + 1) (q + size) (n + count)
-        target_put {size} {count} c =
-            let y : IsTarget m (part b p e) room room' q size count = (rw c at x).taken in
+        pub target_put : {v : Target} → w ≡ Ok v → Going m b room₀ room' at first (e + 1) (k + 1) (q + v.size) (n + v.count)
+        target_put {v} c =
+            let y : IsTarget m (part b p e) room room' q v.size v.count = (rw c at x).taken in
             let one : Items = item y.lead y.str y.inside none in
             let z : gather_at m b p k ≡ with_first k (reference y.lead y.str y.inside) (gather_at m b (e + 1) (k + 1)) = text_is ∙ rw y.is in
             let i : e < length b = omega (arith, r.inside) in
-            let put_one : Put room room' q (q + size) (encode one) = record { bytes = y.room_is; place = omega (arith, y.fits, y.size_is) } in
+            let put_one : Put room room' q (q + v.size) (encode one) = record { bytes = y.room_is; place = omega (arith, y.fits, y.size_is) } in
             record {
               items = join g.items one;
               many = g.many + 1;
@@ -172,15 +175,15 @@ module _ {m : Limits} {b room₀ room : List ℕ} {at first p k q n : ℕ} (g : 
               few = omega (arith, g.few, heads_encode one, y.count_is, y.size_is);
             }
 
-        module _ {size count : ℕ} (c : w ≡ Target size count) (f : length room₀ < 2 ^ 64) where
-          pub place_fits : Fits w64 (q + size)
+        module _ {v : Target} (c : w ≡ Ok v) (f : length room₀ < 2 ^ 64) where
+          pub place_fits : Fits w64 (q + v.size)
           place_fits =
-              let y : IsTarget m (part b p e) room room' q size count = (rw c at x).taken in
+              let y : IsTarget m (part b p e) room room' q v.size v.count = (rw c at x).taken in
               record { fits = omega (arith, y.fits, g.sized, f) }
 
-          pub count_fits : Fits w64 (n + count)
+          pub count_fits : Fits w64 (n + v.count)
           count_fits =
-              let y : IsTarget m (part b p e) room room' q size count = (rw c at x).taken in
+              let y : IsTarget m (part b p e) room room' q v.size v.count = (rw c at x).taken in
               record { fits = omega (arith, g.few, heads_encode (item y.lead y.str y.inside none), y.count_is, y.size_is, y.fits, g.sized, f) }
 
 pub ruleset going = (going_begins, going_ends, last_unended, no_reference, no_room_left, target_put, place_fits, count_fits)
@@ -208,13 +211,13 @@ module _ (l : Limits) (b room : List ℕ) (at number : ℕ) where
   }
 
 module _ {m : Limits} {b room₀ room : List ℕ} {at number p k : ℕ} (g : Onward m b room₀ room at number p k) where
-  pub onward_ends : length b ≤ p → RestIs (gather_at m b at number) rest.Right
+  pub onward_ends : length b ≤ p → RestIs (gather_at m b at number) None
   onward_ends h =
       let z : gather_at m b p k ≡ targets 0 none = ap (gather m k) (none_left b p h) in
       record { rest = record { many = g.many + 0; items = join g.items none; are = g.gathers ∙ ap (before g.many g.items) z } }
 
   module _ (more : p < length b) {e : ℕ} (r : RunTo in_text b p e) where
-    pub rest_unended : e ≡ length b → RestIs (gather_at m b at number) (rest.Wrong k)
+    pub rest_unended : e ≡ length b → RestIs (gather_at m b at number) (Some k)
     rest_unended h =
         let z : gather_at m b p k ≡ wrong k = ap (gather m k) (not_ended b p more r h) in
         record { rest = g.gathers ∙ ap (before g.many g.items) z }
@@ -223,21 +226,19 @@ module _ {m : Limits} {b room₀ room : List ℕ} {at number p k : ℕ} (g : Onw
       next_is : gather_at m b p k ≡ with_first k (reference_of m (part b p e)) (gather_at m b (e + 1) (k + 1))
       next_is = rw (add-one k) (ap (gather m k) (ended b p more r h))
 
-      module _ {w : Taken} {room' : List ℕ} (x : TakesText m (part b p e) room room' w) where
-        pub rest_wrong : w ≡ Nothing → RestIs (gather_at m b at number) (rest.Wrong k)
-        rest_wrong c =
+      module _ {w : Result Target TextError} {room' : List ℕ} (x : TakesText m (part b p e) room room' w) where
+        pub rest_wrong : (v : TextError) → w ≡ Err v → RestIs (gather_at m b at number) (Some k)
+        rest_wrong Other c =
             let y : reference_of m (part b p e) ≡ nothing = (rw c at x).taken in
             let z : gather_at m b p k ≡ wrong k = next_is ∙ rw y in
             record { rest = g.gathers ∙ ap (before g.many g.items) z }
-
-        pub rest_never : w ≡ TooLong → RestIs (gather_at m b at number) (rest.Wrong k)
-        rest_never c =
+        rest_wrong TooLong c =
             let y : IsLong m (part b p e) (length room) = (rw c at x).taken in
             absurd (omega (arith, y.longer, y.short, g.holds))
 
-        pub onward_on : {size count : ℕ} → w ≡ Target size count → Onward m b room₀ room' at number (e + 1) (k + 1)
-        onward_on {size} {count} c =
-            let y : IsTarget m (part b p e) room room' 0 size count = (rw c at x).taken in
+        pub onward_on : {v : Target} → w ≡ Ok v → Onward m b room₀ room' at number (e + 1) (k + 1)
+        onward_on {v} c =
+            let y : IsTarget m (part b p e) room room' 0 v.size v.count = (rw c at x).taken in
             let z : gather_at m b p k ≡ with_first k (reference y.lead y.str y.inside) (gather_at m b (e + 1) (k + 1)) = next_is ∙ rw y.is in
             let i : e < length b = omega (arith, r.inside) in
             record {
@@ -250,4 +251,4 @@ module _ {m : Limits} {b room₀ room : List ℕ} {at number p k : ℕ} (g : Onw
               sized = x.sized ∙ g.sized;
             }
 
-pub ruleset onward = (onward_begins, onward_ends, rest_unended, rest_wrong, rest_never, onward_on)
+pub ruleset onward = (onward_begins, onward_ends, rest_unended, rest_wrong, onward_on)

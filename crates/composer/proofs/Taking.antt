@@ -24,28 +24,43 @@ use Rattle.ari.specs.Rules.{Stands, single_ari}
 use Rattle.ari.specs.Decode.{decode}
 use Rattle.text.specs.Answer.{Output, refused, output, read_text, lent, Spelled}
 use Rattle.text.proofs.Round.{read_exactly, read_too_long, read_refusals}
+use Rattle.std.specs.Prelude.{Result, Ok, Err}
+use Rattle.ari.specs.declared.Fault.{Fault}
+use Rattle.ari.specs.declared.Fault.TheVariants.{NoRoom}
+use Rattle.ari.specs.declared.Refusal.{Refusal}
+use Rattle.ari.specs.Refusals.{fault_of, refusal_of}
+use Rattle.ari.specs.Refusals as refusals
 use Rattle.text_write.specs.declared.Written.{Written}
-use Rattle.text_write.specs.declared.Written.TheVariants.{Bytes, Refused}
-use Rattle.text_write.specs.Written.{written_of, room_after}
+use Rattle.text_write.specs.Written.{bytes_of, written_of, room_after}
 use Rattle.composer.specs.Compose.{nothing, reference, is_object, reference_in, reference_by, reference_of}
 use Rattle.composer.specs.Code.{is_object_at, TakesText, PutsText}
-use Rattle.composer.specs.declared.Taken.{Taken}
-use Rattle.composer.specs.declared.Taken.TheVariants.{Nothing, TooLong, Target}
+use Rattle.composer.specs.declared.Target.{Target}
+use Rattle.composer.specs.declared.TextError.{TextError}
+use Rattle.composer.specs.declared.TextError.TheVariants.{Other, TooLong}
 use Rattle.composer.proofs.Reading.{sound_single}
 
-never_sixteen : (m : Limits) (t : List ℕ) {p : ℕ} → read_text m t ≡ refused 16 p → ⊥
-never_sixteen m t e = go (read_refusals m t e)
+-- no text is refused for want of room
+never_full : (m : Limits) (t : List ℕ) {r p : ℕ} → read_text m t ≡ refused r p → fault_of r ≡ NoRoom → ⊥
+never_full m t {r} e f = go (read_refusals m t e)
   where
-    go : (◌≡◌ {A = ℕ} 16 1) ⊎ (◌≡◌ {A = ℕ} 16 15) → ⊥
-    go (inl q) = omega arith
-    go (inr q) = omega arith
+    go : (r ≡ 1) ⊎ (r ≡ 15) → ⊥
+    go (inl q) = let y = rw q at f in let z : ◌≡◌ {A = ℕ} 0 1 = cc in omega arith
+    go (inr q) = let y = rw q at f in let z : ◌≡◌ {A = ℕ} 0 1 = cc in omega arith
 
 -- the three ways of reading a text into a room
-data Ways (m : Limits) (t room : List ℕ) (w : Written) (room' : List ℕ) : Type 0 where
-  was_refused : (r p : ℕ) → read_text m t ≡ refused r p → w ≡ Refused r p → room' ≡ room → Ways m t room w room'
-  was_long : (b : List ℕ) (n : ℕ) → read_text m t ≡ output b n → length room < length b → w ≡ Refused 16 (length b) → room' ≡ room → Ways m t room w room'
-  was_read : (b : List ℕ) (n : ℕ) → read_text m t ≡ output b n → length b ≤ length room → w ≡ Bytes (length b) n → room' ≡ b ++ drop (length b) room
+data Ways (m : Limits) (t room : List ℕ) (w : Result Written Refusal) (room' : List ℕ) : Type 0 where
+  was_refused : (r p : ℕ) → read_text m t ≡ refused r p → w ≡ refusals.refused r p → room' ≡ room → Ways m t room w room'
+  was_long : (b : List ℕ) (n : ℕ) → read_text m t ≡ output b n → length room < length b → w ≡ refusals.refused 16 (length b) → room' ≡ room → Ways m t room w room'
+  was_read : (b : List ℕ) (n : ℕ) → read_text m t ≡ output b n → length b ≤ length room → w ≡ bytes_of (length b) n → room' ≡ b ++ drop (length b) room
       → Ways m t room w room'
+
+same_refusal : {w : Result Written Refusal} {e e' : Refusal} → w ≡ Err e → w ≡ Err e' → e ≡ e'
+same_refusal p q = cc
+
+same_bytes : {w : Result Written Refusal} {x : Written} {l n : ℕ} → w ≡ Ok x → w ≡ bytes_of l n → (l ≡ x.length) × (n ≡ x.count)
+same_bytes {w} {x} {l} {n} p q =
+    let d : ◌≡◌ {A = Written} (record { length = l; count = n }) x = cc in
+    (ap (λ (v : Written). v.length) d, ap (λ (v : Written). v.count) d)
 
 -- an ARI at the front of a room
 record Fronts (g : Items) (room : List ℕ) : Type 0 where
@@ -76,7 +91,7 @@ one_other a e = ap reference_in a.one ∙ rw e
 at_the_front : (b room : List ℕ) → length b ≤ length room → sets room 0 b ≡ b ++ drop (length b) room
 at_the_front b room h = let z : 0 + length b ≡ length b = omega arith in sets-eq b room 0 (omega arith) ∙ ap (λ (i : ℕ). b ++ drop i room) z
 
-module _ (l : Limits) (t : List ℕ) (bytes : (j : ℕ) → Fits w8 (get_or t j 0)) (room : List ℕ) {w : Written} (e : w ≡ written_of (lent (length room) (read_text (capped l) t)))
+module _ (l : Limits) (t : List ℕ) (bytes : (j : ℕ) → Fits w8 (get_or t j 0)) (room : List ℕ) {w : Result Written Refusal} (e : w ≡ written_of (lent (length room) (read_text (capped l) t)))
     {room' : List ℕ} (f : room' ≡ room_after room (lent (length room) (read_text (capped l) t))) where
   ways : Ways (capped l) t room w room'
   ways = go (read_text (capped l) t) refl e f
@@ -107,30 +122,32 @@ module _ (l : Limits) (t : List ℕ) (bytes : (j : ℕ) → Fits w8 (get_or t j 
   front_of : {b : List ℕ} {n : ℕ} (i : read_text (capped l) t ≡ output b n) → Fronts (decode b) (b ++ drop (length b) room)
   front_of {b} i = let y = spelled i in fronts (drop (length b) room) y.is.bytes y.is.stands
 
-  module _ {r p : ℕ} (g : w ≡ Refused r p) where
-    pub ari_too_long : r ≡ 16 → TakesText (capped l) t room room' TooLong
+  module _ {v : Refusal} (g : w ≡ Err v) where
+    pub ari_too_long : v.fault ≡ NoRoom → TakesText (capped l) t room room' (Err TooLong)
     ari_too_long q = go ways
       where
-        go : Ways (capped l) t room w room' → TakesText (capped l) t room room' TooLong
-        go (was_refused r' p' i a c) = let z : r' ≡ 16 = cc in absurd (never_sixteen (capped l) t (rw z at i))
+        go : Ways (capped l) t room w room' → TakesText (capped l) t room room' (Err TooLong)
+        go (was_refused r p i a c) =
+            let z : v.fault ≡ fault_of r = ap (λ (x : Refusal). x.fault) (same_refusal g a) in
+            absurd (never_full (capped l) t i (sym z ∙ q))
         go (was_long b n i h a c) = record { taken = record { ari = b; count = n; is = i; whole = (spelled i).is.bytes; short = (spelled i).is.short; longer = h }; sized = ap length c }
         go (was_read b n i h a c) = absurd (let z : ◌≡◌ {A = ℕ} 0 1 = cc in omega arith)
 
-    pub text_refused : (r ≡ 16 → ⊥) → TakesText (capped l) t room room' Nothing
+    pub text_refused : (v.fault ≡ NoRoom → ⊥) → TakesText (capped l) t room room' (Err Other)
     unfolding reference_of
     text_refused q = go ways
       where
-        go : Ways (capped l) t room w room' → TakesText (capped l) t room room' Nothing
-        go (was_refused r' p' i a c) = record { taken = rw i; sized = ap length c }
-        go (was_long b n i h a c) = absurd (q (let z : r ≡ 16 = cc in z))
+        go : Ways (capped l) t room w room' → TakesText (capped l) t room room' (Err Other)
+        go (was_refused r p i a c) = record { taken = rw i; sized = ap length c }
+        go (was_long b n i h a c) = absurd (q (ap (λ (x : Refusal). x.fault) (same_refusal g a)))
         go (was_read b n i h a c) = absurd (let z : ◌≡◌ {A = ℕ} 0 1 = cc in omega arith)
 
-  module _ {size count : ℕ} (g : w ≡ Bytes size count) {x : Bool} (o : x ≡ is_object_at room') where
+  module _ {y : Written} (g : w ≡ Ok y) {x : Bool} (o : x ≡ is_object_at room') where
     room_sized : (b : List ℕ) → length b ≤ length room → room' ≡ b ++ drop (length b) room → length room' ≡ length room
     room_sized b h c = omega (arith, ap length c, length-append b (drop (length b) room), length-drop (length b) room)
 
     -- it was read, and nothing else
-    when_read : {P : Type 0} → ((b : List ℕ) (n : ℕ) → read_text (capped l) t ≡ output b n → length b ≤ length room → w ≡ Bytes (length b) n → room' ≡ b ++ drop (length b) room → P) → P
+    when_read : {P : Type 0} → ((b : List ℕ) (n : ℕ) → read_text (capped l) t ≡ output b n → length b ≤ length room → w ≡ bytes_of (length b) n → room' ≡ b ++ drop (length b) room → P) → P
     when_read {P} f = go ways
       where
         go : Ways (capped l) t room w room' → P
@@ -142,14 +159,13 @@ module _ (l : Limits) (t : List ℕ) (bytes : (j : ℕ) → Fits w8 (get_or t j 
     head_is : {b : List ℕ} {n : ℕ} (i : read_text (capped l) t ≡ output b n) → room' ≡ b ++ drop (length b) room → {v : Bool} → x ≡ v → is_object (front_of i).lead ≡ v
     head_is i c q = sym (front_of i).object_is ∙ ap is_object_at (sym c) ∙ sym o ∙ q
 
-    pub target_taken : x ≡ true → TakesText (capped l) t room room' (Target size count)
+    pub target_taken : x ≡ true → TakesText (capped l) t room room' (Ok (record { size = y.length; count = y.count }))
     unfolding reference_of
     target_taken q = when_read (λ b n i h v c.
-        let y = spelled i in
+        let u = spelled i in
         let a = front_of i in
-        let bs : encode (item a.lead a.str a.inside none) ≡ b = ap encode (sym a.one) ∙ y.is.bytes in
-        let sz : length b ≡ size = cc in
-        let ct : n ≡ count = cc in
+        let bs : encode (item a.lead a.str a.inside none) ≡ b = ap encode (sym a.one) ∙ u.is.bytes in
+        let (sz, ct) = same_bytes g v in
         record {
           taken = record {
             lead = a.lead;
@@ -157,14 +173,14 @@ module _ (l : Limits) (t : List ℕ) (bytes : (j : ℕ) → Fits w8 (get_or t j 
             inside = a.inside;
             is = ap reference_by i ∙ one_target a (head_is i c q);
             size_is = ap length bs ∙ sz;
-            count_is = ap heads (sym a.one) ∙ y.is.count ∙ ct;
+            count_is = ap heads (sym a.one) ∙ u.is.count ∙ ct;
             fits = omega (arith, h, sz);
             room_is = c ∙ rw bs (sym (at_the_front b room h));
           };
           sized = room_sized b h c;
         })
 
-    pub no_target : x ≡ false → TakesText (capped l) t room room' Nothing
+    pub no_target : x ≡ false → TakesText (capped l) t room room' (Err Other)
     unfolding reference_of
     no_target q = when_read (λ b n i h v c. record { taken = ap reference_by i ∙ one_other (front_of i) (head_is i c q); sized = room_sized b h c })
 
@@ -179,7 +195,7 @@ part_back room at u {sub} h e =
     rw (gone, e, whole, append-nil (u ++ drop (length u) (drop at room)), drop-drop (length u) at room)
     (sym (sets-eq u room at h ∙ append_assoc (take at room) u (drop (at + length u) room)))
 
-module _ {m : Limits} {t sub : List ℕ} {r : Taken} (room : List ℕ) (at : ℕ) (h : at ≤ length room) (x : TakesText m t (take (length room - at) (drop at room)) sub r) where
+module _ {m : Limits} {t sub : List ℕ} {r : Result Target TextError} (room : List ℕ) (at : ℕ) (h : at ≤ length room) (x : TakesText m t (take (length room - at) (drop at room)) sub r) where
   part_length : length (take (length room - at) (drop at room)) ≡ length room - at
   part_length = omega (arith, length-take (length room - at) (drop at room), length-drop at room)
 
@@ -191,11 +207,11 @@ module _ {m : Limits} {t sub : List ℕ} {r : Taken} (room : List ℕ) (at : ℕ
       sized_back e =
           simp length-append (omega (arith, e, part_length, length-take at room, length-drop (length room - at) (drop at room), length-drop at room))
 
-      go : (r : Taken) → TakesText m t (take (length room - at) (drop at room)) sub r
+      go : (r : Result Target TextError) → TakesText m t (take (length room - at) (drop at room)) sub r
           → PutsText m t room (take at room ++ (sub ++ drop (length room - at) (drop at room))) at r
-      go Nothing y = record { taken = y.taken; sized = sized_back y.sized }
-      go TooLong y = record { taken = rw part_length at y.taken; sized = sized_back y.sized }
-      go (Target size count) y =
+      go (Err Other) y = record { taken = y.taken; sized = sized_back y.sized }
+      go (Err TooLong) y = record { taken = rw part_length at y.taken; sized = sized_back y.sized }
+      go (Ok x) y =
           let z = y.taken in
           let f : at + length (encode (item z.lead z.str z.inside none)) ≤ length room = omega (arith, z.fits, z.size_is, part_length) in
           record {

@@ -1,5 +1,5 @@
 -- Private to src/: what the functions that gather targets and put the order's bytes leave behind.
-use Rattle.std.specs.Prelude.{ℕ, suc, ◌+◌, ◌-◌, ◌≤◌, ◌<◌, ◌≡◌, Bool, false, not, ◌&&◌, cond, List, [], ◌∷◌, ◌++◌, length, drop, take, eqb}
+use Rattle.std.specs.Prelude.{Option, Some, None, Result, Ok, Err, ℕ, suc, ◌+◌, ◌-◌, ◌≤◌, ◌<◌, ◌≡◌, Bool, false, not, ◌&&◌, cond, List, [], ◌∷◌, ◌++◌, length, drop, take, eqb}
 use Rattle.std.proofs.lemmas.List.Edits.{sets}
 use Rattle.buffer.specs.Bytes.{within}
 use Rattle.buffer.specs.Put.{Put}
@@ -15,12 +15,12 @@ use Rattle.ari.specs.Decode.{decode}
 use Rattle.ari.specs.Rules.{Stands}
 use Rattle.text.specs.Answer.{output, read_text}
 use Rattle.composer.specs.Compose.{Nonce, nonce_of, in_range, nonce_lead, nonce_string, texts_in, nothing, reference, reference_of, Gathered, wrong, targets, gather, order_of}
-use Rattle.composer.specs.declared.Taken.{Taken}
-use Rattle.composer.specs.declared.Taken.TheVariants.{Nothing, TooLong, Target}
-use Rattle.composer.specs.declared.Rest.{Rest}
-use Rattle.composer.specs.declared.Rest.TheVariants as rest
+use Rattle.composer.specs.declared.Target.{Target}
+use Rattle.composer.specs.declared.TextError.{TextError}
+use Rattle.composer.specs.declared.TextError.TheVariants.{Other, TooLong}
 use Rattle.composer.specs.declared.Built.{Built}
-use Rattle.composer.specs.declared.Built.TheVariants.{Wrong, Over, Whole}
+use Rattle.composer.specs.declared.BuildError.{BuildError}
+use Rattle.composer.specs.declared.BuildError.TheVariants.{Wrong, Over}
 
 -- up to a line feed
 unfoldable pub in_text : ℕ → Bool
@@ -76,22 +76,22 @@ pub record IsTarget (m : Limits) (t room room' : List ℕ) (at size count : ℕ)
   pub fits : at + size ≤ length room
   pub room_is : room' ≡ sets room at (encode (item lead str inside none))
 
-abbrev pub TakenBy : Limits → List ℕ → List ℕ → List ℕ → Taken → Type 0
-TakenBy m t room room' Nothing = reference_of m t ≡ nothing
-TakenBy m t room room' TooLong = IsLong m t (length room)
-TakenBy m t room room' (Target size count) = IsTarget m t room room' 0 size count
+abbrev pub TakenBy : Limits → List ℕ → List ℕ → List ℕ → Result Target TextError → Type 0
+TakenBy m t room room' (Err Other) = reference_of m t ≡ nothing
+TakenBy m t room room' (Err TooLong) = IsLong m t (length room)
+TakenBy m t room room' (Ok x) = IsTarget m t room room' 0 x.size x.count
 
-pub record TakesText (m : Limits) (t room room' : List ℕ) (r : Taken) : Type 0 where
+pub record TakesText (m : Limits) (t room room' : List ℕ) (r : Result Target TextError) : Type 0 where
   pub taken : TakenBy m t room room' r
   pub sized : length room' ≡ length room
 
 -- the same in a room from a place on
-abbrev pub PutBy : Limits → List ℕ → List ℕ → List ℕ → ℕ → Taken → Type 0
-PutBy m t room room' at Nothing = reference_of m t ≡ nothing
-PutBy m t room room' at TooLong = IsLong m t (length room - at)
-PutBy m t room room' at (Target size count) = IsTarget m t room room' at size count
+abbrev pub PutBy : Limits → List ℕ → List ℕ → List ℕ → ℕ → Result Target TextError → Type 0
+PutBy m t room room' at (Err Other) = reference_of m t ≡ nothing
+PutBy m t room room' at (Err TooLong) = IsLong m t (length room - at)
+PutBy m t room room' at (Ok x) = IsTarget m t room room' at x.size x.count
 
-pub record PutsText (m : Limits) (t room room' : List ℕ) (at : ℕ) (r : Taken) : Type 0 where
+pub record PutsText (m : Limits) (t room room' : List ℕ) (at : ℕ) (r : Result Target TextError) : Type 0 where
   pub taken : PutBy m t room room' at r
   pub sized : length room' ≡ length room
 
@@ -106,11 +106,11 @@ pub record AreTargets (g : Gathered) : Type 0 where
   pub are : g ≡ targets many items
 
 -- the first that is no object reference, if there is one
-abbrev pub RestBy : Gathered → Rest → Type 0
-RestBy g (rest.Wrong k) = g ≡ wrong k
-RestBy g rest.Right = AreTargets g
+abbrev pub RestBy : Gathered → Option ℕ → Type 0
+RestBy g (Some k) = g ≡ wrong k
+RestBy g None = AreTargets g
 
-pub record RestIs (g : Gathered) (r : Rest) : Type 0 where
+pub record RestIs (g : Gathered) (r : Option ℕ) : Type 0 where
   pub rest : RestBy g r
 
 -- What is left to be judged decides the whole: the texts from a place on are right or wrong as all are. If they are right, then all have `size` bytes at least.
@@ -143,12 +143,12 @@ pub record AllPut (m : Limits) (b room room' : List ℕ) (at before size count :
   pub count_is : count ≡ before + heads items
 
 -- the targets put from `at` on, with so many items before them
-abbrev pub TargetsBy : Limits → List ℕ → List ℕ → List ℕ → ℕ → ℕ → Built → Type 0
-TargetsBy m b room room' at before (Wrong k) = gather_at m b 0 0 ≡ wrong k
-TargetsBy m b room room' at before (Over p k) = RoomOver m b (length room) at p k
-TargetsBy m b room room' at before (Whole size count) = AllPut m b room room' at before size count
+abbrev pub TargetsBy : Limits → List ℕ → List ℕ → List ℕ → ℕ → ℕ → Result Built BuildError → Type 0
+TargetsBy m b room room' at before (Err (Wrong k)) = gather_at m b 0 0 ≡ wrong k
+TargetsBy m b room room' at before (Err (Over p k)) = RoomOver m b (length room) at p k
+TargetsBy m b room room' at before (Ok x) = AllPut m b room room' at before x.size x.count
 
-pub record TargetsPut (m : Limits) (b room room' : List ℕ) (at before : ℕ) (r : Built) : Type 0 where
+pub record TargetsPut (m : Limits) (b room room' : List ℕ) (at before : ℕ) (r : Result Built BuildError) : Type 0 where
   pub built : TargetsBy m b room room' at before r
   pub sized : length room' ≡ length room
 
@@ -176,12 +176,12 @@ pub record OrderOver (m : Limits) (z : Nonce) (b : List ℕ) (room p k : ℕ) : 
   pub wrongs : (j : ℕ) → gather_at m b p k ≡ wrong j → gather_at m b 0 0 ≡ wrong j
   pub rights : AreTargets (gather_at m b p k) → LongOrder z (gather_at m b 0 0) room
 
-abbrev pub OrderBy : Limits → Nonce → List ℕ → List ℕ → Built → Type 0
-OrderBy m z b room' (Wrong k) = gather_at m b 0 0 ≡ wrong k
-OrderBy m z b room' (Over p k) = OrderOver m z b (length room') p k
-OrderBy m z b room' (Whole size count) = AllBuilt m z b room' size count
+abbrev pub OrderBy : Limits → Nonce → List ℕ → List ℕ → Result Built BuildError → Type 0
+OrderBy m z b room' (Err (Wrong k)) = gather_at m b 0 0 ≡ wrong k
+OrderBy m z b room' (Err (Over p k)) = OrderOver m z b (length room') p k
+OrderBy m z b room' (Ok x) = AllBuilt m z b room' x.size x.count
 
-pub record OrderBuilt (m : Limits) (z : Nonce) (b room room' : List ℕ) (r : Built) : Type 0 where
+pub record OrderBuilt (m : Limits) (z : Nonce) (b room room' : List ℕ) (r : Result Built BuildError) : Type 0 where
   pub built : OrderBy m z b room' r
   pub sized : length room' ≡ length room
 

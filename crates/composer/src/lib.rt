@@ -6,14 +6,14 @@ ghost use Rattle.buffer.specs.Put.{Put};
 ghost use Rattle.buffer.specs.Runs.{RunTo};
 ghost use Rattle.ari.specs.Limits.{gate_limits, capped};
 ghost use Rattle.ari.specs.Decode.{decode};
-ghost use Rattle.text.specs.Answer.{refused, lent};
+ghost use Rattle.ari.specs.Refusals.{refusal_of};
+ghost use Rattle.text.specs.Answer.{lent};
 ghost use Rattle.text_write.specs.Written.{written_of, room_after};
 ghost use Rattle.answer_codes.specs.Code.{text_code};
 ghost use Rattle.composer.specs.Compose.{nonce_of, in_range, finished, composed_by, compose};
 ghost use Rattle.composer.specs.Code.{in_text, feed_of, feeds, InRange, is_object_at, opening, nonce_bytes, front_bytes, TakesText, PutsText, RestIs, gather_at, TargetsPut, OrderBuilt, Order};
 
-use ari::Limits;
-use reader::Answer;
+use ari::{Fault, Limits, Refusal};
 use text_write::Written;
 
 // How a nonce is given.
@@ -26,28 +26,33 @@ const STRING: u64 = 2;
 // The greatest number that a nonce may be.
 const GREATEST: u64 = 9223372036854775807;
 
-// A text read into a room: no object reference, an ARI that the room is too short for, or a target of so many bytes and items.
+// A target in a room: so many bytes and items.
 #[derive(Clone, Copy)]
-pub enum Taken {
-    Nothing,
+pub struct Target {
+    pub size: usize,
+    pub count: usize,
+}
+
+// Why a text gives no target: it is no object reference, or the room is too short for its ARI.
+#[derive(Clone, Copy)]
+pub enum TextError {
+    Other,
     TooLong,
-    Target { size: usize, count: usize },
 }
 
-// Of texts the first that is no object reference, if there is one.
+// An order in a room: so many bytes and items.
 #[derive(Clone, Copy)]
-pub enum Rest {
-    Right,
-    Wrong(usize),
+pub struct Built {
+    pub size: usize,
+    pub count: usize,
 }
 
-// An order put into a room: the text of this number is no object reference; or the room is too short, and the texts from a place on, the first of which has
-// this number, were not looked at; or it has so many bytes and items.
+// Why no order is built: the text of this number is no object reference; or the room is too short, and the texts from a place on, the first of which
+// has this number, were not looked at.
 #[derive(Clone, Copy)]
-pub enum Built {
+pub enum BuildError {
     Wrong(usize),
     Over { at: usize, number: usize },
-    Whole { size: usize, count: usize },
 }
 
 fn is_in_text(x: u8) -> bool
@@ -61,15 +66,12 @@ fn text_end(texts: &[u8], from: usize) -> usize
     requires { from ≤ length texts.now }
     ensures { RunTo in_text texts.now from result }
 {
-    let mut i = from;
-    while i < texts.len() {
-        if is_in_text(texts[i]) {
-            i += 1;
-        } else {
+    for i in from..texts.len() {
+        if !is_in_text(texts[i]) {
             return i;
         }
     }
-    i
+    texts.len()
 }
 
 fn feed(x: u8) -> usize
@@ -87,10 +89,8 @@ fn count_texts(texts: &[u8]) -> usize
     ensures { result ≡ feeds texts.now }
 {
     let mut n = 0;
-    let mut i = 0;
-    while i < texts.len() {
-        n += feed(texts[i]);
-        i += 1;
+    for x in texts {
+        n += feed(*x);
     }
     n
 }
@@ -141,45 +141,37 @@ fn put_front(kind: u64, number: u64, nonce: &[u8], many: usize, out: &mut [u8]) 
 fn is_object(b: &[u8]) -> bool
     ensures { result ≡ is_object_at b.now }
 {
-    match cbor::head_again(b, 0) {
-        cbor::Head::Good { kind, arg, .. } => {
-            if kind == cbor::ARRAY {
-                if 3 <= arg {
-                    return arg <= 4;
-                }
-            }
-            false
-        }
-        cbor::Head::Bad(_) => false,
-    }
+    let cbor::Head::Good { kind, arg, .. } = cbor::head_again(b, 0) else {
+        return false;
+    };
+    kind == cbor::ARRAY && 3 <= arg && arg <= 4
 }
 
 // A text without its line feed. Its ARI goes to the front of the room.
-fn take_text(limits: Limits, t: &[u8], room: &mut [u8]) -> Taken
+fn take_text(limits: Limits, t: &[u8], room: &mut [u8]) -> Result<Target, TextError>
     ensures { TakesText (capped limits) t.now room.old room.new result }
 {
-    let w = text_read::read_text_within(limits, t, room);
-    match w {
-        Written::Refused { number, .. } => {
-            if number == 16 {
-                return Taken::TooLong;
-            }
-            Taken::Nothing
-        }
-        Written::Bytes { length, count } => {
+    match text_read::read_text_within(limits, t, room) {
+        Ok(Written { length, count }) => {
             if is_object(room) {
-                return Taken::Target {
+                return Ok(Target {
                     size: length,
                     count,
-                };
+                });
             }
-            Taken::Nothing
+            Err(TextError::Other)
+        }
+        Err(Refusal { fault, .. }) => {
+            match fault {
+                Fault::NoRoom => Err(TextError::TooLong),
+                _ => Err(TextError::Other),
+            }
         }
     }
 }
 
 // The same from a place in the room on.
-fn put_text(limits: Limits, t: &[u8], room: &mut [u8], at: usize) -> Taken
+fn put_text(limits: Limits, t: &[u8], room: &mut [u8], at: usize) -> Result<Target, TextError>
     requires { at ≤ length room.old }
     ensures { PutsText (capped limits) t.now room.old room.new at result }
 {
@@ -187,7 +179,13 @@ fn put_text(limits: Limits, t: &[u8], room: &mut [u8], at: usize) -> Taken
 }
 
 // The targets, one after the other as their texts are; `before` is the number of items in front of them.
-fn put_targets(limits: Limits, texts: &[u8], room: &mut [u8], at: usize, before: usize) -> Built
+fn put_targets(
+    limits: Limits,
+    texts: &[u8],
+    room: &mut [u8],
+    at: usize,
+    before: usize,
+) -> Result<Built, BuildError>
     requires { (at ≤ length room.old) × (before ≤ at) }
     ensures { TargetsPut (capped limits) texts.now room.old room.new at before result }
 {
@@ -198,25 +196,24 @@ fn put_targets(limits: Limits, texts: &[u8], room: &mut [u8], at: usize, before:
     while p < texts.len() {
         let e = text_end(texts, p);
         if e == texts.len() {
-            return Built::Wrong(k);
+            return Err(BuildError::Wrong(k));
         }
-        let w = put_text(limits, &texts[p..e], room, q);
-        match w {
-            Taken::Nothing => return Built::Wrong(k),
-            Taken::TooLong => return Built::Over { at: p, number: k },
-            Taken::Target { size, count } => {
+        match put_text(limits, &texts[p..e], room, q) {
+            Ok(Target { size, count }) => {
                 q += size;
                 n += count;
             }
+            Err(TextError::Other) => return Err(BuildError::Wrong(k)),
+            Err(TextError::TooLong) => return Err(BuildError::Over { at: p, number: k }),
         }
         p = e + 1;
         k += 1;
     }
-    Built::Whole { size: q, count: n }
+    Ok(Built { size: q, count: n })
 }
 
-// The texts from a place on are read, each into the same room, which holds any ARI.
-fn rest_of(limits: Limits, texts: &[u8], at: usize, number: usize, room: &mut [u8]) -> Rest
+// The texts from a place on are read, each into the same room, which holds any ARI: the number of the first that is no object reference, if there is one.
+fn rest_of(limits: Limits, texts: &[u8], at: usize, number: usize, room: &mut [u8]) -> Option<usize>
     requires { (at ≤ length texts.now) × (number ≤ at) × (gate_limits.bytes ≤ length room.old) }
     ensures { RestIs (gather_at (capped limits) texts.now at number) result }
 {
@@ -225,18 +222,15 @@ fn rest_of(limits: Limits, texts: &[u8], at: usize, number: usize, room: &mut [u
     while p < texts.len() {
         let e = text_end(texts, p);
         if e == texts.len() {
-            return Rest::Wrong(k);
+            return Some(k);
         }
-        let w = take_text(limits, &texts[p..e], room);
-        match w {
-            Taken::Nothing => return Rest::Wrong(k),
-            Taken::TooLong => return Rest::Wrong(k),
-            Taken::Target { .. } => {}
-        }
+        let Ok(_) = take_text(limits, &texts[p..e], room) else {
+            return Some(k);
+        };
         p = e + 1;
         k += 1;
     }
-    Rest::Right
+    None
 }
 
 // A nonce but for the bytes of its string: what it is, and its number.
@@ -250,62 +244,89 @@ struct Lead {
 const FRONT_ITEMS: usize = 5;
 
 // The order's bytes from front to back, each once. A room that the front fills, or that has no more bytes than there are targets, is too short.
-fn build(limits: Limits, lead: Lead, nonce: &[u8], texts: &[u8], room: &mut [u8]) -> Built
+fn build(
+    limits: Limits,
+    lead: Lead,
+    nonce: &[u8],
+    texts: &[u8],
+    room: &mut [u8],
+) -> Result<Built, BuildError>
     ensures { OrderBuilt (capped limits) (nonce_of lead.kind lead.number nonce.now) texts.now room.old room.new result }
 {
     let many = count_texts(texts);
     if room.len() <= many {
-        return Built::Over { at: 0, number: 0 };
+        return Err(BuildError::Over { at: 0, number: 0 });
     }
     let q = put_front(lead.kind, lead.number, nonce, many, room);
     if room.len() <= q {
-        return Built::Over { at: 0, number: 0 };
+        return Err(BuildError::Over { at: 0, number: 0 });
     }
     put_targets(limits, texts, room, q, FRONT_ITEMS)
 }
 
-fn refusal(number: u8, place: usize) -> Written
-    ensures { result ≡ written_of (refused number place) }
-{
-    Written::Refused { number, place }
-}
-
 // The limits, of a finished order: its containers are judged by the gate's own check.
-fn finish(limits: Limits, b: &[u8], count: usize, out: &mut [u8]) -> Written
+fn finish(limits: Limits, b: &[u8], count: usize, out: &mut [u8]) -> Result<Written, Refusal>
     requires { Order b.now count }
     ensures value { result ≡ written_of (lent (length out.old) (finished (capped limits) (decode b.now))) }
     ensures out_after { out.new ≡ room_after out.old (lent (length out.old) (finished (capped limits) (decode b.now))) }
 {
     let most = ari::cap(limits);
     if most.bytes < b.len() {
-        return refusal(1, 0);
+        return Err(Refusal {
+            fault: Fault::TooLong,
+            place: 0,
+        });
     }
     if most.items < count {
-        return refusal(5, 0);
+        return Err(Refusal {
+            fault: Fault::TooManyItems,
+            place: 0,
+        });
     }
     match reader::check(ari::Input::Message, most, b) {
-        Answer::Refused { .. } => refusal(6, 0),
-        Answer::Accepted(items) => text_write::hand_over(b, items, out),
+        Ok(items) => text_write::hand_over(b, items, out),
+        Err(_) => Err(Refusal {
+            fault: Fault::TooDeep,
+            place: 0,
+        }),
+    }
+}
+
+// The text of this number is no object reference.
+fn bad_text(number: usize) -> Refusal
+    ensures { result ≡ refusal_of 24 number }
+{
+    Refusal {
+        fault: Fault::BadText,
+        place: number,
     }
 }
 
 // Through a scratch that holds any message. Of an order that it does not hold, the texts that are left are looked at all the same.
-fn compose_long(limits: Limits, lead: Lead, nonce: &[u8], texts: &[u8], out: &mut [u8]) -> Written
+fn compose_long(
+    limits: Limits,
+    lead: Lead,
+    nonce: &[u8],
+    texts: &[u8],
+    out: &mut [u8],
+) -> Result<Written, Refusal>
     requires { in_range (nonce_of lead.kind lead.number nonce.now) ≡ true }
     ensures value { result ≡ written_of (lent (length out.old) (composed_by (capped limits) (nonce_of lead.kind lead.number nonce.now) (gather_at (capped limits) texts.now 0 0))) }
     ensures out_after { out.new ≡ room_after out.old (lent (length out.old) (composed_by (capped limits) (nonce_of lead.kind lead.number nonce.now) (gather_at (capped limits) texts.now 0 0))) }
 {
     let mut scratch = [0u8; ari::BYTES + 1];
-    let w = build(limits, lead, nonce, texts, &mut scratch);
-    match w {
-        Built::Wrong(k) => refusal(24, k),
-        Built::Over { at, number: k } => {
+    match build(limits, lead, nonce, texts, &mut scratch) {
+        Ok(Built { size, count }) => finish(limits, &scratch[0..size], count, out),
+        Err(BuildError::Wrong(k)) => Err(bad_text(k)),
+        Err(BuildError::Over { at, number: k }) => {
             match rest_of(limits, texts, at, k, &mut scratch) {
-                Rest::Wrong(j) => refusal(24, j),
-                Rest::Right => refusal(1, 0),
+                Some(j) => Err(bad_text(j)),
+                None => Err(Refusal {
+                    fault: Fault::TooLong,
+                    place: 0,
+                }),
             }
         }
-        Built::Whole { size, count } => finish(limits, &scratch[0..size], count, out),
     }
 }
 
@@ -313,17 +334,22 @@ fn compose_long(limits: Limits, lead: Lead, nonce: &[u8], texts: &[u8], out: &mu
 const SHORT: usize = 128;
 
 // A short order, with little scratch to clear: should it fill that, it is composed as a long one.
-fn compose_short(limits: Limits, lead: Lead, nonce: &[u8], texts: &[u8], out: &mut [u8]) -> Written
+fn compose_short(
+    limits: Limits,
+    lead: Lead,
+    nonce: &[u8],
+    texts: &[u8],
+    out: &mut [u8],
+) -> Result<Written, Refusal>
     requires { in_range (nonce_of lead.kind lead.number nonce.now) ≡ true }
     ensures value { result ≡ written_of (lent (length out.old) (composed_by (capped limits) (nonce_of lead.kind lead.number nonce.now) (gather_at (capped limits) texts.now 0 0))) }
     ensures out_after { out.new ≡ room_after out.old (lent (length out.old) (composed_by (capped limits) (nonce_of lead.kind lead.number nonce.now) (gather_at (capped limits) texts.now 0 0))) }
 {
     let mut scratch = [0u8; 2 * SHORT];
-    let w = build(limits, lead, nonce, texts, &mut scratch);
-    match w {
-        Built::Wrong(k) => refusal(24, k),
-        Built::Over { .. } => compose_long(limits, lead, nonce, texts, out),
-        Built::Whole { size, count } => finish(limits, &scratch[0..size], count, out),
+    match build(limits, lead, nonce, texts, &mut scratch) {
+        Ok(Built { size, count }) => finish(limits, &scratch[0..size], count, out),
+        Err(BuildError::Wrong(k)) => Err(bad_text(k)),
+        Err(BuildError::Over { .. }) => compose_long(limits, lead, nonce, texts, out),
     }
 }
 
@@ -335,24 +361,31 @@ pub fn compose_within(
     nonce: &[u8],
     texts: &[u8],
     out: &mut [u8],
-) -> Written
+) -> Result<Written, Refusal>
     ensures value { result ≡ written_of (lent (length out.old) (compose (capped limits) (nonce_of kind number nonce.now) texts.now)) }
     ensures out_after { out.new ≡ room_after out.old (lent (length out.old) (compose (capped limits) (nonce_of kind number nonce.now) texts.now)) }
 {
     if !is_nonce(kind, number) {
-        return refusal(7, 0);
+        return Err(Refusal {
+            fault: Fault::Misplaced,
+            place: 0,
+        });
     }
     let lead = Lead { kind, number };
-    if texts.len() < SHORT {
-        if nonce.len() < SHORT {
-            return compose_short(limits, lead, nonce, texts, out);
-        }
+    if texts.len() < SHORT && nonce.len() < SHORT {
+        return compose_short(limits, lead, nonce, texts, out);
     }
     compose_long(limits, lead, nonce, texts, out)
 }
 
 // The same within the gate's own limits.
-pub fn compose(kind: u64, number: u64, nonce: &[u8], texts: &[u8], out: &mut [u8]) -> Written
+pub fn compose(
+    kind: u64,
+    number: u64,
+    nonce: &[u8],
+    texts: &[u8],
+    out: &mut [u8],
+) -> Result<Written, Refusal>
     ensures value { result ≡ written_of (lent (length out.old) (compose gate_limits (nonce_of kind number nonce.now) texts.now)) }
     ensures out_after { out.new ≡ room_after out.old (lent (length out.old) (compose gate_limits (nonce_of kind number nonce.now) texts.now)) }
 {

@@ -2,10 +2,13 @@
 // `refused N P`. NONCE is `null`, a number in decimal, or a byte string as h'00ff' or, as in ARI text, h%2700ff%27.
 #![tactic(auto)]
 
-// What NONCE is: nothing that is taken for one, or a nonce; the bytes of a string stand in a room.
+ghost use Rattle.std.specs.Prelude.{◌<◌, IfSome};
+
+use text_write::Written;
+
+// What NONCE is: the bytes of a string stand in a room.
 #[derive(Clone, Copy)]
-enum Word {
-    Wrong,
+enum Nonce {
     Null,
     Number(u64),
     Bytes(usize),
@@ -20,78 +23,40 @@ const BYTES: usize = 65536;
 const TEXTS: usize = 262144;
 
 // What a number that 64 bits do not hold stands for: it is out of range as well.
-const OUT_OF_RANGE: u64 = 18446744073709551615;
+const OUT_OF_RANGE: u64 = u64::MAX;
 
-// No hex digit.
-const NONE: u8 = 16;
-
-fn digit(x: u8) -> u8 {
+fn digit(x: u8) -> Option<u8>
+    ensures { IfSome result (λ d. d < 16) }
+{
     match x {
-        b'0'..=b'9' => x - b'0',
-        b'a'..=b'f' => x - b'a' + 10,
-        b'A'..=b'F' => x - b'A' + 10,
-        _ => NONE,
+        b'0'..=b'9' => Some(x - b'0'),
+        b'a'..=b'f' => Some(x - b'a' + 10),
+        b'A'..=b'F' => Some(x - b'A' + 10),
+        _ => None,
     }
 }
 
 // The bytes that pairs of hex digits are.
-fn string_of(digits: &[u8], room: &mut [u8]) -> Word {
+fn string_of(digits: &[u8], room: &mut [u8]) -> Option<Nonce> {
     let size = digits.len() / 2;
-    if digits.len() % 2 != 0 {
-        return Word::Wrong;
+    if digits.len() % 2 != 0 || room.len() < size {
+        return None;
     }
-    if room.len() < size {
-        return Word::Wrong;
-    }
-    let mut i = 0;
-    while i < size {
-        let high = digit(digits[2 * i]);
-        let low = digit(digits[2 * i + 1]);
-        if NONE <= high {
-            return Word::Wrong;
-        }
-        if NONE <= low {
-            return Word::Wrong;
-        }
+    for i in 0..size {
+        let high = digit(digits[2 * i])?;
+        let low = digit(digits[2 * i + 1])?;
         room[i] = high * 16 + low;
-        i += 1;
     }
-    Word::Bytes(size)
-}
-
-fn starts(word: &[u8], with: &[u8]) -> bool {
-    let n = with.len();
-    if word.len() < n {
-        return false;
-    }
-    check::same(&word[0..n], with)
-}
-
-fn ends(word: &[u8], with: &[u8]) -> bool {
-    let n = with.len();
-    let all = word.len();
-    if all < n {
-        return false;
-    }
-    let from = all - n;
-    check::same(&word[from..all], with)
+    Some(Nonce::Bytes(size))
 }
 
 // A word in quotes of so many bytes, behind an `h`.
-fn quoted(word: &[u8], quote: usize, room: &mut [u8]) -> Word {
+fn quoted(word: &[u8], quote: usize, room: &mut [u8]) -> Option<Nonce> {
     let all = word.len();
-    if all < 1 {
-        return Word::Wrong;
+    if all < 1 || (all - 1) / 2 < quote {
+        return None;
     }
-    if (all - 1) / 2 < quote {
-        return Word::Wrong;
-    }
-    let from = 1 + quote;
-    let to = all - quote;
-    if to < from {
-        return Word::Wrong;
-    }
-    string_of(&word[from..to], room)
+    string_of(&word[1 + quote..all - quote], room)
 }
 
 fn is_decimal(word: &[u8]) -> bool {
@@ -101,45 +66,34 @@ fn is_decimal(word: &[u8]) -> bool {
     if word[0] == b'0' {
         return word.len() == 1;
     }
-    let mut i = 0;
-    while i < word.len() {
-        let x = word[i];
-        if x < b'0' {
-            return false;
-        }
-        if b'9' < x {
-            return false;
-        }
-        i += 1;
-    }
-    true
+    word.iter().all(|x| matches!(*x, b'0'..=b'9'))
 }
 
-fn number_of(word: &[u8]) -> Word {
+fn number_of(word: &[u8]) -> Option<Nonce> {
     if !is_decimal(word) {
-        return Word::Wrong;
+        return None;
     }
     match buffer::unsigned(word) {
-        buffer::Number::Value(n) => Word::Number(n),
-        buffer::Number::Bad => Word::Number(OUT_OF_RANGE),
+        Some(n) => Some(Nonce::Number(n)),
+        None => Some(Nonce::Number(OUT_OF_RANGE)),
     }
 }
 
-fn nonce_of(word: &[u8], room: &mut [u8]) -> Word {
+fn nonce_of(word: &[u8], room: &mut [u8]) -> Option<Nonce> {
     if check::same(word, b"null") {
-        return Word::Null;
+        return Some(Nonce::Null);
     }
-    if starts(word, b"h%27") {
-        if ends(word, b"%27") {
+    if word.starts_with(b"h%27") {
+        if word.ends_with(b"%27") {
             return quoted(word, 3, room);
         }
-        return Word::Wrong;
+        return None;
     }
-    if starts(word, b"h'") {
-        if ends(word, b"'") {
+    if word.starts_with(b"h'") {
+        if word.ends_with(b"'") {
             return quoted(word, 1, room);
         }
-        return Word::Wrong;
+        return None;
     }
     number_of(word)
 }
@@ -155,10 +109,10 @@ fn say_usage() {
 fn send(kind: u64, number: u64, nonce: &[u8], texts: &[u8]) {
     let mut room = [0u8; ari::BYTES];
     match composer::compose(kind, number, nonce, texts, &mut room) {
-        text_write::Written::Bytes { length, .. } => {
+        Ok(Written { length, .. }) => {
             print::flush(&room, length);
         }
-        text_write::Written::Refused { number, place } => print::send_refusal(number, place),
+        Err(refusal) => print::send_refusal(refusal),
     }
 }
 
@@ -174,10 +128,10 @@ fn compose(kind: u64, number: u64, nonce: &[u8]) {
 
 fn run(word: &[u8], room: &mut [u8]) {
     match nonce_of(word, room) {
-        Word::Wrong => say_usage(),
-        Word::Null => compose(0, 0, &room[0..0]),
-        Word::Number(n) => compose(1, n, &room[0..0]),
-        Word::Bytes(n) => {
+        None => say_usage(),
+        Some(Nonce::Null) => compose(0, 0, &room[0..0]),
+        Some(Nonce::Number(n)) => compose(1, n, &room[0..0]),
+        Some(Nonce::Bytes(n)) => {
             if n <= room.len() {
                 compose(2, 0, &room[0..n]);
             }

@@ -1,14 +1,13 @@
 -- One message more. The idea: the bytes that are put, piece by piece, are the file of the old messages and the new one, since the old file is that of its own.
 use Prim.Native.Nat.{ℕ, zero, suc, ◌+◌, ◌-◌, ◌*◌, ◌<◌, ◌≤◌, min}
 use mathlib.Core.Path.{◌≡◌, refl, sym, ◌∙◌, ap}
-use mathlib.Core.Bool.{Bool, true, false, not, ◌&&◌, ◌||◌, cond, true≢false}
+use mathlib.Core.Bool.{Bool, true, false, cond}
 use mathlib.Core.List.{List, [], ◌∷◌, ◌++◌, append-nil, append_assoc}
 use native.Mathlib.Omega.{arith}
-use native.Mathlib.Numerals.{add-one}
 use lib.ListN.{length, take, drop, get_or, length-append}
-use lib.Seq.{sets, sets-eq, length-take-le}
+use lib.Seq.{sets-eq, length-take-le}
 use lib.Dec.{eqb, ltb, leb}
-use borrow.Author.Tests.{eqb-false, eq-eqb, ne_eqb, le-ltb, lt-ltb, leb-true, leb-false, ltb-true, ltb-false, not-true, not-false}
+use borrow.Author.Tests.{eqb-false, le-ltb, lt-ltb, leb-true, leb-false, ltb-false}
 use Rattle.buffer.specs.Bytes.{be, part, all, is_byte}
 use Rattle.buffer.specs.Put.{Put}
 use Rattle.buffer.proofs.ByteLaws.{length_be, or-false, all_bytes}
@@ -18,17 +17,17 @@ use Rattle.buffer.proofs.Putting.{put_both}
 use Rattle.ari.specs.declared.Limits.{Limits}
 use Rattle.ari.specs.declared.Input.TheVariants.{Message}
 use Rattle.ari.specs.Reader.{read}
-use Rattle.reader.specs.declared.Answer.{Answer}
-use Rattle.reader.specs.declared.Answer.TheVariants.{Accepted}
-use Rattle.reader.specs.declared.Answer.TheVariants as answers
-use Rattle.reader.specs.Answers.{answer_of}
-use Rattle.reader.proofs.Kept.{accepted, refused}
+use Rattle.std.specs.declared.result.Result.{Result}
+use Rattle.std.specs.declared.result.Result.TheVariants.{Ok, Err}
+use Rattle.ari.specs.declared.Refusal.{Refusal}
+use Rattle.ari.specs.Refusals.{refused}
+use Rattle.reader.specs.Results.{result_of}
+use Rattle.reader.proofs.Results.{is_accepted, is_refused}
 use Rattle.day_file.specs.declared.Format.{Format}
-use Rattle.day_file.specs.declared.Day.{Day}
-use Rattle.day_file.specs.declared.Day.TheVariants.{Messages, Refused}
+use Rattle.day_file.specs.declared.Offsets.{Offsets}
+use Rattle.day_file.specs.declared.Offsets.TheVariants.{Two, Four}
 use Rattle.day_file.specs.declared.Added.{Added}
-use Rattle.day_file.specs.declared.Added.TheVariants as added
-use Rattle.day_file.specs.Day.{width, most_bytes, join, offsets, trailer, file_of, count_in, start_in, messages_in, trailer_stands, entry_stands, message_stands, first_not, unless_all, check_day, new_length, is_full, full_or, grown, with_message, add_day, room_after}
+use Rattle.day_file.specs.Day.{width, most_bytes, join, offsets, trailer, file_of, count_in, start_in, messages_in, trailer_stands, entry_stands, message_stands, first_not, unless_all, check_day, new_length, is_full, full_or, grown, with_message, added_by, add_day, room_after}
 use Rattle.day_file.proofs.Files.{trailer_says, length_part, messages_joined, messages_tabled, messages_counted}
 
 -- what passes: every test of every entry and message
@@ -50,28 +49,28 @@ pub record Passes (f : Format) (m : Limits) (b : List ℕ) (n : ℕ) : Type 0 wh
   pub entries : (k : ℕ) → k < count_in b → entry_stands f b k ≡ true
   pub messages : (k : ℕ) → k < count_in b → message_stands f m b k ≡ true
 
-pub passes_all : (f : Format) (m : Limits) (b : List ℕ) {n : ℕ} → Messages n ≡ check_day f m b → Passes f m b n
+pub passes_all : (f : Format) (m : Limits) (b : List ℕ) {n : ℕ} → Ok n ≡ check_day f m b → Passes f m b n
 unfolding check_day
 passes_all f m b {n} e = go (trailer_stands f b) refl e
   where
-    bad : (r p : ℕ) → Messages n ≡ Refused r p → ⊥
-    bad r p q = let z : ◌≡◌ {A = ℕ} 0 1 = cc in omega arith
+    bad : (i : Refusal) → ◌≡◌ {A = Result ℕ Refusal} (Ok n) (Err i) → ⊥
+    bad i q = let z : ◌≡◌ {A = ℕ} 0 1 = cc in omega arith
 
     all : (p : ℕ → Bool) → ltb (first_not p 0 (count_in b)) (count_in b) ≡ false → (k : ℕ) → k < count_in b → p k ≡ true
     all p q k h = first_all p (count_in b) 0 (omega (arith, ltb-false (first_not p 0 (count_in b)) (count_in b) q)) k (omega arith) (omega arith)
 
     third : trailer_stands f b ≡ true → ltb (first_not (entry_stands f b) 0 (count_in b)) (count_in b) ≡ false → (x : Bool) → ltb (first_not (message_stands f m b) 0 (count_in b)) (count_in b) ≡ x
-        → Messages n ≡ cond x (Refused 22 (first_not (message_stands f m b) 0 (count_in b))) (Messages (count_in b)) → Passes f m b n
-    third t q true r s = absurd (bad _ _ s)
+        → Ok n ≡ cond x (refused 22 (first_not (message_stands f m b) 0 (count_in b))) (Ok (count_in b)) → Passes f m b n
+    third t q true r s = absurd (bad _ s)
     third t q false r s = record { count = cc; trailer_stands_lem = t; entries = all (entry_stands f b) q; messages = all (message_stands f m b) r }
 
     second : trailer_stands f b ≡ true → (x : Bool) → ltb (first_not (entry_stands f b) 0 (count_in b)) (count_in b) ≡ x
-        → Messages n ≡ cond x (Refused 21 (first_not (entry_stands f b) 0 (count_in b))) (unless_all 22 (message_stands f m b) (count_in b) (Messages (count_in b))) → Passes f m b n
-    second t true q s = absurd (bad _ _ s)
+        → Ok n ≡ cond x (refused 21 (first_not (entry_stands f b) 0 (count_in b))) (unless_all 22 (message_stands f m b) (count_in b) (Ok (count_in b))) → Passes f m b n
+    second t true q s = absurd (bad _ s)
     second t false q s = third t q (ltb (first_not (message_stands f m b) 0 (count_in b)) (count_in b)) refl s
 
-    go : (x : Bool) → trailer_stands f b ≡ x → Messages n ≡ cond x (unless_all 21 (entry_stands f b) (count_in b) (unless_all 22 (message_stands f m b) (count_in b) (Messages (count_in b)))) (Refused 20 0) → Passes f m b n
-    go false t s = absurd (bad _ _ s)
+    go : (x : Bool) → trailer_stands f b ≡ x → Ok n ≡ cond x (unless_all 21 (entry_stands f b) (count_in b) (unless_all 22 (message_stands f m b) (count_in b) (Ok (count_in b)))) (refused 20 0) → Passes f m b n
+    go false t s = absurd (bad _ s)
     go true t s = second t (ltb (first_not (entry_stands f b) 0 (count_in b)) (count_in b)) refl s
 
 -- one message behind others
@@ -112,17 +111,17 @@ module _ (f : Format) (m : Limits) (b : List ℕ) (bytes : all is_byte b ≡ tru
 
 -- what is put
 module _ (f : Format) {x : ℕ} (h : x ≤ most_bytes f) where
-  pub fits_four : f.wide ≡ true → x < 4294967296
+  pub fits_four : f.offsets ≡ Four → x < 4294967296
   fits_four w = let k : x ≤ min f.bytes 4294967295 = rw w at h in omega arith
 
-  pub fits_two : f.wide ≡ false → x < 65536
+  pub fits_two : f.offsets ≡ Two → x < 65536
   fits_two w = let k : x ≤ min f.bytes 65535 = rw w at h in omega arith
 
 module _ (f : Format) {a b : List ℕ} {at r : ℕ} (x : ℕ) where
-  pub offset_four : f.wide ≡ true → Put a b at r (be 4 x) → Put a b at r (be (width f) x)
+  pub offset_four : f.offsets ≡ Four → Put a b at r (be 4 x) → Put a b at r (be (width f) x)
   offset_four w p = rw w p
 
-  pub offset_two : f.wide ≡ false → Put a b at r (be 2 x) → Put a b at r (be (width f) x)
+  pub offset_two : f.offsets ≡ Two → Put a b at r (be 2 x) → Put a b at r (be (width f) x)
   offset_two w p = rw w p
 
 pub trailer_put : (f : Format) (n st : ℕ) {a b c d e : List ℕ} {at q r s u : ℕ} → Put a b at q (f.version ∷ []) → Put b c q r (0 ∷ []) → Put c d r s (be 2 n) → Put d e s u (be 4 st)
@@ -172,11 +171,11 @@ module _ (f : Format) (b : List ℕ) (t : trailer_stands f b ≡ true) where
   start_within = omega (arith, (trailer_says f b t).short, (trailer_says f b t).sum)
 
 most_four : (f : Format) → most_bytes f ≤ 4294967295
-most_four f = go f.wide refl
+most_four f = go f.offsets refl
   where
-    go : (x : Bool) → f.wide ≡ x → most_bytes f ≤ 4294967295
-    go true e = rw e (omega arith)
-    go false e = rw e (omega arith)
+    go : (x : Offsets) → f.offsets ≡ x → most_bytes f ≤ 4294967295
+    go Four e = rw e (omega arith)
+    go Two e = rw e (omega arith)
 
 -- where there is room in the file
 module _ (f : Format) (b x : List ℕ) {y : Bool} (e : y ≡ is_full f b x) (n : y ≡ false) where
@@ -201,15 +200,15 @@ module _ (f : Format) (b x : List ℕ) {y : Bool} (e : y ≡ is_full f b x) (n :
   new_fits i = record { fits = omega (arith, not_full.0, most_four f) }
 
   module _ (room : ℕ) {w : ℕ} (i : w ≡ width f) where
-    pub no_room : room < length b + (length x + w) → added.Refused 16 (length b + (length x + w)) ≡ full_or f b x room
+    pub no_room : room < length b + (length x + w) → refused 16 (length b + (length x + w)) ≡ full_or f b x room
     unfolding full_or
     no_room h = sym (rw (← e, n, ← i, lt-ltb room (length b + (length x + w)) h))
 
-    pub has_room : length b + (length x + w) ≤ room → {c : ℕ} → c ≡ count_in b → added.File (c + 1) (length b + (length x + w)) ≡ full_or f b x room
+    pub has_room : length b + (length x + w) ≤ room → {c : ℕ} → c ≡ count_in b → Ok (record { messages = c + 1; bytes = length b + (length x + w) }) ≡ full_or f b x room
     unfolding full_or
     has_room h c = sym (rw (← e, n, ← i, le-ltb room (length b + (length x + w)) h, c))
 
-pub is_full_23 : (f : Format) (b x : List ℕ) (room : ℕ) {y : Bool} → y ≡ is_full f b x → y ≡ true → added.Refused 23 0 ≡ full_or f b x room
+pub is_full_23 : (f : Format) (b x : List ℕ) (room : ℕ) {y : Bool} → y ≡ is_full f b x → y ≡ true → refused 23 0 ≡ full_or f b x room
 unfolding full_or
 is_full_23 f b x room e h = sym (rw (← e, h))
 
@@ -237,21 +236,21 @@ grown_room f b x t {c} ic {w} iw {o} {o'} p h =
 pub ruleset adds = (has_eight, within_most, start_within, one_more, start_fits, new_fits, no_room, has_room, is_full_23, grown_room)
 
 -- the whole
-module _ (f : Format) (m : Limits) (b x : List ℕ) (room : ℕ) {d : Day} (e : d ≡ check_day f m b) where
-  pub add_refused : {r p : ℕ} → d ≡ Refused r p → added.Refused r p ≡ add_day f m b x room
+module _ (f : Format) (m : Limits) (b x : List ℕ) (room : ℕ) {d : Result ℕ Refusal} (e : d ≡ check_day f m b) where
+  pub add_refused : {i : Refusal} → d ≡ Err i → Err i ≡ add_day f m b x room
   unfolding add_day
   add_refused g = sym (rw (← e, g))
 
-  module _ {n : ℕ} (g : d ≡ Messages n) {a : Answer} (h : a ≡ answer_of (read m Message x)) where
-    pub add_no_message : {r p : ℕ} → a ≡ answers.Refused r p → added.Refused r p ≡ add_day f m b x room
+  module _ {n : ℕ} (g : d ≡ Ok n) {a : Result ℕ Refusal} (h : a ≡ result_of (read m Message x)) where
+    pub add_no_message : {i : Refusal} → a ≡ Err i → Err i ≡ add_day f m b x room
     unfolding add_day
-    add_no_message i = sym (rw (← e, g, refused m Message x h i))
+    add_no_message i = is_refused m Message x h i (λ y. added_by (Ok n) y f b x room) (λ r p. refl) ∙ sym (rw (← e, g))
 
-    pub add_done : {k : ℕ} → a ≡ Accepted k → {r : Added} → r ≡ full_or f b x room → r ≡ add_day f m b x room
+    pub add_done : {k : ℕ} → a ≡ Ok k → {r : Result Added Refusal} → r ≡ full_or f b x room → r ≡ add_day f m b x room
     unfolding add_day
-    add_done i q = q ∙ sym (rw (← e, g, accepted m Message x h i))
+    add_done i q = q ∙ sym (rw (← e, g, is_accepted m Message x h i))
 
-  pub add-room : {n : ℕ} → d ≡ Messages n → ((i : ℕ) → Fits w8 (get_or b i 0)) → (r : Added) (o : List ℕ) {o' : List ℕ} → o' ≡ room_after r (grown f b n x) o → o' ≡ room_after r (with_message f b x) o
+  pub add-room : {n : ℕ} → d ≡ Ok n → ((i : ℕ) → Fits w8 (get_or b i 0)) → (r : Result Added Refusal) (o : List ℕ) {o' : List ℕ} → o' ≡ room_after r (grown f b n x) o → o' ≡ room_after r (with_message f b x) o
   add-room {n} g bytes r o q = q ∙ ap (λ (l : List ℕ). room_after r l o) (grown_is f m b (all_bytes b bytes) (passes_all f m b (sym g ∙ e)) x)
 
 pub ruleset addings = (add_refused, add_no_message, add_done, add-room)

@@ -1,32 +1,33 @@
 -- The day file, R154 to R161, sentence by sentence: over lists of accepted messages.
 use Prim.Native.Nat.{ℕ, zero, suc, ◌+◌, ◌-◌, ◌*◌, ◌<◌, ◌≤◌, min}
 use mathlib.Core.Logic.{◌⊎◌, inl, inr, ◌↔◌}
-use mathlib.Core.Path.{◌≡◌, refl, sym, ◌∙◌, ap, subst}
-use mathlib.Core.Bool.{Bool, true, false, not, ◌&&◌, ◌||◌, cond, true≢false}
+use mathlib.Core.Path.{◌≡◌, refl, sym, ◌∙◌, ap}
+use mathlib.Core.Bool.{Bool, true, false, ◌||◌, cond}
 use mathlib.Core.List.Memᴰ
 use mathlib.Core.List.{List, [], ◌∷◌, ◌++◌, Memᴰ}
 use native.Mathlib.Omega.{arith}
 use lib.ListN.{length, drop, length-append, length-drop}
 use lib.Dec.{eqb, ltb, leb}
 use borrow.Author.Tests.{leb-true, leb-false, eqb-true, eqb-false, ltb-true, ltb-false, lt-ltb, le-ltb, eq-eqb}
-use Rattle.buffer.specs.Bytes.{be, load_at, part, all, is_byte}
-use Rattle.buffer.proofs.ByteLaws.{all_drop, value_part_lt, length_be, or-false, or-true, or_right}
+use Rattle.buffer.specs.Bytes.{all, is_byte}
+use Rattle.buffer.proofs.ByteLaws.{all_drop, value_part_lt, or-false, or-true, or_right}
 use Rattle.buffer.proofs.Numbers.{load_there}
 use Rattle.ari.specs.declared.Limits.{Limits}
 use Rattle.ari.specs.Limits.{gate_limits, first_limits, capped}
 use Rattle.ari.specs.declared.Input.TheVariants.{Message}
 use Rattle.ari.specs.Reader.{Answer, accept, refuse, read}
 use Rattle.day_file.specs.declared.Format.{Format}
-use Rattle.day_file.specs.declared.Day.{Day}
-use Rattle.day_file.specs.declared.Day.TheVariants.{Messages, Refused}
-use Rattle.day_file.specs.declared.Found.TheVariants as found
+use Rattle.std.specs.declared.result.Result.{Result}
+use Rattle.std.specs.declared.result.Result.TheVariants.{Ok, Err}
+use Rattle.ari.specs.declared.Refusal.{Refusal}
+use Rattle.ari.specs.Refusals.{refused, refusal_of}
+use Rattle.day_file.specs.declared.Offsets.TheVariants.{Two}
 use Rattle.day_file.specs.declared.Added.{Added}
-use Rattle.day_file.specs.declared.Added.TheVariants as added
-use Rattle.day_file.specs.Day.{width, most_bytes, join, offsets, trailer, file_of, count_in, start_in, message_in, messages_from, messages_in, message_stands, is_accepted, check_day, find_day, part_of, new_length, is_full, full_or, with_message, added_by, add_day}
+use Rattle.day_file.specs.Day.{width, most_bytes, join, file_of, count_in, start_in, message_in, messages_from, messages_in, message_stands, is_accepted, check_day, find_day, part_of, new_length, is_full, full_or, with_message, added_by, add_day}
 use Rattle.day_file.specs.Versions.{is_second, limits_of}
 use Rattle.day_file.proofs.Files.{trailer_says, is_file, messages_counted}
 use Rattle.day_file.proofs.Adding.{Passes, passes_all}
-use Rattle.day_file.proofs.Whole.{file_length, messages_there, file_passes, offset_of, end_there, message_there}
+use Rattle.day_file.proofs.Whole.{file_length, messages_there, file_passes, message_there}
 
 -- Messages that a file may hold: each is accepted, and together they keep the limits.
 pub record Holds (f : Format) (m : Limits) (xs : List (List ℕ)) : Type 0 where
@@ -65,7 +66,7 @@ module _ (f : Format) (m : Limits) (b : List ℕ) (bytes : all is_byte b ≡ tru
 
 -- A file passes, with n messages, exactly if it is the file of n accepted messages that keep the limits.
 pub passes_exactly_if : (f : Format) (m : Limits) (b : List ℕ) → all is_byte b ≡ true → (n : ℕ)
-    → (check_day f m b ≡ Messages n) ↔ ((xs : List (List ℕ)) × Holds f m xs × (b ≡ file_of f xs) × (length xs ≡ n))
+    → (check_day f m b ≡ Ok n) ↔ ((xs : List (List ℕ)) × Holds f m xs × (b ≡ file_of f xs) × (length xs ≡ n))
 passes_exactly_if f m b bytes n = (
   λ e. (let p = passes_all f m b (sym e) in (messages_in f b, held f m b bytes p, whole f m b bytes p, counted f m b bytes p)),
   λ (xs, h, e, c). rw (e, ← c) (file_passes f m xs h.few h.short h.accepted),
@@ -79,7 +80,7 @@ module _ (f : Format) (m : Limits) {xs : List (List ℕ)} (h : Holds f m xs) whe
   pub one_list : {ys : List (List ℕ)} → Holds f m ys → file_of f xs ≡ file_of f ys → xs ≡ ys
   one_list {ys} g e = sym its_messages ∙ ap (messages_in f) e ∙ messages_there f m ys g.few g.short
 
-  passes : check_day f m (file_of f xs) ≡ Messages (length xs)
+  passes : check_day f m (file_of f xs) ≡ Ok (length xs)
   passes = file_passes f m xs h.few h.short h.accepted
 
   -- Message k is what was put there; past the last there is none.
@@ -89,7 +90,7 @@ module _ (f : Format) (m : Limits) {xs : List (List ℕ)} (h : Holds f m xs) whe
       let l : length ys < length xs = omega (arith, ap length e, length-append ys (x ∷ zs)) in
       rw (passes, lt-ltb (length ys) (length xs) l) (message_there f m xs h.few h.short ys x zs e)
 
-  pub no_such_message : (k : ℕ) → length xs ≤ k → find_day f m (file_of f xs) k ≡ found.Refused 17 (length xs)
+  pub no_such_message : (k : ℕ) → length xs ≤ k → find_day f m (file_of f xs) k ≡ refused 17 (length xs)
   unfolding find_day
   no_such_message k l = rw (passes, le-ltb k (length xs) l)
 
@@ -138,7 +139,7 @@ module _ (f : Format) (m : Limits) (b : List ℕ) (bytes : all is_byte b ≡ tru
       two (inr q) = or_right (ltb (most_bytes f) (new_length f b x)) (eqb (count_in b) 65535) (eq-eqb (count_in b) 65535 (sym p.count ∙ q))
 
   -- With offsets of two bytes the count is never in the way.
-  pub narrow_full_exactly_if : f.wide ≡ false → (is_full f b x ≡ true) ↔ (most_bytes f < length (with_message f b x))
+  pub narrow_full_exactly_if : f.offsets ≡ Two → (is_full f b x ≡ true) ↔ (most_bytes f < length (with_message f b x))
   narrow_full_exactly_if w = (λ e. one (full_exactly_if.0 e), λ q. full_exactly_if.1 (inl q))
     where
       one : (most_bytes f < length (with_message f b x)) ⊎ (n ≡ 65535) → most_bytes f < length (with_message f b x)
@@ -152,7 +153,7 @@ module _ (f : Format) (m : Limits) (b : List ℕ) (bytes : all is_byte b ≡ tru
   -- Where the message is added, the new file holds the old messages and the new one, in that order, and has the bytes that the answer says.
   pub record Grown (k j : ℕ) : Type 0 where
     pub holds : Holds f m (messages_in f b ++ (x ∷ []))
-    pub passes : check_day f m (with_message f b x) ≡ Messages k
+    pub passes : check_day f m (with_message f b x) ≡ Ok k
     pub in_order : messages_in f (with_message f b x) ≡ messages_in f b ++ (x ∷ [])
     pub long : length (with_message f b x) ≡ j
 
@@ -183,40 +184,41 @@ module _ (f : Format) (m : Limits) (b : List ℕ) (bytes : all is_byte b ≡ tru
     unfolding with_message
     grown = record {
       holds = more_held;
-      passes = file_passes f m (messages_in f b ++ (x ∷ [])) few_now more_held.short more_held.accepted ∙ ap Messages (omega (arith, length-append (messages_in f b) (x ∷ []), counted f m b bytes p));
+      passes = file_passes f m (messages_in f b ++ (x ∷ [])) few_now more_held.short more_held.accepted ∙ ap Ok (omega (arith, length-append (messages_in f b) (x ∷ []), counted f m b bytes p));
       in_order = messages_there f m (messages_in f b ++ (x ∷ [])) few_now more_held.short;
       long = grown_length;
     }
 
 by_room : (f : Format) (m : Limits) (b : List ℕ) (bytes : all is_byte b ≡ true) {n : ℕ} (p : Passes f m b n) (x : List ℕ) (room k j : ℕ) → is_accepted (read m Message x) ≡ true
-    → full_or f b x room ≡ added.File k j → Grown f m b bytes p x k j
+    → full_or f b x room ≡ Ok (record { messages = k; bytes = j }) → Grown f m b bytes p x k j
 unfolding full_or
 by_room f m b bytes {n} p x room k j ok e = go (is_full f b x) refl (ltb room (new_length f b x)) e
   where
-    go : (y : Bool) → is_full f b x ≡ y → (z : Bool) → cond y (added.Refused 23 0) (cond z (added.Refused 16 (new_length f b x)) (added.File (count_in b + 1) (new_length f b x))) ≡ added.File k j → Grown f m b bytes p x k j
+    go : (y : Bool) → is_full f b x ≡ y → (z : Bool) → cond y (refused {A = Added} 23 0) (cond z (refused 16 (new_length f b x)) (Ok ((record { messages = count_in b + 1; bytes = new_length f b x })))) ≡ Ok (record { messages = k; bytes = j }) → Grown f m b bytes p x k j
     go true h z q = absurd (let z : ◌≡◌ {A = ℕ} 0 1 = cc in omega arith)
     go false h true q = absurd (let z : ◌≡◌ {A = ℕ} 0 1 = cc in omega arith)
     go false h false q =
-        let count : n + 1 ≡ k = ap (λ (i : ℕ). i + 1) p.count ∙ cc in
-        let size : new_length f b x ≡ j = cc in
+        let same : ◌≡◌ {A = Added} (record { messages = count_in b + 1; bytes = new_length f b x }) (record { messages = k; bytes = j }) = cc in
+        let count : n + 1 ≡ k = ap (λ (i : ℕ). i + 1) p.count ∙ ap (λ (a : Added). a.messages) same in
+        let size : new_length f b x ≡ j = ap (λ (a : Added). a.bytes) same in
         rw (← count, ← size) (grown f m b bytes p x ok h)
 
 -- Whenever an answer says so, it was so added.
-pub adding_and_reading : (f : Format) (m : Limits) (b : List ℕ) (bytes : all is_byte b ≡ true) (x : List ℕ) (room k j : ℕ) → add_day f m b x room ≡ added.File k j
+pub adding_and_reading : (f : Format) (m : Limits) (b : List ℕ) (bytes : all is_byte b ≡ true) (x : List ℕ) (room k j : ℕ) → add_day f m b x room ≡ Ok (record { messages = k; bytes = j })
     → (n : ℕ) × (p : Passes f m b n) × Grown f m b bytes p x k j
 unfolding add_day
 adding_and_reading f m b bytes x room k j e = by_day (check_day f m b) refl e
   where
-    no : (r p : ℕ) → added.Refused r p ≡ added.File k j → ⊥
-    no r p q = let z : ◌≡◌ {A = ℕ} 0 1 = cc in omega arith
+    no : (i : Refusal) → ◌≡◌ {A = Result Added Refusal} (Err i) (Ok (record { messages = k; bytes = j })) → ⊥
+    no i q = let z : ◌≡◌ {A = ℕ} 0 1 = cc in omega arith
 
-    by_message : {n : ℕ} (p : Passes f m b n) (a : Answer) → read m Message x ≡ a → added_by (Messages n) a f b x room ≡ added.File k j → Grown f m b bytes p x k j
-    by_message p (refuse r i) h q = absurd (no r i q)
+    by_message : {n : ℕ} (p : Passes f m b n) (a : Answer) → read m Message x ≡ a → added_by (Ok n) a f b x room ≡ Ok (record { messages = k; bytes = j }) → Grown f m b bytes p x k j
+    by_message p (refuse r i) h q = absurd (no (refusal_of r i) q)
     by_message p (accept i) h q = by_room f m b bytes p x room k j (rw h) q
 
-    by_day : (d : Day) → check_day f m b ≡ d → added_by d (read m Message x) f b x room ≡ added.File k j → (n : ℕ) × (p : Passes f m b n) × Grown f m b bytes p x k j
-    by_day (Refused r i) h q = absurd (no r i q)
-    by_day (Messages n) h q = let p = passes_all f m b (sym h) in (n, p, by_message p (read m Message x) refl q)
+    by_day : (d : Result ℕ Refusal) → check_day f m b ≡ d → added_by d (read m Message x) f b x room ≡ Ok (record { messages = k; bytes = j }) → (n : ℕ) × (p : Passes f m b n) × Grown f m b bytes p x k j
+    by_day (Err i) h q = absurd (no i q)
+    by_day (Ok n) h q = let p = passes_all f m b (sym h) in (n, p, by_message p (read m Message x) refl q)
 
 -- The limits of either version are within the gate's own.
 pub capped_limits : (b : List ℕ) → capped (limits_of b) ≡ limits_of b

@@ -2,8 +2,8 @@
 -- none behind it.
 use Prim.Native.Nat.{ℕ, zero, suc, ◌+◌, ◌-◌, ◌*◌, ◌<◌, ◌≤◌, min}
 use mathlib.Core.Path.{◌≡◌, refl, sym, ◌∙◌, ap}
-use mathlib.Core.Bool.{Bool, true, false, not, ◌&&◌, ◌||◌, cond}
-use mathlib.Core.List.{List, [], ◌∷◌, ◌++◌}
+use mathlib.Core.Bool.{Bool, true, false, not, cond}
+use mathlib.Core.List.{List, []}
 use native.Mathlib.Omega.{arith}
 use native.Mathlib.Numerals.{add-one}
 use lib.ListN.{length, take, drop, get_or, length-drop, drop_of_length-le}
@@ -12,29 +12,27 @@ use lib.Dec.{eqb, ltb, leb}
 use borrow.Author.Tests.{leb-true, leb-false, eq-eqb, ne_eqb, le-leb, lt-leb, lt-ltb, le-ltb, not-true, not-false}
 use Rattle.buffer.specs.Bytes.{load_at, part, within}
 use Rattle.buffer.proofs.ByteLaws.{and-true, within_true}
-use Rattle.buffer.proofs.RunLaws.{part_none}
 use Rattle.ari.specs.declared.Limits.{Limits}
 use Rattle.ari.specs.Limits.{gate_limits, first_limits}
 use Rattle.ari.specs.declared.Input.TheVariants.{Message}
 use Rattle.ari.specs.Reader.{read}
 use Rattle.ari.specs.Reader as ari
-use Rattle.reader.specs.declared.Answer.{Answer}
-use Rattle.reader.specs.declared.Answer.TheVariants.{Accepted}
-use Rattle.reader.specs.declared.Answer.TheVariants as answers
-use Rattle.reader.specs.Answers.{answer_of}
-use Rattle.reader.proofs.Kept.{accepted, refused}
+use Rattle.std.specs.declared.result.Result.{Result}
+use Rattle.std.specs.declared.result.Result.TheVariants.{Ok, Err}
+use Rattle.ari.specs.declared.Refusal.{Refusal}
+use Rattle.ari.specs.Refusals.{refused}
+use Rattle.reader.specs.Results.{result_of}
+use Rattle.std.specs.Result.{is_ok}
 use Rattle.day_file.specs.declared.Format.{Format}
-use Rattle.day_file.specs.declared.Day.{Day}
-use Rattle.day_file.specs.declared.Day.TheVariants.{Messages, Refused}
+use Rattle.day_file.specs.declared.Offsets.TheVariants.{Two, Four}
 use Rattle.day_file.specs.Day.{width, most_bytes, count_in, start_in, offset_in, end_in, message_in, first_at, message_at, trailer_stands, entry_stands, message_stands, is_accepted, first_not, unless_all, Sized, check_day, outline_day, find_day, part_of}
 use Rattle.day_file.specs.Versions.{version1, version2, is_second, format_of, limits_of}
 use Rattle.day_file.specs.declared.Found.{Found}
-use Rattle.day_file.specs.declared.Found.TheVariants as found
 
 -- a part, as far as there is one
 module _ (s : List ℕ) (from to : ℕ) {e : ℕ} (is : e ≡ min to (length s)) where
-  pub part_clipped : e < from → part s 0 0 ≡ part s from to
-  part_clipped h = part_none s 0 ∙ sym (go (to - from) refl)
+  pub part_clipped : e < from → [] ≡ part s from to
+  part_clipped h = sym (go (to - from) refl)
     where
       go : (n : ℕ) → to - from ≡ n → take n (drop from s) ≡ []
       go zero q = refl
@@ -55,26 +53,19 @@ module _ (s : List ℕ) (from to : ℕ) {e : ℕ} (is : e ≡ min to (length s))
       go false q = rest (let h = leb-false to (length s) q in omega arith)
 
 module _ (f : Format) {x : ℕ} where
-  pub most_wide : f.wide ≡ true → x ≡ min f.bytes 4294967295 → x ≡ most_bytes f
+  pub most_wide : f.offsets ≡ Four → x ≡ min f.bytes 4294967295 → x ≡ most_bytes f
   most_wide w e = e ∙ rw w
 
-  pub most_narrow : f.wide ≡ false → x ≡ min f.bytes 65535 → x ≡ most_bytes f
+  pub most_narrow : f.offsets ≡ Two → x ≡ min f.bytes 65535 → x ≡ most_bytes f
   most_narrow w e = e ∙ rw w
-
-module _ (f : Format) (n : ℕ) where
-  pub table_wide : f.wide ≡ true → 4 * n ≡ width f * n
-  table_wide w = rw w
-
-  pub table_narrow : f.wide ≡ false → 2 * n ≡ width f * n
-  table_narrow w = rw w
 
 -- the table
 module _ (f : Format) (b : List ℕ) (k : ℕ) where
-  pub offset_wide : f.wide ≡ true → {s : ℕ} → s ≡ start_in b → {x : ℕ} → x ≡ load_at 4 b (s + 4 * k) → x ≡ offset_in f b k
+  pub offset_wide : f.offsets ≡ Four → {s : ℕ} → s ≡ start_in b → {x : ℕ} → x ≡ load_at 4 b (s + 4 * k) → x ≡ offset_in f b k
   unfolding offset_in
   offset_wide w e g = g ∙ rw (w, e)
 
-  pub offset_narrow : f.wide ≡ false → {s : ℕ} → s ≡ start_in b → {x : ℕ} → x ≡ load_at 2 b (s + 2 * k) → x ≡ offset_in f b k
+  pub offset_narrow : f.offsets ≡ Two → {s : ℕ} → s ≡ start_in b → {x : ℕ} → x ≡ load_at 2 b (s + 2 * k) → x ≡ offset_in f b k
   unfolding offset_in
   offset_narrow w e g = g ∙ rw (w, e)
 
@@ -97,18 +88,18 @@ module _ (f : Format) (b : List ℕ) (k : ℕ) where
   unfolding first_at
   first_short h = sym (rw (lt-leb 8 (length b) h))
 
-  pub message_short : length b < 8 → part b 0 0 ≡ message_at f b k
+  pub message_short : length b < 8 → [] ≡ message_at f b k
   unfolding message_at
-  message_short h = part_none b 0 ∙ sym (rw (lt-leb 8 (length b) h))
+  message_short h = sym (rw (lt-leb 8 (length b) h))
 
   module _ (h : 8 ≤ length b) where
     pub first_past : 65535 < k → 0 ≡ first_at f b k
     unfolding first_at
     first_past g = sym (rw (le-leb 8 (length b) h, lt-leb k 65535 g))
 
-    pub message_past : 65535 < k → part b 0 0 ≡ message_at f b k
+    pub message_past : 65535 < k → [] ≡ message_at f b k
     unfolding message_at
-    message_past g = part_none b 0 ∙ sym (rw (le-leb 8 (length b) h, lt-leb k 65535 g))
+    message_past g = sym (rw (le-leb 8 (length b) h, lt-leb k 65535 g))
 
     pub first_in : k ≤ 65535 → {x : ℕ} → x ≡ offset_in f b k → x ≡ first_at f b k
     unfolding first_at
@@ -120,7 +111,7 @@ module _ (f : Format) (b : List ℕ) (k : ℕ) where
 
 pub ruleset anywhere = (first_short, message_short, first_past, message_past, first_in, message_in_lem)
 
-pub ruleset places = (table_wide, table_narrow, part_clipped, part_there, most_wide, most_narrow, offset_wide, offset_narrow, end_next, end_last, message_is)
+pub ruleset places = (part_clipped, part_there, most_wide, most_narrow, offset_wide, offset_narrow, end_next, end_last, message_is)
 
 -- the trailer
 module _ (f : Format) (b : List ℕ) where
@@ -183,16 +174,15 @@ module _ (f : Format) (b : List ℕ) (k : ℕ) {o : ℕ} (e : o ≡ offset_in f 
     above h q = sym (rw (ne_eqb k 0 z, ← g, ← e, lt-ltb p o h, ← q))
 
 -- a message
-module _ (f : Format) (m : Limits) (b : List ℕ) (k : ℕ) {x : List ℕ} (e : x ≡ message_in f b k) {a : Answer} (g : a ≡ answer_of (read m Message x)) where
-  pub message_accepted : {n : ℕ} → a ≡ Accepted n → true ≡ message_stands f m b k
-  unfolding message_stands
-  message_accepted h = sym (rw (← e, accepted m Message x g h))
+pub message_tested : (f : Format) (m : Limits) (b : List ℕ) (k : ℕ) {x : List ℕ} → x ≡ message_in f b k → {a : Result ℕ Refusal} → a ≡ result_of (read m Message x) → is_ok a ≡ message_stands f m b k
+unfolding message_stands
+message_tested f m b k {x} e {a} g = rw (g, ← e) (go (read m Message x))
+  where
+    go : (y : ari.Answer) → is_ok (result_of y) ≡ is_accepted y
+    go (ari.accept n) = refl
+    go (ari.refuse r p) = refl
 
-  pub message_refused : {r p : ℕ} → a ≡ answers.Refused r p → false ≡ message_stands f m b k
-  unfolding message_stands
-  message_refused h = sym (rw (← e, refused m Message x g h))
-
-pub ruleset tests = (first_not_zero, first_zero, not_above, above, message_accepted, message_refused)
+pub ruleset tests = (first_not_zero, first_zero, not_above, above, message_tested)
 
 -- All before k pass: the first that fails is the first from there on.
 pub record Passing (p : ℕ → Bool) (n k : ℕ) : Type 0 where
@@ -222,16 +212,16 @@ has_trailer f b {t} e h = (within_true 8 (most_bytes f) (length b) (and-true (wi
 
 -- the trailer and the table
 module _ (f : Format) (b : List ℕ) {t : Bool} (e : t ≡ trailer_stands f b) where
-  pub no_trailer : not t ≡ true → Refused 20 0 ≡ outline_day f b
+  pub no_trailer : not t ≡ true → refused 20 0 ≡ outline_day f b
   unfolding outline_day
   no_trailer h = sym (rw (← e, not-true t h))
 
   module _ (h : not t ≡ false) {n : ℕ} (c : n ≡ count_in b) {i : ℕ} (g : i ≡ first_not (entry_stands f b) 0 n) where
-    pub bad_entry : i < n → Refused 21 i ≡ outline_day f b
+    pub bad_entry : i < n → refused 21 i ≡ outline_day f b
     unfolding outline_day
     bad_entry l = sym (rw (← e, not-false t h, ← c, ← g, lt-ltb i n l))
 
-    pub outline_stands : n ≤ i → Messages n ≡ outline_day f b
+    pub outline_stands : n ≤ i → Ok n ≡ outline_day f b
     unfolding outline_day
     outline_stands l = sym (rw (← e, not-false t h, ← c, ← g, le-ltb i n l))
 
@@ -240,47 +230,47 @@ module _ (f : Format) (m : Limits) (b : List ℕ) where
   abbrev wrong_entry : Bool
   wrong_entry = ltb (first_not (entry_stands f b) 0 (count_in b)) (count_in b)
 
-  refused_alike : (r p : ℕ) → Refused r p ≡ outline_day f b → Refused r p ≡ check_day f m b
+  refused_alike : (i : Refusal) → Err i ≡ outline_day f b → Err i ≡ check_day f m b
   unfolding outline_day check_day
-  refused_alike r p = go (trailer_stands f b) wrong_entry
+  refused_alike i = go (trailer_stands f b) wrong_entry
     where
-      go : (t x : Bool) → Refused r p ≡ cond t (cond x (Refused 21 (first_not (entry_stands f b) 0 (count_in b))) (Messages (count_in b))) (Refused 20 0)
-          → Refused r p ≡ cond t (cond x (Refused 21 (first_not (entry_stands f b) 0 (count_in b))) (unless_all 22 (message_stands f m b) (count_in b) (Messages (count_in b)))) (Refused 20 0)
+      go : (t x : Bool) → Err i ≡ cond t (cond x (refused 21 (first_not (entry_stands f b) 0 (count_in b))) (Ok (count_in b))) (refused 20 0)
+          → Err i ≡ cond t (cond x (refused 21 (first_not (entry_stands f b) 0 (count_in b))) (unless_all 22 (message_stands f m b) (count_in b) (Ok (count_in b)))) (refused 20 0)
       go false x q = q
       go true true q = q
       go true false q = absurd (let z : ◌≡◌ {A = ℕ} 0 1 = cc in omega arith)
 
-  goes_on : (n : ℕ) → Messages n ≡ outline_day f b → check_day f m b ≡ unless_all 22 (message_stands f m b) n (Messages n)
+  goes_on : (n : ℕ) → Ok n ≡ outline_day f b → check_day f m b ≡ unless_all 22 (message_stands f m b) n (Ok n)
   unfolding outline_day check_day
   goes_on n = go (trailer_stands f b) wrong_entry
     where
-      go : (t x : Bool) → Messages n ≡ cond t (cond x (Refused 21 (first_not (entry_stands f b) 0 (count_in b))) (Messages (count_in b))) (Refused 20 0)
-          → cond t (cond x (Refused 21 (first_not (entry_stands f b) 0 (count_in b))) (unless_all 22 (message_stands f m b) (count_in b) (Messages (count_in b)))) (Refused 20 0) ≡ unless_all 22 (message_stands f m b) n (Messages n)
+      go : (t x : Bool) → Ok n ≡ cond t (cond x (refused 21 (first_not (entry_stands f b) 0 (count_in b))) (Ok (count_in b))) (refused 20 0)
+          → cond t (cond x (refused 21 (first_not (entry_stands f b) 0 (count_in b))) (unless_all 22 (message_stands f m b) (count_in b) (Ok (count_in b)))) (refused 20 0) ≡ unless_all 22 (message_stands f m b) n (Ok n)
       go false x q = absurd (let z : ◌≡◌ {A = ℕ} 0 1 = cc in omega arith)
       go true true q = absurd (let z : ◌≡◌ {A = ℕ} 0 1 = cc in omega arith)
       go true false q = let z : n ≡ count_in b = cc in rw z
 
-  module _ {d : Day} (e : d ≡ outline_day f b) where
-    pub outline_refused : {r p : ℕ} → d ≡ Refused r p → Refused r p ≡ check_day f m b
-    outline_refused {r} {p} g = refused_alike r p (sym g ∙ e)
+  module _ {d : Result ℕ Refusal} (e : d ≡ outline_day f b) where
+    pub outline_refused : {i : Refusal} → d ≡ Err i → Err i ≡ check_day f m b
+    outline_refused {i} g = refused_alike i (sym g ∙ e)
 
-    module _ {n : ℕ} (g : d ≡ Messages n) {j : ℕ} (q : j ≡ first_not (message_stands f m b) 0 n) where
-      pub bad_message : j < n → Refused 22 j ≡ check_day f m b
+    module _ {n : ℕ} (g : d ≡ Ok n) {j : ℕ} (q : j ≡ first_not (message_stands f m b) 0 n) where
+      pub bad_message : j < n → refused 22 j ≡ check_day f m b
       bad_message k = sym (goes_on n (sym g ∙ e) ∙ rw (← q, lt-ltb j n k))
 
-      pub day_passes : n ≤ j → Messages n ≡ check_day f m b
+      pub day_passes : n ≤ j → Ok n ≡ check_day f m b
       day_passes k = sym (goes_on n (sym g ∙ e) ∙ rw (← q, le-ltb j n k))
 
 -- what is known of the answer
 module _ (f : Format) (b : List ℕ) where
-  pub sized_refused : (r p : ℕ) → Sized f b (Refused r p)
-  sized_refused r p = tt
+  pub sized_refused : (i : Refusal) → Sized f b (Err i)
+  sized_refused i = tt
 
-  pub sized_passes : {t : Bool} → t ≡ trailer_stands f b → not t ≡ false → {n : ℕ} → n ≡ count_in b → n < 65536 → Sized f b (Messages n)
+  pub sized_passes : {t : Bool} → t ≡ trailer_stands f b → not t ≡ false → {n : ℕ} → n ≡ count_in b → n < 65536 → Sized f b (Ok n)
   sized_passes {t} e h c l = (sym e ∙ not-false t h, c, l)
 
-  module _ {d : Day} (s : Sized f b d) {n : ℕ} (e : d ≡ Messages n) where
-    abbrev of : Sized f b (Messages n)
+  module _ {d : Result ℕ Refusal} (s : Sized f b d) {n : ℕ} (e : d ≡ Ok n) where
+    abbrev of : Sized f b (Ok n)
     of = rw e at s
 
     pub sized_trailer : trailer_stands f b ≡ true
@@ -295,7 +285,7 @@ module _ (f : Format) (b : List ℕ) where
     pub sized_few : n < 65536
     sized_few = of.2
 
-    pub sized_again : Sized f b (Messages n)
+    pub sized_again : Sized f b (Ok n)
     sized_again = of
 
     pub sized_below : {k : ℕ} → k < n → k < 65536
@@ -305,28 +295,30 @@ module _ (f : Format) (b : List ℕ) where
     sized_within h = omega (arith, sized_few)
 
 -- by number
-module _ (f : Format) (m : Limits) (b : List ℕ) (k : ℕ) {d : Day} (e : d ≡ check_day f m b) where
-  pub find_refused : {r p : ℕ} → d ≡ Refused r p → found.Refused r p ≡ find_day f m b k
+module _ (f : Format) (m : Limits) (b : List ℕ) (k : ℕ) {d : Result ℕ Refusal} (e : d ≡ check_day f m b) where
+  pub find_refused : {i : Refusal} → d ≡ Err i → Err i ≡ find_day f m b k
   unfolding find_day
   find_refused g = sym (rw (← e, g))
 
-  module _ {n : ℕ} (g : d ≡ Messages n) where
-    pub find_none : n ≤ k → found.Refused 17 n ≡ find_day f m b k
+  module _ {n : ℕ} (g : d ≡ Ok n) where
+    pub find_none : n ≤ k → refused 17 n ≡ find_day f m b k
     unfolding find_day
     find_none h = sym (rw (← e, g, le-ltb k n h))
 
-    pub find_there : k < n → {from : ℕ} → from ≡ offset_in f b k → {to : ℕ} → to ≡ end_in f b k → found.Part from to ≡ find_day f m b k
+    pub find_there : k < n → {from : ℕ} → from ≡ offset_in f b k → {to : ℕ} → to ≡ end_in f b k → Ok (record { from = from; to = to }) ≡ find_day f m b k
     unfolding find_day
     find_there h i j = sym (rw (← e, g, lt-ltb k n h, ← i, ← j))
 
-module _ (b : List ℕ) {d x : Found} (e : d ≡ x) where
-  pub part_found : {from to : ℕ} → d ≡ found.Part from to → {y : List ℕ} → y ≡ part b from to → y ≡ part_of b x
+module _ (b : List ℕ) {d x : Result Found Refusal} (e : d ≡ x) where
+  pub part_found : {found : Found} → d ≡ Ok found → {y : List ℕ} → y ≡ part b found.from found.to → y ≡ part_of b x
   part_found g h = h ∙ rw (← e, g)
 
-  pub part_refused : {r p : ℕ} → d ≡ found.Refused r p → part b 0 0 ≡ part_of b x
-  part_refused g = part_none b 0 ∙ rw (← e, g)
+  pub part_refused : {i : Refusal} → d ≡ Err i → [] ≡ part_of b x
+  part_refused g = rw (← e, g)
 
 pub ruleset finds = (sized_long, sized_below, sized_within, find_refused, find_none, find_there, part_found, part_refused)
+
+pub ruleset sizes = (sized_trailer, sized_count, sized_few)
 
 pub ruleset outlines = (sized_refused, sized_passes, has_trailer, no_trailer, bad_entry, outline_stands)
 

@@ -2,24 +2,25 @@
 -- what lies before.
 use Prim.Native.Nat.{ℕ, zero, suc, ◌+◌, ◌-◌, ◌*◌, ◌^◌, ◌<◌, ◌≤◌, min}
 use mathlib.Core.Path.{◌≡◌, refl, sym, ◌∙◌, ap}
-use mathlib.Core.Bool.{Bool, true, false, not, ◌&&◌, ◌||◌, cond, true≢false}
+use mathlib.Core.Bool.{Bool, true, false, not, ◌||◌, cond, true≢false}
 use mathlib.Core.List.{List, [], ◌∷◌, ◌++◌, append-nil, append_assoc, Memᴰ}
 use native.Mathlib.Omega.{arith}
 use native.Mathlib.Numerals.{add-one}
 use lib.ListN.{length, take, drop, get_or, length-append}
 use lib.Seq.{take_at, drop_at, get_or_at}
-use lib.Dec.{eqb, ltb, leb}
-use borrow.Author.Tests.{eqb-true, eq-eqb, ne_eqb, le-leb, lt-ltb, le-ltb}
-use Rattle.buffer.specs.Bytes.{be, value, load_at, part, within}
-use Rattle.buffer.proofs.ByteLaws.{length_be, value_be, within_is, or_right}
+use lib.Dec.{eqb, ltb}
+use borrow.Author.Tests.{eqb-true, eq-eqb, ne_eqb, lt-ltb, le-ltb}
+use Rattle.buffer.specs.Bytes.{be, value, load_at}
+use Rattle.buffer.proofs.ByteLaws.{length_be, value_be, within_is}
 use Rattle.buffer.proofs.Numbers.{load_there}
 use Rattle.cbor.specs.Head.{get_head}
 use Rattle.ari.specs.declared.Limits.{Limits}
 use Rattle.ari.specs.declared.Input.TheVariants.{Message}
-use Rattle.ari.specs.Reader.{Answer, accept, refuse, counted, visit, take_step, judge_got, run, frame, first_slot, bottom, read}
+use Rattle.ari.specs.Reader.{counted, visit, take_step, judge_got, run, frame, first_slot, bottom, read}
 use Rattle.day_file.specs.declared.Format.{Format}
-use Rattle.day_file.specs.declared.Day.{Day}
-use Rattle.day_file.specs.declared.Day.TheVariants.{Messages, Refused}
+use Rattle.day_file.specs.declared.Offsets.{Offsets}
+use Rattle.day_file.specs.declared.Offsets.TheVariants.{Two, Four}
+use Rattle.std.specs.declared.result.Result.TheVariants.{Ok}
 use Rattle.day_file.specs.Day.{width, most_bytes, join, offsets, trailer, file_of, count_in, start_in, offset_in, end_in, message_in, messages_from, messages_in, trailer_stands, entry_stands, message_stands, is_accepted, first_not, check_day}
 
 -- no accepted message is empty
@@ -66,18 +67,18 @@ file_length f xs =
 
 -- an offset of so many bytes holds every place of a file
 places_fit : (f : Format) (x : ℕ) → x ≤ most_bytes f → x < 256 ^ width f
-places_fit f x h = go f.wide refl
+places_fit f x h = go f.offsets refl
   where
-    go : (y : Bool) → f.wide ≡ y → x < 256 ^ width f
-    go true e = let k : x ≤ min f.bytes 4294967295 = rw e at h in rw e (omega arith)
-    go false e = let k : x ≤ min f.bytes 65535 = rw e at h in rw e (omega arith)
+    go : (y : Offsets) → f.offsets ≡ y → x < 256 ^ width f
+    go Four e = let k : x ≤ min f.bytes 4294967295 = rw e at h in rw e (omega arith)
+    go Two e = let k : x ≤ min f.bytes 65535 = rw e at h in rw e (omega arith)
 
 starts_fit : (f : Format) (x : ℕ) → x ≤ most_bytes f → x < 256 ^ 4
-starts_fit f x h = go f.wide refl
+starts_fit f x h = go f.offsets refl
   where
-    go : (y : Bool) → f.wide ≡ y → x < 256 ^ 4
-    go true e = let k : x ≤ min f.bytes 4294967295 = rw e at h in omega arith
-    go false e = let k : x ≤ min f.bytes 65535 = rw e at h in omega arith
+    go : (y : Offsets) → f.offsets ≡ y → x < 256 ^ 4
+    go Four e = let k : x ≤ min f.bytes 4294967295 = rw e at h in omega arith
+    go Two e = let k : x ≤ min f.bytes 65535 = rw e at h in omega arith
 
 -- where none fails
 first_none : (p : ℕ → Bool) (j i : ℕ) → ((k : ℕ) → i ≤ k → k < i + j → p k ≡ true) → first_not p i j ≡ i + j
@@ -285,7 +286,7 @@ module _ (f : Format) (m : Limits) (xs : List (List ℕ)) (few : length xs ≤ 6
         let here : message_in f b k ≡ c.here = rw c.number at (message_there c.before c.here c.behind c.whole) in
         rw here (accepted_at c)
 
-    pub file_passes : check_day f m b ≡ Messages n
+    pub file_passes : check_day f m b ≡ Ok n
     unfolding check_day
     file_passes =
         let entries : first_not (entry_stands f b) 0 n ≡ 0 + n = first_none (entry_stands f b) n 0 (λ k l g. entry_there k (omega arith)) in

@@ -1,23 +1,33 @@
 -- The day file: R154 to R161. Interface: all of it but `first_not` and what serves it.
 use Rattle.std.specs.Prelude.{ℕ, zero, suc, ◌+◌, ◌-◌, ◌*◌, ◌<◌, min, ◌≡◌, Bool, true, false, not, ◌&&◌, ◌||◌, cond, List, [], ◌∷◌, ◌++◌, length, drop, get_or, eqb, ltb, leb}
 use Rattle.buffer.specs.Bytes.{be, load_at, part, within}
+use Rattle.std.specs.declared.result.Result.{Result}
+use Rattle.std.specs.declared.result.Result.TheVariants.{Ok, Err}
 use Rattle.ari.specs.declared.Limits.{Limits}
+use Rattle.ari.specs.declared.Refusal.{Refusal}
+use Rattle.ari.specs.Refusals.{refused}
 use Rattle.ari.specs.declared.Input.TheVariants.{Message}
 use Rattle.ari.specs.Reader.{Answer, accept, refuse, read}
 use Rattle.day_file.specs.declared.Format.{Format}
-use Rattle.day_file.specs.declared.Day.{Day}
-use Rattle.day_file.specs.declared.Day.TheVariants.{Messages, Refused}
+use Rattle.day_file.specs.declared.Offsets.{Offsets}
+use Rattle.day_file.specs.declared.Offsets.TheVariants.{Two, Four}
 use Rattle.day_file.specs.declared.Found.{Found}
-use Rattle.day_file.specs.declared.Found.TheVariants as found
 use Rattle.day_file.specs.declared.Added.{Added}
-use Rattle.day_file.specs.declared.Added.TheVariants as added
 
 -- R154: a format has its version, offsets of 2 bytes or of 4, and the most bytes of a file, each of which an offset can name
+abbrev pub bytes_of : Offsets → ℕ
+bytes_of Two = 2
+bytes_of Four = 4
+
 abbrev pub width : Format → ℕ
-width f = cond f.wide 4 2
+width f = bytes_of f.offsets
+
+abbrev pub largest : Offsets → ℕ
+largest Two = 65535
+largest Four = 4294967295
 
 abbrev pub most_bytes : Format → ℕ
-most_bytes f = min f.bytes (cond f.wide 4294967295 65535)
+most_bytes f = min f.bytes (largest f.offsets)
 
 -- R155: the messages back to back, a table with the first byte of each, the trailer
 abbrev pub join : List (List ℕ) → List ℕ
@@ -91,35 +101,35 @@ abbrev pub first_not : (ℕ → Bool) → ℕ → ℕ → ℕ
 first_not p i zero = i
 first_not p i (suc n) = cond (p i) (first_not p (suc i) n) i
 
-abbrev pub unless_all : ℕ → (ℕ → Bool) → ℕ → Day → Day
-unless_all r p n x = cond (ltb (first_not p 0 n) n) (Refused r (first_not p 0 n)) x
+abbrev pub unless_all : ℕ → (ℕ → Bool) → ℕ → Result ℕ Refusal → Result ℕ Refusal
+unless_all r p n x = cond (ltb (first_not p 0 n) n) (refused r (first_not p 0 n)) x
 
 -- 20, 21, 22, or the number of messages
-unfoldable pub check_day : Format → Limits → List ℕ → Day
+unfoldable pub check_day : Format → Limits → List ℕ → Result ℕ Refusal
 check_day f m b =
-    cond (trailer_stands f b) (unless_all 21 (entry_stands f b) (count_in b) (unless_all 22 (message_stands f m b) (count_in b) (Messages (count_in b)))) (Refused 20 0)
+    cond (trailer_stands f b) (unless_all 21 (entry_stands f b) (count_in b) (unless_all 22 (message_stands f m b) (count_in b) (Ok (count_in b)))) (refused 20 0)
 
 -- the same before any message is looked at: 20, 21, or the number of messages
-unfoldable pub outline_day : Format → List ℕ → Day
-outline_day f b = cond (trailer_stands f b) (unless_all 21 (entry_stands f b) (count_in b) (Messages (count_in b))) (Refused 20 0)
+unfoldable pub outline_day : Format → List ℕ → Result ℕ Refusal
+outline_day f b = cond (trailer_stands f b) (unless_all 21 (entry_stands f b) (count_in b) (Ok (count_in b))) (refused 20 0)
 
 -- private to src/: what a file that passes has
-abbrev pub Sized : Format → List ℕ → Day → Type 0
-Sized f b (Refused r p) = Unit {0}
-Sized f b (Messages n) = (trailer_stands f b ≡ true) × (n ≡ count_in b) × (n < 65536)
+abbrev pub Sized : Format → List ℕ → Result ℕ Refusal → Type 0
+Sized f b (Err e) = Unit {0}
+Sized f b (Ok n) = (trailer_stands f b ≡ true) × (n ≡ count_in b) × (n < 65536)
 
 -- R159: message k by number; 17 with the count where there is none
-abbrev pub found_in : Day → Format → List ℕ → ℕ → Found
-found_in (Refused r p) f b k = found.Refused r p
-found_in (Messages n) f b k = cond (ltb k n) (found.Part (offset_in f b k) (end_in f b k)) (found.Refused 17 n)
+abbrev pub found_in : Result ℕ Refusal → Format → List ℕ → ℕ → Result Found Refusal
+found_in (Err e) f b k = Err e
+found_in (Ok n) f b k = cond (ltb k n) (Ok (record { from = offset_in f b k; to = end_in f b k })) (refused 17 n)
 
-unfoldable pub find_day : Format → Limits → List ℕ → ℕ → Found
+unfoldable pub find_day : Format → Limits → List ℕ → ℕ → Result Found Refusal
 find_day f m b k = found_in (check_day f m b) f b k
 
 -- that part of the file
-abbrev pub part_of : List ℕ → Found → List ℕ
-part_of b (found.Part from to) = part b from to
-part_of b (found.Refused r p) = []
+abbrev pub part_of : List ℕ → Result Found Refusal → List ℕ
+part_of b (Ok x) = part b x.from x.to
+part_of b (Err e) = []
 
 -- R160: one message more
 unfoldable pub with_message : Format → List ℕ → List ℕ → List ℕ
@@ -137,18 +147,20 @@ unfoldable pub grown : Format → List ℕ → ℕ → List ℕ → List ℕ
 grown f b n x = ((part b 0 (start_in b) ++ x) ++ (part b (start_in b) (start_in b + width f * n) ++ be (width f) (start_in b))) ++ trailer f (n + 1) (start_in b + length x)
 
 -- R161: the file's refusals, the message's, 23, then 16
-unfoldable pub full_or : Format → List ℕ → List ℕ → ℕ → Added
-full_or f b x room = cond (is_full f b x) (added.Refused 23 0) (cond (ltb room (new_length f b x)) (added.Refused 16 (new_length f b x)) (added.File (count_in b + 1) (new_length f b x)))
+unfoldable pub full_or : Format → List ℕ → List ℕ → ℕ → Result Added Refusal
+full_or f b x room =
+    cond (is_full f b x) (refused 23 0)
+    (cond (ltb room (new_length f b x)) (refused 16 (new_length f b x)) (Ok (record { messages = count_in b + 1; bytes = new_length f b x })))
 
-abbrev pub added_by : Day → Answer → Format → List ℕ → List ℕ → ℕ → Added
-added_by (Refused r p) a f b x room = added.Refused r p
-added_by (Messages n) (refuse r p) f b x room = added.Refused r p
-added_by (Messages n) (accept k) f b x room = full_or f b x room
+abbrev pub added_by : Result ℕ Refusal → Answer → Format → List ℕ → List ℕ → ℕ → Result Added Refusal
+added_by (Err e) a f b x room = Err e
+added_by (Ok n) (refuse r p) f b x room = refused r p
+added_by (Ok n) (accept k) f b x room = full_or f b x room
 
-unfoldable pub add_day : Format → Limits → List ℕ → List ℕ → ℕ → Added
+unfoldable pub add_day : Format → Limits → List ℕ → List ℕ → ℕ → Result Added Refusal
 add_day f m b x room = added_by (check_day f m b) (read m Message x) f b x room
 
 -- the room holds the new file at its front, and is as it was where there is none
-abbrev pub room_after : Added → List ℕ → List ℕ → List ℕ
-room_after (added.Refused r p) new out = out
-room_after (added.File n k) new out = new ++ drop k out
+abbrev pub room_after : Result Added Refusal → List ℕ → List ℕ → List ℕ
+room_after (Err e) new out = out
+room_after (Ok a) new out = new ++ drop a.bytes out

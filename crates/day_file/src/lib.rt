@@ -4,60 +4,59 @@
 ghost use Rattle.std.specs.Prelude.{◌≡◌, true, ◌++◌, ◌+◌, ◌*◌, ◌<◌, ◌≤◌, length};
 ghost use Rattle.buffer.specs.Bytes.{be, part};
 ghost use Rattle.buffer.specs.Put.{Put};
-ghost use Rattle.day_file.specs.Day.{width, most_bytes, trailer, count_in, start_in, offset_in, end_in, message_in, first_at, message_at, trailer_stands, entry_stands, message_stands, first_not, Sized, check_day, outline_day, find_day, part_of, is_full, full_or, grown, with_message, add_day, room_after};
+ghost use Rattle.day_file.specs.Day.{width, most_bytes, trailer, count_in, start_in, offset_in, end_in, message_in, first_at, message_at, trailer_stands, entry_stands, message_stands, Sized, check_day, outline_day, find_day, part_of, is_full, full_or, grown, with_message, add_day, room_after};
 ghost use Rattle.day_file.specs.Versions.{is_second, format_of, limits_of};
 
-use ari::{Input, Limits};
-use reader::Answer;
+use ari::{Fault, Input, Limits, Refusal};
 
-// A version with its offsets, of 2 bytes or wide ones of 4, and the most bytes of a file.
-#[derive(Clone, Copy)]
+// The bytes of an offset.
+#[derive(Clone, Copy, PartialEq, Eq)]
+pub enum Offsets {
+    Two = 2,
+    Four = 4,
+}
+
+// A version with its offsets and the most bytes of a file.
+#[derive(Clone, Copy, PartialEq, Eq)]
 pub struct Format {
     pub version: u8,
-    pub wide: bool,
+    pub offsets: Offsets,
     pub bytes: usize,
 }
 
 pub const VERSION_1: Format = Format {
     version: 1,
-    wide: false,
+    offsets: Offsets::Two,
     bytes: 65535,
 };
 
 pub const VERSION_2: Format = Format {
     version: 2,
-    wide: true,
+    offsets: Offsets::Four,
     bytes: 1048576,
 };
 
-// The number of messages; or 20, 21 with an entry of the table, 22 with a message's number.
-#[derive(Clone, Copy)]
-pub enum Day {
-    Messages(usize),
-    Refused { number: u8, place: usize },
-}
-
 // Where a message stands in the file.
-#[derive(Clone, Copy)]
-pub enum Found {
-    Part { from: usize, to: usize },
-    Refused { number: u8, place: usize },
+#[derive(Clone, Copy, PartialEq, Eq)]
+pub struct Found {
+    pub from: usize,
+    pub to: usize,
 }
 
 // A new file's messages and bytes.
-#[derive(Clone, Copy)]
-pub enum Added {
-    File { messages: usize, bytes: usize },
-    Refused { number: u8, place: usize },
+#[derive(Clone, Copy, PartialEq, Eq)]
+pub struct Added {
+    pub messages: usize,
+    pub bytes: usize,
 }
 
 // The bytes from one place to another, as far as there are.
 pub fn part<'a>(s: &'a [u8], from: usize, to: usize) -> &'a [u8]
     ensures { result.now ≡ part s.now from to }
 {
-    let end = buffer::least(to, s.len());
+    let end = to.min(s.len());
     if end < from {
-        return &s[0..0];
+        return &[];
     }
     &s[from..end]
 }
@@ -66,10 +65,7 @@ fn width(format: Format) -> usize
     ensures value { result ≡ width format }
     ensures upper_bound { result ≤ 4 }
 {
-    if format.wide {
-        return 4;
-    }
-    2
+    format.offsets as usize
 }
 
 // The bytes of a table of so many entries.
@@ -78,30 +74,26 @@ fn table_bytes(format: Format, count: usize) -> usize
     ensures value { result ≡ width format * count }
     ensures upper_bound { result < 262144 }
 {
-    if format.wide {
-        return 4 * count;
-    }
-    2 * count
+    width(format) * count
 }
 
 fn most_bytes(format: Format) -> usize
     ensures { result ≡ most_bytes format }
 {
-    if format.wide {
-        return buffer::least(format.bytes, 4294967295);
-    }
-    buffer::least(format.bytes, 65535)
+    let largest = match format.offsets {
+        Offsets::Two => 65535,
+        Offsets::Four => 4294967295,
+    };
+    format.bytes.min(largest)
 }
 
 // The trailer names version 2.
+#[tactic(auto, unfolding(crate::specs::Versions::is_second))]
 fn is_second(file: &[u8]) -> bool
     ensures { result ≡ is_second file.now }
 {
     let n = file.len();
-    if n < 8 {
-        return false;
-    }
-    file[n - 8] == 2
+    8 <= n && file[n - 8] == 2
 }
 
 // The format of a file, and the limits of its messages, by the version that its trailer names. One that names neither is refused in version 1.
@@ -141,19 +133,21 @@ fn start_in(file: &[u8]) -> usize
 }
 
 // Entry k of the table.
+#[tactic(auto, using(crate::proofs::Ways::places))]
 fn offset_in(format: Format, file: &[u8], k: usize) -> usize
     requires { (8 ≤ length file.now) × (k ≤ 65536) }
     ensures value { result ≡ offset_in format file.now k }
     ensures upper_bound { result < 4294967296 }
 {
     let start = start_in(file);
-    if format.wide {
-        return buffer::load4(file, start + 4 * k) as usize;
+    match format.offsets {
+        Offsets::Two => buffer::load2(file, start + 2 * k) as usize,
+        Offsets::Four => buffer::load4(file, start + 4 * k) as usize,
     }
-    buffer::load2(file, start + 2 * k) as usize
 }
 
 // The end of message k: the next one's first byte, or the table.
+#[tactic(auto, using(crate::proofs::Ways::places))]
 fn end_in(format: Format, file: &[u8], k: usize) -> usize
     requires { (8 ≤ length file.now) × (k < 65536) }
     ensures { result ≡ end_in format file.now k }
@@ -164,6 +158,7 @@ fn end_in(format: Format, file: &[u8], k: usize) -> usize
     start_in(file)
 }
 
+#[tactic(auto, using(crate::proofs::Ways::places))]
 fn message_in<'a>(format: Format, file: &'a [u8], k: usize) -> &'a [u8]
     requires { (8 ≤ length file.now) × (k < 65536) }
     ensures { result.now ≡ message_in format file.now k }
@@ -173,6 +168,7 @@ fn message_in<'a>(format: Format, file: &'a [u8], k: usize) -> &'a [u8]
 }
 
 // The first byte of message k by the table, and the message: of any bytes, for those who have checked them.
+#[tactic(auto, using(crate::proofs::Ways::anywhere))]
 pub fn first_at(format: Format, file: &[u8], k: usize) -> usize
     ensures value { result ≡ first_at format file.now k }
     ensures upper_bound { result < 4294967296 }
@@ -186,19 +182,21 @@ pub fn first_at(format: Format, file: &[u8], k: usize) -> usize
     offset_in(format, file, k)
 }
 
+#[tactic(auto, using(crate::proofs::Ways::anywhere))]
 pub fn message_at<'a>(format: Format, file: &'a [u8], k: usize) -> &'a [u8]
     ensures { result.now ≡ message_at format file.now k }
 {
     if file.len() < 8 {
-        return &file[0..0];
+        return &[];
     }
     if 65535 < k {
-        return &file[0..0];
+        return &[];
     }
     message_in(format, file, k)
 }
 
 // The version, a zero byte, and parts that add up to the file; no messages have no bytes.
+#[tactic(auto, using(crate::proofs::Ways::trailers))]
 fn trailer_stands(format: Format, file: &[u8]) -> bool
     ensures { result ≡ trailer_stands format file.now }
 {
@@ -227,6 +225,7 @@ fn trailer_stands(format: Format, file: &[u8]) -> bool
 }
 
 // The first entry is 0, each is above the one before, all are below the table's start.
+#[tactic(auto, using(crate::proofs::Ways::tests))]
 fn entry_stands(format: Format, file: &[u8], k: usize) -> bool
     requires { (8 ≤ length file.now) × (k < 65536) }
     ensures { result ≡ entry_stands format file.now k }
@@ -244,122 +243,91 @@ fn entry_stands(format: Format, file: &[u8], k: usize) -> bool
     offset < start_in(file)
 }
 
-fn first_bad_entry(format: Format, file: &[u8], count: usize) -> usize
-    requires { (8 ≤ length file.now) × (count < 65536) }
-    ensures { result ≡ first_not (entry_stands format file.now) 0 count }
-{
-    let mut k = 0;
-    while k < count {
-        if !entry_stands(format, file, k) {
-            return k;
-        }
-        k += 1;
-    }
-    k
-}
-
+#[tactic(auto, using(crate::proofs::Ways::tests))]
 fn message_stands(format: Format, limits: Limits, file: &[u8], k: usize) -> bool
     requires { (8 ≤ length file.now) × (k < 65536) }
     ensures { result ≡ message_stands format limits file.now k }
 {
-    match reader::check(Input::Message, limits, message_in(format, file, k)) {
-        Answer::Accepted(_) => true,
-        Answer::Refused { .. } => false,
-    }
+    reader::check(Input::Message, limits, message_in(format, file, k)).is_ok()
 }
 
-fn first_bad_message(format: Format, limits: Limits, file: &[u8], count: usize) -> usize
-    requires { (8 ≤ length file.now) × (count < 65536) }
-    ensures { result ≡ first_not (message_stands format limits file.now) 0 count }
-{
-    let mut k = 0;
-    while k < count {
-        if !message_stands(format, limits, file, k) {
-            return k;
-        }
-        k += 1;
-    }
-    k
-}
-
-// The trailer and the table, which come before any message: for those who check the messages as they read them.
-pub fn outline(format: Format, file: &[u8]) -> Day
+// The trailer and the table, which come before any message: for those who check the messages as they read them. The number of messages; or 20, 21 with
+// an entry of the table.
+#[tactic(auto, using(crate::proofs::Ways::outlines, crate::proofs::Ways::firsts))]
+pub fn outline(format: Format, file: &[u8]) -> Result<usize, Refusal>
     ensures value { result ≡ outline_day format file.now }
     ensures sized { Sized format file.now result }
 {
     if !trailer_stands(format, file) {
-        return Day::Refused {
-            number: 20,
+        return Err(Refusal {
+            fault: Fault::BadTrailer,
             place: 0,
-        };
+        });
     }
     let count = count_in(file);
-    let entry = first_bad_entry(format, file, count);
-    if entry < count {
-        return Day::Refused {
-            number: 21,
-            place: entry,
-        };
+    for entry in 0..count {
+        if !entry_stands(format, file, entry) {
+            return Err(Refusal {
+                fault: Fault::BadOffset,
+                place: entry,
+            });
+        }
     }
-    Day::Messages(count)
+    Ok(count)
 }
 
 // The check, and what is known of a file that passes it.
-fn checked(format: Format, limits: Limits, file: &[u8]) -> Day
+#[tactic(auto, using(crate::proofs::Ways::checks, crate::proofs::Ways::firsts))]
+fn checked(format: Format, limits: Limits, file: &[u8]) -> Result<usize, Refusal>
     ensures value { result ≡ check_day format limits file.now }
     ensures sized { Sized format file.now result }
 {
-    match outline(format, file) {
-        Day::Refused { number, place } => Day::Refused { number, place },
-        Day::Messages(count) => {
-            let message = first_bad_message(format, limits, file, count);
-            if message < count {
-                return Day::Refused {
-                    number: 22,
-                    place: message,
-                };
-            }
-            Day::Messages(count)
+    let count = outline(format, file)?;
+    for message in 0..count {
+        if !message_stands(format, limits, file, message) {
+            return Err(Refusal {
+                fault: Fault::BadMessage,
+                place: message,
+            });
         }
     }
+    Ok(count)
 }
 
-// Whether bytes are a day file of messages within these limits.
-pub fn check(format: Format, limits: Limits, file: &[u8]) -> Day
+// Whether bytes are a day file of messages within these limits: their number; or 20, 21, 22 with a message's number.
+pub fn check(format: Format, limits: Limits, file: &[u8]) -> Result<usize, Refusal>
     ensures { result ≡ check_day format limits file.now }
 {
     checked(format, limits, file)
 }
 
 // Where a message stands, by its number.
-pub fn find(format: Format, limits: Limits, file: &[u8], number: u64) -> Found
+#[tactic(auto, using(crate::proofs::Ways::finds))]
+pub fn find(format: Format, limits: Limits, file: &[u8], number: u64) -> Result<Found, Refusal>
     ensures { result ≡ find_day format limits file.now number }
 {
-    match checked(format, limits, file) {
-        Day::Refused { number, place } => Found::Refused { number, place },
-        Day::Messages(count) => {
-            let k = number as usize;
-            if count <= k {
-                return Found::Refused {
-                    number: 17,
-                    place: count,
-                };
-            }
-            Found::Part {
-                from: offset_in(format, file, k),
-                to: end_in(format, file, k),
-            }
-        }
+    let count = checked(format, limits, file)?;
+    let k = number as usize;
+    if count <= k {
+        return Err(Refusal {
+            fault: Fault::NoSuchNumber,
+            place: count,
+        });
     }
+    Ok(Found {
+        from: offset_in(format, file, k),
+        to: end_in(format, file, k),
+    })
 }
 
 // That part of the file; no accepted message is empty, so an empty part is none.
+#[tactic(auto, using(crate::proofs::Ways::finds))]
 pub fn message<'a>(format: Format, limits: Limits, file: &'a [u8], number: u64) -> &'a [u8]
     ensures { result.now ≡ part_of file.now (find_day format limits file.now number) }
 {
     match find(format, limits, file, number) {
-        Found::Part { from, to } => part(file, from, to),
-        Found::Refused { .. } => &file[0..0],
+        Ok(found) => part(file, found.from, found.to),
+        Err(_) => &[],
     }
 }
 
@@ -368,20 +336,20 @@ fn put_offset(format: Format, out: &mut [u8], at: usize, x: usize) -> usize
     requires { x ≤ most_bytes format }
     ensures { Put out.old out.new at result (be (width format) x) }
 {
-    if format.wide {
-        return buffer::put4(out, at, x as u32);
+    match format.offsets {
+        Offsets::Two => buffer::put2(out, at, x as u16),
+        Offsets::Four => buffer::put4(out, at, x as u32),
     }
-    buffer::put2(out, at, x as u16)
 }
 
-fn put_trailer(format: Format, out: &mut [u8], at: usize, count: usize, start: usize) -> usize
-    requires { (count < 65536) × (start < 4294967296) }
+// A trailer: how many messages, and the table's first byte.
+pub fn put_trailer(format: Format, out: &mut [u8], at: usize, count: u16, start: u32) -> usize
     ensures { Put out.old out.new at result (trailer format count start) }
 {
     let a = buffer::put(out, at, format.version);
     let b = buffer::put(out, a, 0);
-    let c = buffer::put2(out, b, count as u16);
-    buffer::put4(out, c, start as u32)
+    let c = buffer::put2(out, b, count);
+    buffer::put4(out, c, start)
 }
 
 // The messages up to the table, and one more.
@@ -393,6 +361,7 @@ fn put_messages(file: &[u8], start: usize, message: &[u8], out: &mut [u8]) -> us
 }
 
 // The table, and an entry more for the message that now stands where it stood.
+#[tactic(auto, using(crate::proofs::Adding::puts))]
 fn put_table(
     format: Format,
     file: &[u8],
@@ -410,6 +379,7 @@ fn put_table(
 }
 
 // The file with a message between its messages and its table, an entry more and another trailer.
+#[tactic(auto, using(crate::proofs::Adding::puts))]
 fn put_grown(format: Format, file: &[u8], count: usize, message: &[u8], out: &mut [u8]) -> usize
     requires in_bounds { (8 ≤ length file.now) × (start_in file.now ≤ most_bytes format) }
     requires count_bound { (count + 1 < 65536) × (start_in file.now + length message.now < 4294967296) }
@@ -418,9 +388,11 @@ fn put_grown(format: Format, file: &[u8], count: usize, message: &[u8], out: &mu
     let start = start_in(file);
     let a = put_messages(file, start, message, out);
     let b = put_table(format, file, start, count, out, a);
-    put_trailer(format, out, b, count + 1, start + message.len())
+    let new_start = start + message.len();
+    put_trailer(format, out, b, (count + 1) as u16, new_start as u32)
 }
 
+#[tactic(auto, using(crate::proofs::Adding::fulls))]
 fn is_full(format: Format, file: &[u8], count: usize, message: &[u8]) -> bool
     requires { (length file.now ≤ most_bytes format) × (count ≡ count_in file.now) }
     ensures { result ≡ is_full format file.now message.now }
@@ -436,41 +408,51 @@ fn is_full(format: Format, file: &[u8], count: usize, message: &[u8]) -> bool
 }
 
 // An accepted message into a file that passes.
-fn add_accepted(format: Format, file: &[u8], count: usize, message: &[u8], out: &mut [u8]) -> Added
+#[tactic(auto, using(crate::proofs::Adding::adds))]
+fn add_accepted(
+    format: Format,
+    file: &[u8],
+    count: usize,
+    message: &[u8],
+    out: &mut [u8],
+) -> Result<Added, Refusal>
     requires { (trailer_stands format file.now ≡ true) × (count ≡ count_in file.now) × (count < 65536) }
     ensures value { result ≡ full_or format file.now message.now (length out.old) }
     ensures out_after { out.new ≡ room_after result (grown format file.now count message.now) out.old }
 {
     if is_full(format, file, count, message) {
-        return Added::Refused {
-            number: 23,
+        return Err(Refusal {
+            fault: Fault::DayFull,
             place: 0,
-        };
+        });
     }
     let bytes = file.len() + (message.len() + width(format));
     if out.len() < bytes {
-        return Added::Refused {
-            number: 16,
+        return Err(Refusal {
+            fault: Fault::NoRoom,
             place: bytes,
-        };
+        });
     }
     put_grown(format, file, count, message, out);
-    Added::File {
+    Ok(Added {
         messages: count + 1,
         bytes,
-    }
+    })
 }
 
 // The file with one message more, in lent room.
-pub fn add(format: Format, limits: Limits, file: &[u8], message: &[u8], out: &mut [u8]) -> Added
+#[tactic(auto, using(crate::proofs::Adding::addings, crate::proofs::Ways::sizes))]
+pub fn add(
+    format: Format,
+    limits: Limits,
+    file: &[u8],
+    message: &[u8],
+    out: &mut [u8],
+) -> Result<Added, Refusal>
     ensures value { result ≡ add_day format limits file.now message.now (length out.old) }
     ensures out_after { out.new ≡ room_after result (with_message format file.now message.now) out.old }
 {
-    match checked(format, limits, file) {
-        Day::Refused { number, place } => Added::Refused { number, place },
-        Day::Messages(count) => match reader::check(Input::Message, limits, message) {
-            Answer::Refused { number, place } => Added::Refused { number, place },
-            Answer::Accepted(_) => add_accepted(format, file, count, message, out),
-        },
-    }
+    let count = checked(format, limits, file)?;
+    reader::check(Input::Message, limits, message)?;
+    add_accepted(format, file, count, message, out)
 }

@@ -19,11 +19,12 @@ use Rattle.ari.specs.Listing.{Space, number, name, relative, Entry}
 use Rattle.ari.specs.Reader.{read}
 use Rattle.item_table.specs.Entries.{Tabled}
 use Rattle.item_table.proofs.Entries.{fewer_than_bytes}
-use Rattle.reader.specs.declared.Answer.{Answer}
-use Rattle.reader.specs.declared.Answer.TheVariants.{Accepted}
-use Rattle.reader.specs.declared.Answer.TheVariants as answers
-use Rattle.reader.specs.Answers.{answer_of}
-use Rattle.reader.proofs.Kept.{accepted, refused}
+use Rattle.std.specs.declared.result.Result.{Result}
+use Rattle.std.specs.declared.result.Result.TheVariants.{Ok, Err}
+use Rattle.ari.specs.declared.Refusal.{Refusal}
+use Rattle.ari.specs.Reader as ari
+use Rattle.reader.specs.Results.{result_of}
+use Rattle.reader.proofs.Results.{is_accepted}
 use Rattle.listing.specs.declared.Reference.{Reference}
 use Rattle.listing.specs.declared.Reference.TheVariants.{Nothing, To}
 use Rattle.listing.specs.declared.Namespace.{Namespace}
@@ -33,7 +34,7 @@ use Rattle.listing.proofs.Table.{listing_from, Here, from_start, from_end, no_re
 use Rattle.names.specs.Translated.{stands_for, translate, translated, stands_by}
 use Rattle.names.proofs.Translation.{stands_code}
 use Rattle.day_search.specs.Search.{Hit, is_word, hits_in, hit_bytes, hits_bytes}
-use Rattle.day_search.specs.Tally.{is_sought, hits_within, hits_over, Finds}
+use Rattle.day_search.specs.Tally.{is_sought, hits_by, hits_within, hits_over, Finds}
 use Rattle.day_file.specs.declared.Format.{Format}
 use Rattle.day_file.specs.Day.{first_at, message_at}
 use native.Mathlib.Numerals.{add-one}
@@ -149,14 +150,18 @@ hit_put x y z i j k = (put_both i (put_both j k)).bytes
 pub ruleset findings = (finding_none, finding_few, place_fits, finding_all, finding_over, first_fits, after_fits, finding_miss, finding_hit)
 
 -- from the message's answer
-module _ (m : Limits) (b published own : List ℕ) (w message base : ℕ) {a : Answer} (e : a ≡ answer_of (read m Message b)) where
-  pub none_found : (o : List ℕ) (c : ℕ) {r p : ℕ} → a ≡ answers.Refused r p → Finds o o c c (hits_within m published own w message base b)
+module _ (m : Limits) (b published own : List ℕ) (w message base : ℕ) {a : Result ℕ Refusal} (e : a ≡ result_of (read m Message b)) where
+  pub none_found : (o : List ℕ) (c : ℕ) {i : Refusal} → a ≡ Err i → Finds o o c c (hits_within m published own w message base b)
   unfolding hits_within
-  none_found o c f = rw (refused m Message b e f) (finds_none o c)
+  none_found o c {i} f = go (read m Message b) (sym f ∙ e)
+    where
+      go : (y : ari.Answer) → Err i ≡ result_of y → Finds o o c c (hits_by y w message base (translated published own b))
+      go (ari.refuse r p) q = finds_none o c
+      go (ari.accept n) q = absurd (let z : ◌≡◌ {A = ℕ} 0 1 = cc in omega arith)
 
-  pub all_found : {o o' : List ℕ} {c d n : ℕ} → a ≡ Accepted n → Finds o o' c d (hits_in w message base (translated published own b)) → Finds o o' c d (hits_within m published own w message base b)
+  pub all_found : {o o' : List ℕ} {c d n : ℕ} → a ≡ Ok n → Finds o o' c d (hits_in w message base (translated published own b)) → Finds o o' c d (hits_within m published own w message base b)
   unfolding hits_within
-  all_found f p = rw (accepted m Message b e f) p
+  all_found f p = rw (is_accepted m Message b e f) p
 
 pub ruleset messages = (none_found, all_found)
 

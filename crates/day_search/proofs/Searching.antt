@@ -25,15 +25,14 @@ use Rattle.names.specs.declared.Names.TheVariants as lists
 use Rattle.names.specs.Names.{check_names}
 use Rattle.names.specs.Translated.{translate, translated}
 use Rattle.day_file.specs.declared.Format.{Format}
-use Rattle.day_file.specs.declared.Day.{Day}
-use Rattle.day_file.specs.declared.Day.TheVariants as day
-use Rattle.day_file.specs.declared.Day.TheVariants.{Messages}
+use Rattle.std.specs.declared.result.Result.{Result}
+use Rattle.std.specs.declared.result.Result.TheVariants.{Ok, Err}
+use Rattle.ari.specs.declared.Refusal.{Refusal}
+use Rattle.ari.specs.Refusals.{refused}
 use Rattle.day_file.specs.Day.{join, count_in, start_in, offset_in, end_in, message_in, messages_from, first_at, message_at, message_stands, is_accepted, check_day}
 use Rattle.day_file.proofs.Files.{trailer_says, messages_joined}
 use Rattle.day_file.proofs.Adding.{Passes, passes_all}
 use Rattle.day_file.proofs.Days.{count_small}
-use Rattle.day_search.specs.declared.Searched.{Searched}
-use Rattle.day_search.specs.declared.Searched.TheVariants.{Entries, Refused}
 use Rattle.day_search.specs.Search.{Hit, is_word, hits_in, hits_from, hits, hits_bytes, search_day, room_after}
 use Rattle.day_search.specs.Tally.{hits_by, hits_within, hits_over, Finds, found_or}
 use Rattle.day_search.proofs.Finding.{length_hits}
@@ -115,13 +114,13 @@ module _ (f : Format) (m : Limits) (b published own : List ℕ) (w n : ℕ) (o :
   hs = hits_over f m b published own w 0 n
 
   module _ {e e' : List ℕ} {d : ℕ} (p : Finds e e' 0 d hs) where
-    pub too_many : length o / 24 < d → Refused 16 d ≡ found_or (length hs) (length o / 24)
+    pub too_many : length o / 24 < d → refused 16 d ≡ found_or (length hs) (length o / 24)
     too_many h = let e : length hs ≡ d = omega (arith, p.count) in sym (rw (e, lt-ltb (length o / 24) d h))
 
     pub counted_room : d ≤ length o / 24 → length hs ≤ length o / 24
     counted_room h = omega (arith, p.count)
 
-  pub sure_room : ((i : ℕ) → Fits w8 (get_or b i 0)) → Messages n ≡ check_day f m b → length b / 2 ≤ length o / 24 → length hs ≤ length o / 24
+  pub sure_room : ((i : ℕ) → Fits w8 (get_or b i 0)) → Ok n ≡ check_day f m b → length b / 2 ≤ length o / 24 → length hs ≤ length o / 24
   sure_room bytes e h =
       let p = passes_all f m b e in
       let small = count_small f m b (all_bytes b bytes) p in
@@ -129,10 +128,10 @@ module _ (f : Format) (m : Limits) (b published own : List ℕ) (w n : ℕ) (o :
       omega (arith, half_as_many f m b published own w (all_bytes b bytes) p small)
 
   module _ (h : length hs ≤ length o / 24) {o' : List ℕ} {r : ℕ} (p : Finds o o' 0 r hs) where
-    pub enough : Entries r ≡ found_or (length hs) (length o / 24)
+    pub enough : Ok r ≡ found_or (length hs) (length o / 24)
     enough = let e : r ≡ length hs = omega (arith, p.count) in rw e (sym (rw (le-ltb (length o / 24) (length hs) h)))
 
-    pub filled_with : o' ≡ room_after (Entries r) hs o
+    pub filled_with : o' ≡ room_after (Ok r) hs o
     filled_with =
         let long = length_hits hs in
         let z : 0 + length (hits_bytes hs) ≡ 24 * r = omega (arith, p.count) in
@@ -141,16 +140,16 @@ module _ (f : Format) (m : Limits) (b published own : List ℕ) (w n : ℕ) (o :
 pub ruleset rooms = (too_many, counted_room, sure_room, enough, filled_with)
 
 -- the whole
-module _ (f : Format) (m : Limits) (b published own : List ℕ) (w room : ℕ) {d : Day} (e : d ≡ check_day f m b) where
-  pub search_refused : {r p : ℕ} → d ≡ day.Refused r p → Refused r p ≡ search_day f m b published own w room
+module _ (f : Format) (m : Limits) (b published own : List ℕ) (w room : ℕ) {d : Result ℕ Refusal} (e : d ≡ check_day f m b) where
+  pub search_refused : {i : Refusal} → d ≡ Err i → Err i ≡ search_day f m b published own w room
   unfolding search_day
   search_refused g = sym (rw (← e, g))
 
-  module _ {n : ℕ} (g : d ≡ day.Messages n) where
+  module _ {n : ℕ} (g : d ≡ Ok n) where
     abbrev passes : Passes f m b n
     passes = passes_all f m b (sym g ∙ e)
 
-    pub passes_so : day.Messages n ≡ check_day f m b
+    pub passes_so : Ok n ≡ check_day f m b
     passes_so = sym g ∙ e
 
     pub few_messages : ((i : ℕ) → Fits w8 (get_or b i 0)) → n < 65536
@@ -161,15 +160,15 @@ module _ (f : Format) (m : Limits) (b published own : List ℕ) (w room : ℕ) {
     all_found bytes = ap (hits_over f m b published own w 0) passes.count ∙ found f m b published own w passes (count_small f m b (all_bytes b bytes) passes) (count_in b) 0 (omega arith)
 
     module _ {c : Names} (h : c ≡ check_names published own) where
-      pub search_wrong_list : {p : ℕ} → c ≡ lists.Refused p → Refused 19 p ≡ search_day f m b published own w room
+      pub search_wrong_list : {p : ℕ} → c ≡ lists.Refused p → refused 19 p ≡ search_day f m b published own w room
       unfolding search_day
       search_wrong_list i = sym (rw (← e, g, ← h, i))
 
-      pub search_done : c ≡ lists.Passes → ((i : ℕ) → Fits w8 (get_or b i 0)) → {r : Searched} → r ≡ found_or (length (hits_over f m b published own w 0 n)) room → r ≡ search_day f m b published own w room
+      pub search_done : c ≡ lists.Passes → ((i : ℕ) → Fits w8 (get_or b i 0)) → {r : Result ℕ Refusal} → r ≡ found_or (length (hits_over f m b published own w 0 n)) room → r ≡ search_day f m b published own w room
       unfolding search_day
       search_done i bytes q = q ∙ sym (rw (← e, g, ← h, i, ← all_found bytes))
 
-    pub search_room : ((i : ℕ) → Fits w8 (get_or b i 0)) → (r : Searched) (o : List ℕ) {o' : List ℕ} → o' ≡ room_after r (hits_over f m b published own w 0 n) o → o' ≡ room_after r (hits f b published own w) o
+    pub search_room : ((i : ℕ) → Fits w8 (get_or b i 0)) → (r : Result ℕ Refusal) (o : List ℕ) {o' : List ℕ} → o' ≡ room_after r (hits_over f m b published own w 0 n) o → o' ≡ room_after r (hits f b published own w) o
     search_room bytes r o q = rw (← all_found bytes) q
 
 pub ruleset searches = (search_refused, passes_so, few_messages, search_wrong_list, search_done, search_room)

@@ -1,7 +1,11 @@
 -- Search of a day file by a namespace number: R162 to R164. Interface: all of it.
 use Rattle.std.specs.Prelude.{ℕ, zero, suc, ◌+◌, ◌*◌, Bool, false, cond, List, [], ◌∷◌, ◌++◌, length, drop, eqb, ltb}
 use Rattle.buffer.specs.Bytes.{be}
+use Rattle.std.specs.declared.result.Result.{Result}
+use Rattle.std.specs.declared.result.Result.TheVariants.{Ok, Err}
 use Rattle.ari.specs.declared.Limits.{Limits}
+use Rattle.ari.specs.declared.Refusal.{Refusal}
+use Rattle.ari.specs.Refusals.{refused}
 use Rattle.ari.specs.Signed.{word}
 use Rattle.ari.specs.Listing.{Space, number, name, relative, Entry}
 use Rattle.names.specs.declared.Names.{Names}
@@ -9,11 +13,7 @@ use Rattle.names.specs.declared.Names.TheVariants as lists
 use Rattle.names.specs.Names.{check_names}
 use Rattle.names.specs.Translated.{translated}
 use Rattle.day_file.specs.declared.Format.{Format}
-use Rattle.day_file.specs.declared.Day.{Day}
-use Rattle.day_file.specs.declared.Day.TheVariants as day
 use Rattle.day_file.specs.Day.{count_in, offset_in, message_in, check_day}
-use Rattle.day_search.specs.declared.Searched.{Searched}
-use Rattle.day_search.specs.declared.Searched.TheVariants.{Entries, Refused}
 
 -- R162: a reference that was found: the message's number, its first byte in the file, the byte after
 pub record Hit : Type 0 where
@@ -49,14 +49,14 @@ hits_bytes [] = []
 hits_bytes (h ∷ hs) = hit_bytes h ++ hits_bytes hs
 
 -- R164: the file's refusals, 19, then 16 in entries
-abbrev pub searched_by : Day → Names → List Hit → ℕ → Searched
-searched_by (day.Refused r p) c hs room = Refused r p
-searched_by (day.Messages n) (lists.Refused p) hs room = Refused 19 p
-searched_by (day.Messages n) lists.Passes hs room = cond (ltb room (length hs)) (Refused 16 (length hs)) (Entries (length hs))
+abbrev pub searched_by : Result ℕ Refusal → Names → List Hit → ℕ → Result ℕ Refusal
+searched_by (Err e) c hs room = Err e
+searched_by (Ok n) (lists.Refused p) hs room = refused 19 p
+searched_by (Ok n) lists.Passes hs room = cond (ltb room (length hs)) (refused 16 (length hs)) (Ok (length hs))
 
-unfoldable pub search_day : Format → Limits → List ℕ → List ℕ → List ℕ → ℕ → ℕ → Searched
+unfoldable pub search_day : Format → Limits → List ℕ → List ℕ → List ℕ → ℕ → ℕ → Result ℕ Refusal
 search_day f m b published own w room = searched_by (check_day f m b) (check_names published own) (hits f b published own w) room
 
-abbrev pub room_after : Searched → List Hit → List ℕ → List ℕ
-room_after (Refused r p) hs out = out
-room_after (Entries k) hs out = hits_bytes hs ++ drop (24 * k) out
+abbrev pub room_after : Result ℕ Refusal → List Hit → List ℕ → List ℕ
+room_after (Err e) hs out = out
+room_after (Ok k) hs out = hits_bytes hs ++ drop (24 * k) out

@@ -1,7 +1,11 @@
 -- Private to src/: what is found, message by message.
 use Rattle.std.specs.Prelude.{ℕ, zero, suc, ◌+◌, ◌*◌, ◌≡◌, Bool, false, cond, List, [], ◌++◌, length, eqb, ltb}
 use Rattle.std.proofs.lemmas.List.Edits.{sets}
+use Rattle.std.specs.declared.result.Result.{Result}
+use Rattle.std.specs.declared.result.Result.TheVariants.{Ok}
 use Rattle.ari.specs.declared.Limits.{Limits}
+use Rattle.ari.specs.declared.Refusal.{Refusal}
+use Rattle.ari.specs.Refusals.{refused}
 use Rattle.ari.specs.declared.Input.TheVariants.{Message}
 use Rattle.ari.specs.Reader.{Answer, accept, refuse, read}
 use Rattle.ari.specs.Listing.{Entry}
@@ -10,8 +14,6 @@ use Rattle.listing.specs.declared.Namespace.TheVariants as code
 use Rattle.names.specs.Translated.{translated}
 use Rattle.day_file.specs.declared.Format.{Format}
 use Rattle.day_file.specs.Day.{first_at, message_at}
-use Rattle.day_search.specs.declared.Searched.{Searched}
-use Rattle.day_search.specs.declared.Searched.TheVariants.{Entries, Refused}
 use Rattle.day_search.specs.Search.{Hit, hits_in, hits_bytes}
 
 -- a namespace as the code has it
@@ -39,5 +41,5 @@ pub record Finds (room room' : List ℕ) (c r : ℕ) (hs : List Hit) : Type 0 wh
   pub count : r ≡ c + length hs
 
 -- what so many answer
-abbrev pub found_or : ℕ → ℕ → Searched
-found_or c room = cond (ltb room c) (Refused 16 c) (Entries c)
+abbrev pub found_or : ℕ → ℕ → Result ℕ Refusal
+found_or c room = cond (ltb room c) (refused 16 c) (Ok c)

@@ -20,10 +20,11 @@ use Rattle.ari.specs.Limits.{gate_limits, first_limits}
 use Rattle.ari.specs.declared.Input.TheVariants.{Message}
 use Rattle.ari.specs.Reader.{Answer, accept, refuse, read}
 use Rattle.ari.proofs.Larger.{Within, larger_accepts}
-use Rattle.day_file.specs.declared.Day.{Day}
-use Rattle.day_file.specs.declared.Day.TheVariants.{Messages, Refused}
+use Rattle.std.specs.declared.result.Result.{Result}
+use Rattle.std.specs.declared.result.Result.TheVariants.{Ok, Err}
+use Rattle.ari.specs.declared.Refusal.{Refusal}
+use Rattle.ari.specs.Refusals.{refused}
 use Rattle.day_file.specs.declared.Added.{Added}
-use Rattle.day_file.specs.declared.Added.TheVariants as added
 use Rattle.day_file.specs.Day.{join, offsets, trailer, file_of, count_in, start_in, offset_in, first_at, messages_from, messages_in, is_accepted, check_day}
 use Rattle.day_file.specs.Versions.{version1, version2}
 use Rattle.day_file.proofs.Files.{Trailer, trailer_says, starts, next_offset, messages_joined}
@@ -42,15 +43,12 @@ module _ (b : List ℕ) where
       → Put o o₂ at q (wide_offsets b (k + 1))
   an_offset k p {x} e q = rw (add-one k, ← e) (put_both p q)
 
-  pub all_offsets : (k n : ℕ) {o o₁ : List ℕ} {at p : ℕ} → Put o o₁ at p (wide_offsets b k) → k ≤ n → n ≤ k → Put o o₁ at p (wide_offsets b n)
-  all_offsets k n p h g = let e : n ≡ k = omega arith in rw e p
-
   pub all_parts : (n st : ℕ) {u : List ℕ} → u ≡ part b 0 st → {o o₁ o₂ o₃ : List ℕ} {q r s : ℕ} → Put o o₁ 0 q u → Put o₁ o₂ q r (wide_offsets b n)
       → Put o₂ o₃ r s (trailer version2 n st) → Put o o₃ 0 s (rewritten b n st)
   unfolding rewritten
   all_parts n st e p q r = put_both (put_both (rw e at p) q) r
 
-pub ruleset rewritings = (no_offsets, an_offset, all_offsets, all_parts)
+pub ruleset rewritings = (no_offsets, an_offset, all_parts)
 
 -- the offsets from k on
 abbrev run : List ℕ → ℕ → ℕ → List ℕ
@@ -70,7 +68,7 @@ up_to_on b (suc j) k h g =
     ∙ (ap (λ (x : ℕ). (wide_offsets b k ++ be 4 x) ++ run b (suc k) j) (sym f) ∙ (up_to_on b j (suc k) h (omega arith) ∙ rw e))
 
 -- a file of version 1 that passes
-module _ (b : List ℕ) {n : ℕ} (e : Messages n ≡ check_day version1 first_limits b) where
+module _ (b : List ℕ) {n : ℕ} (e : Ok n ≡ check_day version1 first_limits b) where
   p : Passes version1 first_limits b n
   p = passes_all version1 first_limits b e
 
@@ -104,10 +102,10 @@ module _ (b : List ℕ) {n : ℕ} (e : Messages n ≡ check_day version1 first_l
   pub fits_bytes : Fits w64 (length b + 2 * n)
   fits_bytes = record { fits = omega (arith, few_messages, short_enough) }
 
-  pub no_room : (room : ℕ) → room < length b + 2 * n → added.Refused 16 (length b + 2 * n) ≡ upgraded_by (Messages n) b room
+  pub no_room : (room : ℕ) → room < length b + 2 * n → refused 16 (length b + 2 * n) ≡ upgraded_by (Ok n) b room
   no_room room h = rw (lt-ltb room (length b + 2 * n) h)
 
-  pub has_room : (room : ℕ) → length b + 2 * n ≤ room → added.File n (length b + 2 * n) ≡ upgraded_by (Messages n) b room
+  pub has_room : (room : ℕ) → length b + 2 * n ≤ room → Ok (record { messages = n; bytes = length b + 2 * n }) ≡ upgraded_by (Ok n) b room
   has_room room h = rw (le-ltb room (length b + 2 * n) h)
 
   module _ (bytes : all is_byte b ≡ true) where
@@ -156,15 +154,15 @@ module _ (b : List ℕ) {n : ℕ} (e : Messages n ≡ check_day version1 first_l
 pub ruleset upgradings = (has_trailer, has_table, few_messages, small_start, fits_twice, fits_bytes, no_room, has_room, room_after)
 
 -- the whole
-module _ (b : List ℕ) (room : ℕ) {d : Day} (e : d ≡ check_day version1 first_limits b) where
-  pub it_passes : {n : ℕ} → d ≡ Messages n → Messages n ≡ check_day version1 first_limits b
+module _ (b : List ℕ) (room : ℕ) {d : Result ℕ Refusal} (e : d ≡ check_day version1 first_limits b) where
+  pub it_passes : {n : ℕ} → d ≡ Ok n → Ok n ≡ check_day version1 first_limits b
   it_passes g = sym g ∙ e
 
-  pub upgrade_refused : {r p : ℕ} → d ≡ Refused r p → added.Refused r p ≡ upgrade_day b room
+  pub upgrade_refused : {i : Refusal} → d ≡ Err i → Err i ≡ upgrade_day b room
   unfolding upgrade_day
   upgrade_refused g = sym (rw (← e, g))
 
-  pub upgrade_done : {n : ℕ} → d ≡ Messages n → {r : Added} → r ≡ upgraded_by (Messages n) b room → r ≡ upgrade_day b room
+  pub upgrade_done : {n : ℕ} → d ≡ Ok n → {r : Result Added Refusal} → r ≡ upgraded_by (Ok n) b room → r ≡ upgrade_day b room
   unfolding upgrade_day
   upgrade_done g q = q ∙ sym (rw (← e, g))
 
@@ -196,7 +194,7 @@ each_byte (y ∷ ys) e x h = go (Memᴰ.cases_cons h) (each_byte ys (all_behind 
     go (inr q) ih = ih q
 
 -- R193: the new file passes in version 2, within the gate's own limits, with the same messages.
-module _ (b : List ℕ) (bytes : all is_byte b ≡ true) {n : ℕ} (e : check_day version1 first_limits b ≡ Messages n) where
+module _ (b : List ℕ) (bytes : all is_byte b ≡ true) {n : ℕ} (e : check_day version1 first_limits b ≡ Ok n) where
   passing : Passes version1 first_limits b n
   passing = passes_all version1 first_limits b (sym e)
 
@@ -210,10 +208,10 @@ module _ (b : List ℕ) (bytes : all is_byte b ≡ true) {n : ℕ} (e : check_da
     short = omega (arith, old.short, file_length version1 (messages_in version1 b), file_length version2 (messages_in version1 b));
   }
 
-  pub upgraded_passes : check_day version2 gate_limits (upgraded b) ≡ Messages n
+  pub upgraded_passes : check_day version2 gate_limits (upgraded b) ≡ Ok n
   unfolding upgraded
   upgraded_passes =
-      file_passes version2 gate_limits (messages_in version1 b) new.few new.short new.accepted ∙ ap Messages (counted version1 first_limits b bytes passing)
+      file_passes version2 gate_limits (messages_in version1 b) new.few new.short new.accepted ∙ ap Ok (counted version1 first_limits b bytes passing)
 
   pub same_messages : messages_in version2 (upgraded b) ≡ messages_in version1 b
   unfolding upgraded

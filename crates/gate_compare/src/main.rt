@@ -4,7 +4,7 @@
 
 ghost use Rattle.std.specs.Prelude.{◌≤◌, length};
 
-use ari::Input;
+use ari::{Input, Refusal};
 use std::env::Env;
 
 // A target takes four items at least, a report six (comparison, proofs/PositionBound.antt).
@@ -28,7 +28,7 @@ struct Entry {
 }
 
 fn entry_at(entries: &[u8], i: usize) -> Entry {
-    let at = buffer::least(i, POSITIONS) * comparison::ENTRY;
+    let at = i.min(POSITIONS) * comparison::ENTRY;
     Entry {
         what: buffer::load8(entries, at),
         first: buffer::load8(entries, at + 8),
@@ -38,16 +38,18 @@ fn entry_at(entries: &[u8], i: usize) -> Entry {
 
 // Up to item k: numbers rise from one position to the next, so that each item is passed once.
 fn pass_to(entries: &[u64], passed: Passed, k: usize) -> Passed {
+    let end = k.saturating_add(1).min(entries.len());
+    let Some(later) = entries.get(passed.items..end) else {
+        return passed;
+    };
     let mut targets = passed.targets;
-    let mut j = passed.items;
-    while j < entries.len() {
-        if k < j {
-            return Passed { items: j, targets };
-        }
-        targets = item_records::pass(targets, entries[j]);
-        j += 1;
+    for &entry in later {
+        targets = item_records::pass(targets, entry);
     }
-    Passed { items: j, targets }
+    Passed {
+        items: end,
+        targets,
+    }
 }
 
 // The same for one of a changed position's items; another position has none.
@@ -64,19 +66,15 @@ fn put_item(
     at: usize,
     s: &[u8],
     entries: &[u64],
-    passed: &Passed,
+    passed: Passed,
     k: usize,
 ) -> usize {
-    if k < entries.len() {
-        let p = print::fresh_line(out, at);
-        let targets = item_records::Targets {
-            count: passed.targets.count,
-            end: passed.targets.end,
-        };
-        let x = item_records::record_of(s, targets, entries[k]);
-        return print::item(out, p, k, x, b"  ");
-    }
-    at
+    let Some(&entry) = entries.get(k) else {
+        return at;
+    };
+    let p = print::fresh_line(out, at);
+    let record = item_records::record_of(s, passed.targets, entry);
+    print::item(out, p, k, record, b"  ")
 }
 
 // A position's own line.
@@ -105,10 +103,10 @@ fn put_lines(
     e: Entry,
     a: &[u8],
     xs: &[u64],
-    in_first: &Passed,
+    in_first: Passed,
     b: &[u8],
     ys: &[u64],
-    in_second: &Passed,
+    in_second: Passed,
 ) -> usize {
     let p = put_position(out, at, i, e);
     if e.what == comparison::CHANGED {
@@ -135,15 +133,12 @@ fn show_entries(
         items: 0,
         targets: item_records::NO_TARGETS,
     };
-    let n = buffer::least(count, POSITIONS);
     let mut p = 0;
-    let mut i = 0;
-    while i < n {
+    for i in 0..count.min(POSITIONS) {
         let e = entry_at(entries, i);
         in_first = pass_changed(xs, in_first, e, e.first);
         in_second = pass_changed(ys, in_second, e, e.second);
-        p = put_lines(out, p, i, e, a, xs, &in_first, b, ys, &in_second);
-        i += 1;
+        p = put_lines(out, p, i, e, a, xs, in_first, b, ys, in_second);
     }
     print::flush(out, p);
 }
@@ -153,8 +148,8 @@ fn keep(s: &[u8], entries: &mut [u64]) -> usize
     ensures { result ≤ length entries.old }
 {
     match reader::keep(Input::Message, ari::LIMITS, s, entries) {
-        reader::Answer::Accepted(count) => buffer::least(count, entries.len()),
-        reader::Answer::Refused { .. } => 0,
+        Ok(count) => count.min(entries.len()),
+        Err(_) => 0,
     }
 }
 
@@ -180,36 +175,35 @@ fn show_accepted(a: &[u8], b: &[u8], entries: &[u8], count: usize) {
 }
 
 // The refused file is the first, if it is refused by itself.
-fn show_refused(rt: &impl Env, first: &[u8], number: u8, place: usize) {
-    print::send_refusal(number, place);
-    match reader::check_message(first) {
-        reader::Answer::Accepted(_) => input_file::say_name(rt, 2),
-        reader::Answer::Refused { .. } => input_file::say_name(rt, 1),
-    }
+fn show_refused(rt: &impl Env, first: &[u8], refusal: Refusal) {
+    print::send_refusal(refusal);
+    let file = if reader::check_message(first).is_err() {
+        1
+    } else {
+        2
+    };
+    input_file::say_name(rt, file);
 }
 
 fn show(rt: &impl Env, first: &[u8], second: &[u8], room: &mut [u8]) {
     match comparison::compare(first, second, room) {
-        comparison::Compared::Entries {
-            different: _,
-            entries,
-        } => show_accepted(first, second, room, entries),
-        comparison::Compared::Refused { number, place } => show_refused(rt, first, number, place),
+        Ok(compared) => show_accepted(first, second, room, compared.entries),
+        Err(refusal) => show_refused(rt, first, refusal),
     }
 }
 
 fn main(rt: HostRuntime) {
     let mut first = [0u8; ari::BYTES + 1];
     let mut second = [0u8; ari::BYTES + 1];
-    let b = input_file::load_both(
+    let loaded = input_file::load_both(
         &rt,
         b"usage: gate compare FILE FILE\n",
         &mut first,
         &mut second,
     );
-    if b.loaded {
-        let n = b.first;
-        let m = b.second;
+    if let Some(both) = loaded {
+        let n = both.first;
+        let m = both.second;
         let mut room = [0u8; ROOM];
         show(&rt, &first[..n], &second[..m], &mut room);
     }

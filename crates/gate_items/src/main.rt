@@ -7,15 +7,14 @@ use ari::Input;
 
 // The items of an accepted input, by the words of its table, or its refusal.
 fn show_input(s: &[u8], input: Input, entries: &mut [u64], out: &mut [u8]) {
-    let a = reader::keep(input, ari::LIMITS, s, entries);
-    match a {
-        reader::Answer::Accepted(count) => {
+    match reader::keep(input, ari::LIMITS, s, entries) {
+        Ok(count) => {
             if count <= entries.len() {
                 let p = print::items(out, 0, s, &entries[0..count], b"  ");
                 print::flush(out, p);
             }
         }
-        reader::Answer::Refused { number, place } => print::refusal(out, number, place),
+        Err(refusal) => print::refusal(out, refusal),
     }
 }
 

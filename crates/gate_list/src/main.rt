@@ -3,10 +3,8 @@
 
 fn show(s: &[u8], out: &mut [u8], room: &mut [u8]) {
     match listing::list_message(s, room) {
-        listing::Listed::Refused { number, place } => print::refusal(out, number, place),
-        listing::Listed::Entries { listed, count } => print::references(
-            out, s, room, listed, count,
-        ),
+        Err(refusal) => print::refusal(out, refusal),
+        Ok(entries) => print::references(out, s, room, entries.listed, entries.count),
     }
 }
 

@@ -4,56 +4,22 @@
 
 ghost use Rattle.std.specs.Prelude.{◌≤◌, length};
 
-use input_file::Loaded;
+use ari::{Fault, Refusal};
 use std::env::Env;
 use std::fs::Files;
 
-// One line end more; no file has so many that they are not counted.
-fn counted(n: u64, byte: u8) -> u64
-    ensures { result ≤ 4294967296 }
-{
-    if 4294967295 < n {
-        return 4294967296;
-    }
-    if byte == b'\n' {
-        return n + 1;
-    }
-    n
-}
-
 // How many lines end in a part of a list.
 fn line_ends(t: &[u8]) -> u64
-    ensures { result ≤ 4294967296 }
-{
-    let mut n = 0;
-    let mut i = 0;
-    while i < t.len() {
-        n = counted(n, t[i]);
-        i += 1;
-    }
-    n
-}
-
-// The place of a byte, or the end.
-fn place_of(t: &[u8], byte: u8) -> usize
     ensures { result ≤ length t.now }
 {
-    let mut i = 0;
-    while i < t.len() {
-        if t[i] == byte {
-            return i;
-        }
-        i += 1;
-    }
-    t.len()
+    t.iter().filter(|&&byte| byte == b'\n').count() as u64
 }
 
 // What is wrong with a line that has a line feed behind it.
 fn put_fault(out: &mut [u8], at: usize, line: &[u8]) -> usize {
-    let q = place_of(line, b'=');
-    if q == line.len() {
+    let Some(q) = line.iter().position(|&byte| byte == b'=') else {
         return buffer::put_all(out, at, b"no \"=\" in it");
-    }
+    };
     if !grammar::is_namespace_name(&line[0..q]) {
         return buffer::put_all(out, at, b"no namespace name before the \"=\"");
     }
@@ -66,10 +32,9 @@ fn put_fault(out: &mut [u8], at: usize, line: &[u8]) -> usize {
 
 // The same, from the line's first byte on.
 fn put_reason(out: &mut [u8], at: usize, rest: &[u8]) -> usize {
-    let e = place_of(rest, b'\n');
-    if e == rest.len() {
+    let Some(e) = rest.iter().position(|&byte| byte == b'\n') else {
         return buffer::put_all(out, at, b"no line feed behind it");
-    }
+    };
     put_fault(out, at, &rest[0..e])
 }
 
@@ -106,7 +71,8 @@ fn show_refused(
     published_name: &[u8],
     own_name: &[u8],
 ) {
-    let p = print::refused(out, 0, 19, place);
+    let fault = Fault::BadLine;
+    let p = print::refused(out, 0, Refusal { fault, place });
     if place < published.len() {
         show_at(out, p, published_name, published, place);
         return;
@@ -163,26 +129,16 @@ fn judge<'a>(
 fn judge_own(rt: &(impl Env + Files), published: &[u8], published_name: &[u8], text: &mut [u8]) {
     let mut path = io::buffer();
     let n = arguments::put(rt, 2, &mut path);
-    match list_file::load_argument(rt, 2, text) {
-        Loaded::Bytes(size) => {
-            if size <= text.len() {
-                judge(rt, published, &text[0..size], published_name, &path[..n]);
-            }
-        }
-        Loaded::Nothing => {}
+    if let Some(size) = list_file::load_argument(rt, 2, text) {
+        judge(rt, published, &text[0..size], published_name, &path[..n]);
     }
 }
 
 fn judge_published(rt: &(impl Env + Files), text: &mut [u8], own: &mut [u8]) {
     let mut path = io::buffer();
     let n = arguments::put(rt, 1, &mut path);
-    match list_file::load_argument(rt, 1, text) {
-        Loaded::Bytes(size) => {
-            if size <= text.len() {
-                judge_own(rt, &text[0..size], &path[..n], own);
-            }
-        }
-        Loaded::Nothing => {}
+    if let Some(size) = list_file::load_argument(rt, 1, text) {
+        judge_own(rt, &text[0..size], &path[..n], own);
     }
 }
 

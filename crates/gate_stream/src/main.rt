@@ -21,8 +21,8 @@ fn is_received<F: Read>(
         if n == 0 {
             return true;
         }
-        if let stream::Fed::Refused { number, place } = stream::feed(state, message, &piece[..n]) {
-            print::refusal(out, number, place);
+        if let Err(refusal) = stream::feed(state, message, &piece[..n]) {
+            print::refusal(out, refusal);
             return false;
         }
         total += n;
@@ -32,10 +32,8 @@ fn is_received<F: Read>(
 
 fn show(state: &mut [u64], message: &[u8], out: &mut [u8], room: &mut [u8]) {
     match stream::close(state, message, room) {
-        listing::Listed::Refused { number, place } => print::refusal(out, number, place),
-        listing::Listed::Entries { listed, count } => {
-            print::references(out, message, room, listed, count)
-        }
+        Err(refusal) => print::refusal(out, refusal),
+        Ok(entries) => print::references(out, message, room, entries.listed, entries.count),
     }
 }
 

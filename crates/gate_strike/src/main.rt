@@ -2,18 +2,13 @@
 // line `refused N P`; a message has nothing behind it.
 #![tactic(auto)]
 
-fn send(answer: strike::Struck, room: &[u8]) {
-    match answer {
-        strike::Struck::Message { bytes, .. } => {
-            print::flush(room, bytes);
-        }
-        strike::Struck::Refused { number, place } => print::send_refusal(number, place),
-    }
-}
-
 fn strike_message(message: &[u8], number: usize, room: &mut [u8]) {
-    let answer = strike::strike_message(message, number, room);
-    send(answer, room);
+    match strike::strike_message(message, number, room) {
+        Ok(struck) => {
+            print::flush(room, struck.bytes);
+        }
+        Err(refusal) => print::send_refusal(refusal),
+    }
 }
 
 // At most one byte past the limit is read.
@@ -30,8 +25,8 @@ fn main(rt: HostRuntime) {
         return;
     }
     match arguments::number(&rt, 1) {
-        buffer::Number::Value(n) => strike_input(n as usize),
-        buffer::Number::Bad => {
+        Some(n) => strike_input(n as usize),
+        None => {
             io::write_all(2, b"NUMBER is no number from 0 to 18446744073709551615\n");
         }
     }

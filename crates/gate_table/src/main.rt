@@ -6,47 +6,35 @@
 use arguments::Choice;
 use std::io::Read;
 
-fn subscriber_of(t: &[u8], row: u64) -> u64 {
-    if 4294967296 < row {
-        return 0;
-    }
-    buffer::load8(t, row as usize * 16)
+// The bytes of a row.
+const ROW: usize = 16;
+
+fn subscriber_of(t: &[u8], row: usize) -> u64 {
+    buffer::load8(t, row.saturating_mul(ROW))
 }
 
-fn namespace_of(t: &[u8], row: u64) -> u64 {
-    if 4294967296 < row {
-        return 0;
-    }
-    buffer::load8(t, row as usize * 16 + 8)
+fn namespace_of(t: &[u8], row: usize) -> u64 {
+    buffer::load8(t, row.saturating_mul(ROW).saturating_add(8))
 }
 
 // Whether two rows are of one namespace and of two subscribers.
-fn clash(t: &[u8], row: u64, other: u64) -> bool {
-    if namespace_of(t, row) != namespace_of(t, other) {
-        return false;
-    }
-    subscriber_of(t, row) != subscriber_of(t, other)
+fn clash(t: &[u8], row: usize, other: usize) -> bool {
+    namespace_of(t, row) == namespace_of(t, other)
+        && subscriber_of(t, row) != subscriber_of(t, other)
 }
 
 // The first row that clashes with a row, or the row itself.
-fn partner(t: &[u8], row: u64) -> u64 {
-    let mut k = 0;
-    while k < row {
-        if clash(t, row, k) {
-            return k;
-        }
-        k += 1;
-    }
-    row
+fn partner(t: &[u8], row: usize) -> usize {
+    (0..row).find(|&other| clash(t, row, other)).unwrap_or(row)
 }
 
-fn put_row(out: &mut [u8], at: usize, word: &[u8], t: &[u8], row: u64) -> usize {
-    let a = print::numbered(out, at, word, row);
+fn put_row(out: &mut [u8], at: usize, word: &[u8], t: &[u8], row: usize) -> usize {
+    let a = print::numbered(out, at, word, row as u64);
     print::numbered(out, a, b": subscriber ", subscriber_of(t, row))
 }
 
 // `row 3: subscriber 9 holds private namespace -20 of row 1: subscriber 7`
-fn put_clash(out: &mut [u8], at: usize, t: &[u8], row: u64) -> usize {
+fn put_clash(out: &mut [u8], at: usize, t: &[u8], row: usize) -> usize {
     let a = put_row(out, at, b"row ", t, row);
     let b = buffer::put_all(out, a, b" holds private namespace ");
     let c = print::integer(out, b, namespace_of(t, row));
@@ -56,24 +44,24 @@ fn put_clash(out: &mut [u8], at: usize, t: &[u8], row: u64) -> usize {
 
 fn judge(t: &[u8], out: &mut [u8]) {
     match grants::check_table(t) {
-        grants::Verdict::Passes => {
-            let a = print::numbered(out, 0, b"passes ", (t.len() / 16) as u64);
+        Ok(()) => {
+            let a = print::numbered(out, 0, b"passes ", (t.len() / ROW) as u64);
             let b = buffer::put(out, a, b'\n');
             print::flush(out, b);
         }
-        grants::Verdict::Refused(row) => {
-            let a = print::refused(out, 0, 18, row as usize);
-            let b = put_clash(out, a, t, row);
+        Err(refusal) => {
+            let a = print::refused(out, 0, refusal);
+            let b = put_clash(out, a, t, refusal.place);
             print::flush(out, b);
         }
     }
 }
 
 fn answer(room: &[u8], rows: usize, pack: bool) {
-    if room.len() / 16 < rows {
+    if room.len() / ROW < rows {
         return;
     }
-    let size = rows * 16;
+    let size = rows * ROW;
     if pack {
         print::flush(room, size);
         return;
@@ -83,9 +71,8 @@ fn answer(room: &[u8], rows: usize, pack: bool) {
 }
 
 fn answer_in<F: Read>(input: &mut F, room: &mut [u8], pack: bool) {
-    match grant_file::load(input, b"table", room) {
-        grant_file::Held::Rows(n) => answer(room, n, pack),
-        grant_file::Held::Nothing => {}
+    if let Some(rows) = grant_file::load(input, b"table", room) {
+        answer(room, rows, pack);
     }
 }
 

@@ -3,14 +3,16 @@
 #![tactic(auto)]
 
 use arguments::Choice;
+use ari::Refusal;
+use text_write::Written;
 
 // What was written into a lent buffer, or the refusal.
-fn send(answer: text_write::Written, room: &[u8]) {
+fn send(answer: Result<Written, Refusal>, room: &[u8]) {
     match answer {
-        text_write::Written::Bytes { length, .. } => {
+        Ok(Written { length, .. }) => {
             print::flush(room, length);
         }
-        text_write::Written::Refused { number, place } => print::send_refusal(number, place),
+        Err(refusal) => print::send_refusal(refusal),
     }
 }
 

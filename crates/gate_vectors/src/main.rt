@@ -6,7 +6,8 @@
 ghost use Rattle.std.specs.Prelude.{◌≤◌, length};
 ghost use Rattle.gate_vectors.specs.Within.{Roomy};
 
-use ari::Input;
+use ari::{Input, Refusal};
+use text_write::Written;
 
 // What a line asks for: the check or the items, of a single ARI or of a message; an ARI's text; a text's ARI.
 #[derive(Clone, Copy)]
@@ -93,13 +94,12 @@ fn unhex(digits: &[u8], buffer: &mut [u8]) -> Bytes
 }
 
 fn check_input(s: &[u8], input: Input, out: &mut [u8], at: usize) -> usize {
-    let a = reader::check(input, ari::LIMITS, s);
-    print::answer(out, at, a)
+    print::answer(out, at, reader::check(input, ari::LIMITS, s))
 }
 
 fn list_in(s: &[u8], input: Input, entries: &mut [u64], out: &mut [u8], at: usize) -> usize {
     let a = reader::keep(input, ari::LIMITS, s, entries);
-    let reader::Answer::Accepted(count) = a else {
+    let Ok(count) = a else {
         return print::answer(out, at, a);
     };
     if entries.len() < count {
@@ -114,9 +114,9 @@ fn list_input(s: &[u8], input: Input, out: &mut [u8], at: usize) -> usize {
     list_in(s, input, &mut entries, out, at)
 }
 
-fn refused_line(out: &mut [u8], at: usize, number: u8, place: usize) -> usize {
+fn refused_line(out: &mut [u8], at: usize, refusal: Refusal) -> usize {
     let p = print::fresh_line(out, at);
-    print::refused(out, p, number, place)
+    print::refused(out, p, refusal)
 }
 
 // The start of an acceptance's line: a word and the item count.
@@ -145,24 +145,24 @@ fn digits_of(room: &[u8], length: usize, out: &mut [u8], at: usize) -> usize {
 // A text may be longer than the room that is kept for a line: it goes out by itself.
 fn write_in(s: &[u8], room: &mut [u8], out: &mut [u8], at: usize) -> usize {
     match text_write::write_text(s, room) {
-        text_write::Written::Bytes { length, count } => {
+        Ok(Written { length, count }) => {
             let p = started(out, at, b"text ", count);
             print::flush(out, p);
             print::flush(room, length);
             buffer::put(out, 0, b'\n')
         }
-        text_write::Written::Refused { number, place } => refused_line(out, at, number, place),
+        Err(e) => refused_line(out, at, e),
     }
 }
 
 fn read_in(t: &[u8], room: &mut [u8], out: &mut [u8], at: usize) -> usize {
     match text_read::read_text(t, room) {
-        text_write::Written::Bytes { length, count } => {
+        Ok(Written { length, count }) => {
             let p = started(out, at, b"bytes ", count);
             let q = digits_of(room, length, out, p);
             buffer::put(out, q, b'\n')
         }
-        text_write::Written::Refused { number, place } => refused_line(out, at, number, place),
+        Err(e) => refused_line(out, at, e),
     }
 }
 

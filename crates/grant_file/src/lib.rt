@@ -4,14 +4,8 @@
 
 ghost use Rattle.std.specs.Prelude.{◌≡◌, length};
 
+use grant_text::Fault;
 use std::io::Read;
-
-// So many rows stand in the room, or what was wrong has been said.
-#[derive(Clone, Copy)]
-pub enum Held {
-    Rows(usize),
-    Nothing,
-}
 
 fn say(out: &mut [u8], name: &[u8], words: &[u8]) {
     let a = buffer::put_all(out, 0, name);
@@ -33,42 +27,41 @@ fn end_line(out: &mut [u8], at: usize) {
     }
 }
 
-fn take(name: &[u8], text: &[u8], room: &mut [u8], out: &mut [u8]) -> Held {
+fn take(name: &[u8], text: &[u8], room: &mut [u8], out: &mut [u8]) -> Option<usize> {
     match grant_text::rows(text, room) {
-        grant_text::Table::Rows(n) => Held::Rows(n),
-        grant_text::Table::Bad(line) => {
+        Ok(rows) => Some(rows),
+        Err(Fault::Bad(line)) => {
             say_line(
                 out,
                 name,
                 line,
                 b": expected SUBSCRIBER NAMESPACE in decimal",
             );
-            Held::Nothing
+            None
         }
-        grant_text::Table::Full(line) => {
+        Err(Fault::Full(line)) => {
             say_line(out, name, line, b": more than 16384 rows");
-            Held::Nothing
+            None
         }
     }
 }
 
 // One byte more tells whether the text went on, or could not be read.
-fn load_in<F: Read>(file: &mut F, name: &[u8], text: &mut [u8], room: &mut [u8]) -> Held {
+fn load_in<F: Read>(file: &mut F, name: &[u8], text: &mut [u8], room: &mut [u8]) -> Option<usize> {
     let n = input_file::read_full(file, text);
     let mut one = [0u8; 1];
-    let got = match file.read(&mut one) {
-        Ok(got) => got,
+    let mut out = [0u8; 8192];
+    match file.read(&mut one) {
+        Ok(0) => take(name, &text[..n], room, &mut out),
+        Ok(_) => {
+            say(&mut out, name, b": more than 262144 bytes");
+            None
+        }
         Err(error) => {
             input_file::fail(name, error);
-            return Held::Nothing;
+            None
         }
-    };
-    let mut out = [0u8; 8192];
-    if 0 < got {
-        say(&mut out, name, b": more than 262144 bytes");
-        return Held::Nothing;
     }
-    take(name, &text[..n], room, &mut out)
 }
 
 // Room for a text, or for 16,384 rows. The `ensures` is what lending the array asks for.
@@ -78,7 +71,8 @@ pub fn buffer() -> [u8; 262144]
     [0; 262144]
 }
 
-pub fn load<F: Read>(file: &mut F, name: &[u8], room: &mut [u8]) -> Held {
+// So many rows stand in the room, or what was wrong has been said.
+pub fn load<F: Read>(file: &mut F, name: &[u8], room: &mut [u8]) -> Option<usize> {
     let mut text = buffer();
     load_in(file, name, &mut text, room)
 }

@@ -29,7 +29,10 @@ use Rattle.grants.specs.Grants.{Grant, granted}
 use Rattle.buffer.specs.Bytes.{load_at}
 use Rattle.ari.proofs.SignedLaws.{signed_word, word_fits}
 use Rattle.listing.specs.declared.Listed.{Listed}
-use Rattle.listing.specs.declared.Listed.TheVariants.{Entries, Refused}
+use Rattle.std.specs.declared.result.Result.{Result}
+use Rattle.std.specs.declared.result.Result.TheVariants.{Ok, Err}
+use Rattle.ari.specs.declared.Refusal.{Refusal}
+use Rattle.ari.specs.Refusals.{refusal_of, refused}
 use Rattle.listing.specs.Bytes.{kind_of, entry_bytes, listing_bytes}
 use Rattle.listing.specs.Answers.{listed_of, list_of, written_by, written_of}
 use Rattle.listing.proofs.EntryBytes.{length_entry, length_listing, kind_there, word_there}
@@ -40,7 +43,6 @@ use Rattle.names.specs.Names.{check_names}
 use Rattle.names.specs.Translated.{translate, translated, entries_translated}
 use Rattle.names.proofs.Translation.{stands_in_range, translated_bytes}
 use Rattle.release.specs.declared.Released.{Released}
-use Rattle.release.specs.declared.Released.TheVariants as released
 use Rattle.release.specs.Release.{judge_from, release, release_rows}
 use Rattle.release.specs.Compared.{compared_for, compared_over, compared, counted_rows, judged_over}
 use Rattle.grant_structs.specs.Structs.{granted_at, judged_from, cost_at, compared_from, judged_counted, answer_by, Decides}
@@ -87,51 +89,52 @@ record Whole (m : Limits) (b out : List ℕ) (k n : ℕ) (x : List ℕ) : Type 0
   pub all_listed : k ≡ length (listing b)
   pub written : x ≡ listing_bytes (listing b) ++ drop (24 * length (listing b)) out
 
-module _ (limits : Limits) (b : List ℕ) (bytes : (j : ℕ) → Fits w8 (get_or b j 0)) (out : List ℕ) (room : 24 * 2048 ≤ length out) {l : Listed} (e : l ≡ list_of (capped limits) b out) {x : List ℕ} (f : x ≡ written_of (capped limits) b out) where
+module _ (limits : Limits) (b : List ℕ) (bytes : (j : ℕ) → Fits w8 (get_or b j 0)) (out : List ℕ) (room : 24 * 2048 ≤ length out) {l : Result Listed Refusal} (e : l ≡ list_of (capped limits) b out) {x : List ℕ} (f : x ≡ written_of (capped limits) b out) where
   abbrev m : Limits
   m = capped limits
 
   enough : {n : ℕ} → Is m Message b (decode b) n → ltb (length out / 24) (length (listing b)) ≡ false
   enough c = le-ltb (length out / 24) (length (listing b)) (omega (arith, at_most_half c, c.few))
 
-  was_refused : {r p : ℕ} → l ≡ Refused r p → read m Message b ≡ refuse r p
+  was_refused : {x : Refusal} → l ≡ Err x → (r : ℕ) × (p : ℕ) × (read m Message b ≡ refuse r p) × (x ≡ refusal_of r p)
   unfolding list_of
-  was_refused {r} {p} g = go (read m Message b) refl (sym g ∙ e)
+  was_refused {x} g = go (read m Message b) refl (sym g ∙ e)
     where
-      go : (a : Answer) → read m Message b ≡ a → Refused r p ≡ listed_of a (listing b) (length out / 24) → read m Message b ≡ refuse r p
-      go (refuse r' p') h q = h ∙ cc
+      go : (a : Answer) → read m Message b ≡ a → Err x ≡ listed_of a (listing b) (length out / 24) → (r : ℕ) × (p : ℕ) × (read m Message b ≡ refuse r p) × (x ≡ refusal_of r p)
+      go (refuse r p) h q = let y : x ≡ refusal_of r p = cc in (r, p, h, y)
       go (accept n) h q =
           let c : Is m Message b (decode b) n = (demand_two m Message b n (all_bytes b bytes)).0 h in
-          let q' : Refused r p ≡ Entries (length (listing b)) n = q ∙ rw (enough c) in
+          let q' : ◌≡◌ {A = Result Listed Refusal} (Err x) (Ok (record { listed = length (listing b); count = n })) = q ∙ rw (enough c) in
           absurd (let z : ◌≡◌ {A = ℕ} 0 1 = cc in omega arith)
 
-  was_listed : {k n : ℕ} → l ≡ Entries k n → Whole m b out k n x
+  was_listed : {y : Listed} → l ≡ Ok y → Whole m b out y.listed y.count x
   unfolding list_of written_of
-  was_listed {k} {n} g = go (read m Message b) refl (sym g ∙ e)
+  was_listed {y} g = go (read m Message b) refl (sym g ∙ e)
     where
       written : x ≡ listing_bytes (listing b) ++ drop (24 * length (listing b)) out
-      written = f ∙ ap (λ (r : Listed). written_by r (listing b) out) (sym e ∙ g)
+      written = f ∙ ap (λ (r : Result Listed Refusal). written_by r (listing b) out) (sym e ∙ g)
 
-      go : (a : Answer) → read m Message b ≡ a → Entries k n ≡ listed_of a (listing b) (length out / 24) → Whole m b out k n x
+      go : (a : Answer) → read m Message b ≡ a → Ok y ≡ listed_of a (listing b) (length out / 24) → Whole m b out y.listed y.count x
       go (refuse r p) h q = absurd (let z : ◌≡◌ {A = ℕ} 0 1 = cc in omega arith)
       go (accept n') h q =
           let c : Is m Message b (decode b) n' = (demand_two m Message b n' (all_bytes b bytes)).0 h in
-          let q' : Entries k n ≡ Entries (length (listing b)) n' = q ∙ rw (enough c) in
-          let same : n' ≡ n = cc in
-          record { accepted = h ∙ ap accept same; is = subst (λ (i : ℕ). Is m Message b (decode b) i) same c; all_listed = cc; written = written }
+          let q' : ◌≡◌ {A = Result Listed Refusal} (Ok y) (Ok (record { listed = length (listing b); count = n' })) = q ∙ rw (enough c) in
+          let whole : y ≡ record { listed = length (listing b); count = n' } = cc in
+          let same : n' ≡ y.count = rw whole refl in
+          record { accepted = h ∙ ap accept same; is = subst (λ (i : ℕ). Is m Message b (decode b) i) same c; all_listed = rw whole refl; written = written }
 
   -- the ways of `listed_in`
   module _ (published own : List ℕ) where
-    pub message_refused : {r p : ℕ} → l ≡ Refused r p → Decides (capped limits) b published own (Refused r p) x
+    pub message_refused : {r : Refusal} → l ≡ Err r → Decides (capped limits) b published own (Err r) x
     unfolding counted_rows release_rows
-    message_refused g = record { most = omega arith; decides = λ t s. sym (rw (was_refused g)) }
+    message_refused g = let (n, p, h, q) = was_refused g in record { most = tt; decides = λ t s. sym (rw h (sym (ap (λ (y : Refusal). Err y) q))) }
 
-    module _ {k n : ℕ} (g : l ≡ Entries k n) {c : Names} (h : c ≡ check_names published own) where
-      pub list_refused : {p : ℕ} → c ≡ lists.Refused p → Decides (capped limits) b published own (Refused 19 p) x
+    module _ {z : Listed} (g : l ≡ Ok z) {c : Names} (h : c ≡ check_names published own) where
+      pub list_refused : {p : ℕ} → c ≡ lists.Refused p → Decides (capped limits) b published own (refused 19 p) x
       unfolding counted_rows release_rows
-      list_refused q = let w = was_listed g in record { most = omega arith; decides = λ t s. sym (rw (w.accepted, ← h, q)) }
+      list_refused q = let w = was_listed g in record { most = tt; decides = λ t s. sym (rw (w.accepted, ← h, q)) }
 
-      pub entries_translated_lem : c ≡ lists.Passes → {y : List ℕ} → y ≡ entries_translated published own b 0 (min k (length x / 24)) x → Decides (capped limits) b published own (Entries k n) y
+      pub entries_translated_lem : c ≡ lists.Passes → {y : List ℕ} → y ≡ entries_translated published own b 0 (min z.listed (length x / 24)) x → Decides (capped limits) b published own (Ok z.listed) y
       unfolding counted_rows release_rows release compared
       entries_translated_lem q {y} j =
           let w = was_listed g in
@@ -139,24 +142,12 @@ module _ (limits : Limits) (b : List ℕ) (bytes : (j : ℕ) → Fits w8 (get_or
           let rest : List ℕ = drop (24 * length (listing b)) out in
           let long : length x ≡ 24 * length (listing b) + length rest =
           ap length w.written ∙ length-append (listing_bytes (listing b)) rest ∙ rw (length_listing (listing b)) in
-          let each : min k (length x / 24) ≡ length (listing b) = omega (arith, w.all_listed) in
+          let each : min z.listed (length x / 24) ≡ length (listing b) = omega (arith, w.all_listed) in
           let y_is : y ≡ listing_bytes es ++ rest =
           j ∙ ap (λ (i : ℕ). entries_translated published own b 0 i x) each ∙ ap (entries_translated published own b 0 (length (listing b))) w.written
           ∙ translated_bytes published own b (listing b) rest (names_stand w.is) (omega (arith, w.is.short)) in
-          let count : k ≡ length es = w.all_listed ∙ sym (length-map (listing b) (translate published own)) in
+          let count : z.listed ≡ length es = w.all_listed ∙ sym (length-map (listing b) (translate published own)) in
           record {
             most = omega (arith, ap length y_is, length-append (listing_bytes es) rest, length_listing es, count);
             decides = λ t s. ap (judged_counted t s y) count ∙ counted_in_place t s y es rest y_is (translated_in_range published own w.is) ∙ sym (rw (w.accepted, ← h, q));
           }
-
-pub ruleset decisions = (message_refused, list_refused, entries_translated_lem)
-
--- the answer: the refusal of the message or of a list, or what the entries gave
-module _ {l : Listed} where
-  pub answer_given : {k n : ℕ} → l ≡ Entries k n → (x : Released) → x ≡ answer_by l x
-  answer_given e x = sym (rw e)
-
-  pub answer_refused : {r p : ℕ} → l ≡ Refused r p → (x : Released) → released.Refused r p ≡ answer_by l x
-  answer_refused e x = sym (rw e)
-
-pub ruleset answers = (answer_given, answer_refused)

@@ -13,7 +13,10 @@ use Rattle.ari.specs.Signed.{signed}
 use Rattle.grants.specs.Grants.{Grant, some, holds}
 use Rattle.buffer.specs.Bytes.{load_at}
 use Rattle.release.specs.declared.Released.{Released}
-use Rattle.release.specs.declared.Released.TheVariants as released
+use Rattle.release.specs.declared.Released.TheVariants.{Yes, No}
+use Rattle.std.specs.declared.result.Result.{Result}
+use Rattle.std.specs.declared.result.Result.TheVariants.{Ok}
+use Rattle.ari.specs.declared.Refusal.{Refusal}
 use Rattle.release.specs.Release.{Release, yes, no}
 use Rattle.release.specs.Compared.{rows_up_to, within64, counted}
 use Rattle.grant_structs.specs.declared.Grant.{Grant as Row}
@@ -48,10 +51,10 @@ module _ (i n : ℕ) where
 
 -- and an entry, as the answer
 module _ (i n c : ℕ) where
-  pub held_below : i < n → released.No i c ≡ counted (held_at i n) c
+  pub held_below : i < n → Ok (No i c) ≡ counted (held_at i n) c
   held_below h = rw (lt-ltb i n h)
 
-  pub held_none : n ≤ i → released.Yes c ≡ counted (held_at i n) c
+  pub held_none : n ≤ i → Ok (Yes c) ≡ counted (held_at i n) c
   held_none h = rw (le-ltb i n h)
 
 -- The row at which the search for entry i ended tells whether the entry is granted, and what it costs.
@@ -89,7 +92,7 @@ pub record Unjudged (ok : ℕ → Bool) (cost : ℕ → ℕ) (n i c : ℕ) : Typ
   pub fits : c ≤ 18446744073709551615
 
 module _ (ok : ℕ → Bool) (cost : ℕ → ℕ) (n : ℕ) where
-  abbrev all : Released
+  abbrev all : Result Released Refusal
   all = counted (judged_from ok 0 n) (within64 (compared_from ok cost 0 n))
 
   pub at_first : Unjudged ok cost n 0 0

@@ -17,9 +17,12 @@ use Rattle.grants.specs.Grants.{Grant, granted, check}
 use Rattle.ari.specs.Signed.{word}
 use Rattle.grants.specs.Bytes.{row_by, row_of, rows_of, rows, ragged, check_bytes}
 use Rattle.grants.specs.Verdict.{check_of}
-use Rattle.grants.specs.declared.Verdict.{Verdict}
-use Rattle.grants.specs.declared.Verdict.TheVariants.{Passes, Refused}
+use Rattle.grants.proofs.Verdict.{same_answer as same_check_answer}
+use Rattle.std.specs.declared.result.Result.{Result}
+use Rattle.ari.specs.declared.Refusal.{Refusal}
 use Rattle.ari.proofs.SignedLaws.{signed_word, word_fits}
+use Rattle.std.specs.declared.result.Result.{Result}
+use Rattle.ari.specs.declared.Refusal.{Refusal}
 use Rattle.release.specs.declared.Released.{Released}
 use Rattle.release.specs.Release.{Release, release_rows, release_bytes}
 use Rattle.release.specs.Compared.{compared, counted, counted_rows, counted_bytes}
@@ -100,15 +103,9 @@ module _ (t : List Row) (f : Fit t) where
         ∙ ap (λ (g : List Grant). counted (release_rows m b (grants t) published own s) (compared g b published own s)) (same_rows t f)
 
     -- so what `release::release_within` answers of the bytes is what `release_grants_within` answers of the structs
-    pub same_answer : (r r' : Released) → r ≡ counted_bytes m b (table_bytes t) published own s → r' ≡ counted_rows m b (grants t) published own s → r ≡ r'
+    pub same_answer : (r r' : Result Released Refusal) → r ≡ counted_bytes m b (table_bytes t) published own s → r' ≡ counted_rows m b (grants t) published own s → r ≡ r'
     same_answer r r' e e' = e ∙ same_count ∙ sym e'
 
   -- and what `check_table` answers of the bytes is what `check_grants` answers of the structs
-  pub same_verdict : (r r' : Verdict) → check_of r ≡ check_bytes (table_bytes t) → check_of r' ≡ check (grants t) → r ≡ r'
-  same_verdict r r' e e' = apart r r' (e ∙ same_check ∙ sym e')
-    where
-      apart : (r r' : Verdict) → check_of r ≡ check_of r' → r ≡ r'
-      apart Passes Passes q = refl
-      apart Passes (Refused i) q = absurd (let z : ◌≡◌ {A = ℕ} 0 1 = cc in omega arith)
-      apart (Refused i) Passes q = absurd (let z : ◌≡◌ {A = ℕ} 0 1 = cc in omega arith)
-      apart (Refused i) (Refused j) q = ap Refused (let z : i ≡ j = cc in z)
+  pub same_verdict : (r r' : Result (Unit {0}) Refusal) → check_of r ≡ check_bytes (table_bytes t) → check_of r' ≡ check (grants t) → r ≡ r'
+  same_verdict r r' e e' = same_check_answer r r' (e ∙ same_check ∙ sym e')

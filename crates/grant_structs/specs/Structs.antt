@@ -4,10 +4,11 @@ use Rattle.ari.specs.declared.Limits.{Limits}
 use Rattle.ari.specs.Signed.{signed}
 use Rattle.grants.specs.Grants.{Grant, some, clash, holds, Check, passes, refused}
 use Rattle.buffer.specs.Bytes.{load_at}
-use Rattle.listing.specs.declared.Listed.{Listed}
-use Rattle.listing.specs.declared.Listed.TheVariants.{Entries, Refused}
+use Rattle.std.specs.Prelude.{IfOk}
+use Rattle.std.specs.declared.result.Result.{Result}
+use Rattle.std.specs.declared.result.Result.TheVariants.{Ok, Err}
+use Rattle.ari.specs.declared.Refusal.{Refusal}
 use Rattle.release.specs.declared.Released.{Released}
-use Rattle.release.specs.declared.Released.TheVariants as released
 use Rattle.release.specs.Release.{Release, yes, no}
 use Rattle.release.specs.Compared.{rows_up_to, within64, counted, counted_rows}
 use Rattle.grant_structs.specs.declared.Grant.{Grant as Row}
@@ -84,19 +85,15 @@ compared_from ok cost i zero = 0
 compared_from ok cost i (suc n) = let r = compared_from ok cost (suc i) n in cost i + cond (ok i) r 0
 
 -- what n entries give, with that count
-abbrev pub judged_counted : List Grant → ℕ → List ℕ → ℕ → Released
+abbrev pub judged_counted : List Grant → ℕ → List ℕ → ℕ → Result Released Refusal
 judged_counted t s l n = counted (judged_from (granted_at t s l) 0 n) (within64 (compared_from (granted_at t s l) (cost_at t s l) 0 n))
 
--- how many entries are judged, and the answer from what they gave
-abbrev pub entries_of : Listed → ℕ
-entries_of (Entries k n) = k
-entries_of (Refused r p) = 0
-
-abbrev pub answer_by : Listed → Released → Released
-answer_by (Entries k n) x = x
-answer_by (Refused r p) x = released.Refused r p
+-- the refusal of the message or of a list, or what so many entries give
+abbrev pub answer_by : Result ℕ Refusal → (ℕ → Result Released Refusal) → Result Released Refusal
+answer_by (Ok k) f = f k
+answer_by (Err e) f = Err e
 
 -- The listing's answer and its bytes decide, and cost, as the message does under two lists, whatever the table.
-pub record Decides (m : Limits) (b published own : List ℕ) (l : Listed) (x : List ℕ) : Type 0 where
-  pub most : entries_of l ≤ length x / 24
-  pub decides : (t : List Grant) (s : ℕ) → answer_by l (judged_counted t s x (entries_of l)) ≡ counted_rows m b t published own s
+pub record Decides (m : Limits) (b published own : List ℕ) (l : Result ℕ Refusal) (x : List ℕ) : Type 0 where
+  pub most : IfOk l (λ k. k ≤ length x / 24)
+  pub decides : (t : List Grant) (s : ℕ) → answer_by l (judged_counted t s x) ≡ counted_rows m b t published own s

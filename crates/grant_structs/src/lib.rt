@@ -3,16 +3,16 @@
 #![tactic(auto)]
 
 ghost use Rattle.std.specs.Prelude.{◌≡◌, ◌*◌, ◌/◌, ◌<◌, ◌≤◌, length, take};
+ghost use Rattle.std.specs.declared.result.Result.TheVariants.{Ok};
 ghost use Rattle.ari.specs.Limits.{gate_limits, capped};
 ghost use Rattle.ari.specs.Listing.{number};
 ghost use Rattle.ari.specs.Signed.{signed};
 ghost use Rattle.grants.specs.Grants.{clash, holds, granted, check};
 ghost use Rattle.grants.specs.Verdict.{check_of};
 ghost use Rattle.release.specs.Compared.{counted, counted_rows};
-ghost use Rattle.grant_structs.specs.Structs.{row_by, grant_of, grants, meets_by, first_row, compared_by, found_at, wanted_at, rows_for, judged_counted, held_at, entries_of, answer_by, Decides};
+ghost use Rattle.grant_structs.specs.Structs.{row_by, grant_of, grants, meets_by, first_row, compared_by, found_at, wanted_at, rows_for, judged_counted, held_at, Decides};
 
-use ari::Limits;
-use grants::Verdict;
+use ari::{Fault, Limits, Refusal};
 use listing::Listed;
 use names::Names;
 use release::Released;
@@ -86,18 +86,21 @@ pub fn granted(t: &[Grant], subscriber: u64, namespace: i64) -> bool
 }
 
 // What a search over so many rows tells that ended at a row.
-fn verdict(row: usize, rows: usize) -> Verdict
+fn verdict(row: usize, rows: usize) -> Result<(), Refusal>
     ensures { check_of result ≡ found_at row rows }
 {
     if row < rows {
-        Verdict::Refused(row as u64)
+        Err(Refusal {
+            fault: Fault::Clash,
+            place: row,
+        })
     } else {
-        Verdict::Passes
+        Ok(())
     }
 }
 
 // The first row with a partner among the rows before it.
-pub fn check_grants(t: &[Grant]) -> Verdict
+pub fn check_grants(t: &[Grant]) -> Result<(), Refusal>
     ensures { check_of result ≡ check (grants t.now) }
 {
     let n = t.len();
@@ -164,7 +167,7 @@ fn compared_rows(row: usize, n: usize) -> u64
 
 // What a search over so many entries tells that ended at an entry, with the rows compared for them.
 fn judged(entry: usize, entries: usize, compared: u64) -> Released
-    ensures { result ≡ counted (held_at entry entries) compared }
+    ensures { Ok result ≡ counted (held_at entry entries) compared }
 {
     if entry < entries {
         Released::No { entry, compared }
@@ -176,7 +179,7 @@ fn judged(entry: usize, entries: usize, compared: u64) -> Released
 // The first n entries by rows: the search is left at the first that is not granted, whose rows are counted too.
 fn release_entries(list: &[u8], n: usize, t: &[Grant], subscriber: u64) -> Released
     requires { n ≤ length list.now / 24 }
-    ensures { result ≡ judged_counted (grants t.now) subscriber list.now n }
+    ensures { Ok result ≡ judged_counted (grants t.now) subscriber list.now n }
 {
     let mut compared = 0;
     let mut i = 0;
@@ -192,50 +195,28 @@ fn release_entries(list: &[u8], n: usize, t: &[Grant], subscriber: u64) -> Relea
     judged(i, n, compared)
 }
 
-// A message's listing in lent room, a name that has a line by its number, so that it decides as the message does under the two lists. The message's refusal
-// comes before theirs.
+// How many entries a message's listing in lent room has, a name that has a line by its number, so that it decides as the message does under the two lists. The
+// message's refusal comes before theirs.
 fn listed_in<'a>(
     limits: Limits,
     message: &'a [u8],
     published: &'a [u8],
     own: &'a [u8],
     room: &mut [u8],
-) -> Listed
+) -> Result<usize, Refusal>
     requires { 24 * 2048 ≤ length room.old }
     ensures { Decides (capped limits) message.now published.now own.now result room.new }
 {
-    match listing::list_within(limits, message, room) {
-        Listed::Refused { number, place } => Listed::Refused { number, place },
-        Listed::Entries { listed, count } => match names::check_names(published, own) {
-            Names::Refused { place } => Listed::Refused {
-                number: 19,
-                place: place as usize,
-            },
-            Names::Passes => {
-                names::translate_entries(published, own, message, room, listed);
-                Listed::Entries { listed, count }
-            }
-        },
-    }
-}
-
-// How many entries a listing has: a refusal has none.
-fn entries_of(listed: Listed) -> usize
-    ensures { result ≡ entries_of listed }
-{
-    match listed {
-        Listed::Entries { listed, .. } => listed,
-        Listed::Refused { .. } => 0,
-    }
-}
-
-// The refusal of the message or of a list, which has no count, or what the entries gave.
-fn answered(listed: Listed, given: Released) -> Released
-    ensures { result ≡ answer_by listed given }
-{
-    match listed {
-        Listed::Entries { .. } => given,
-        Listed::Refused { number, place } => Released::Refused { number, place },
+    let Listed { listed, .. } = listing::list_within(limits, message, room)?;
+    match names::check_names(published, own) {
+        Names::Refused { place } => Err(Refusal {
+            fault: Fault::BadLine,
+            place: place as usize,
+        }),
+        Names::Passes => {
+            names::translate_entries(published, own, message, room, listed);
+            Ok(listed)
+        }
     }
 }
 
@@ -248,13 +229,12 @@ pub fn release_grants_within<'a>(
     published: &'a [u8],
     own: &'a [u8],
     subscriber: u64,
-) -> Released
+) -> Result<Released, Refusal>
     ensures { result ≡ counted_rows (capped limits) message.now (grants t.now) published.now own.now subscriber }
 {
     let mut room = [0u8; ROOM];
-    let listed = listed_in(limits, message, published, own, &mut room);
-    let given = release_entries(&room, entries_of(listed), t, subscriber);
-    answered(listed, given)
+    let listed = listed_in(limits, message, published, own, &mut room)?;
+    Ok(release_entries(&room, listed, t, subscriber))
 }
 
 // Whether a message is released to a subscriber, and how many rows were compared.
@@ -264,7 +244,7 @@ pub fn release_grants<'a>(
     published: &'a [u8],
     own: &'a [u8],
     subscriber: u64,
-) -> Released
+) -> Result<Released, Refusal>
     ensures { result ≡ counted_rows gate_limits message.now (grants t.now) published.now own.now subscriber }
 {
     release_grants_within(ari::LIMITS, message, t, published, own, subscriber)
@@ -273,9 +253,9 @@ pub fn release_grants<'a>(
 // What a table answers to the three questions.
 #[derive(Clone, Copy)]
 pub struct Answers {
-    pub check: Verdict,
+    pub check: Result<(), Refusal>,
     pub granted: bool,
-    pub release: Released,
+    pub release: Result<Released, Refusal>,
 }
 
 // The three of a table of four rows by value, for a caller that is covered, as a program's main: the array is lent. A shorter table repeats a row.

@@ -3,22 +3,24 @@
 // C is message C of the rules' examples (docs/RULES.md), whose entries are 65536 and -20; `02` is refused. N is C with a name in the place of each number.
 #![tactic(auto)]
 
+use ari::Refusal;
 use grant_structs::{Answers, Grant};
-use grants::Verdict;
 use release::Released;
 
 fn text(b: &[u8]) {
     io::write_all(1, b);
 }
 
-fn verdict(v: Verdict) {
+fn verdict(v: Result<(), Refusal>) {
     match v {
-        Verdict::Passes => {
+        Ok(()) => {
             text(b" passes");
         }
-        Verdict::Refused(row) => {
-            text(b" 18 ");
-            io::print_decimal(1, row);
+        Err(refusal) => {
+            text(b" ");
+            io::print_decimal(1, refusal.fault.number() as u64);
+            text(b" ");
+            io::print_decimal(1, refusal.place as u64);
         }
     }
 }
@@ -37,22 +39,22 @@ fn rows(compared: u64) {
     text(b")");
 }
 
-fn released(r: Released) {
+fn released(r: Result<Released, Refusal>) {
     match r {
-        Released::Yes { compared } => {
+        Ok(Released::Yes { compared }) => {
             text(b" yes");
             rows(compared);
         }
-        Released::No { entry, compared } => {
+        Ok(Released::No { entry, compared }) => {
             text(b" no ");
             io::print_decimal(1, entry as u64);
             rows(compared);
         }
-        Released::Refused { number, place } => {
+        Err(e) => {
             text(b" refused ");
-            io::print_decimal(1, number as u64);
+            io::print_decimal(1, e.fault.number() as u64);
             text(b" ");
-            io::print_decimal(1, place as u64);
+            io::print_decimal(1, e.place as u64);
         }
     }
 }

@@ -7,7 +7,7 @@ use native.Mathlib.Omega.{arith}
 use lib.ListN.{length, drop, length-drop}
 use lib.Seq.{sets, length-sets}
 use lib.Dec.{leb, eqb}
-use borrow.Author.Tests.{le-leb, lt-leb}
+use borrow.Author.Tests.{le-leb, lt-leb, leb-false}
 use Rattle.buffer.specs.Bytes.{be, part, store_at}
 use Rattle.buffer.proofs.Putting.{sets_append}
 use Rattle.buffer.specs.Runs.{front, past, RunTo}
@@ -16,14 +16,15 @@ use Rattle.buffer.proofs.RunLaws.{here, beyond}
 use Rattle.grant_text.specs.declared.Line.{Line}
 use Rattle.grant_text.specs.declared.Line.TheVariants.{Blank, Grant, Bad}
 use Rattle.grant_text.specs.declared.Taken.{Taken}
-use Rattle.grant_text.specs.declared.Table.{Table}
-use Rattle.grant_text.specs.declared.Table.TheVariants as table
+use Rattle.grant_text.specs.declared.Class.TheVariants.{InLine}
+use Rattle.std.specs.declared.result.Result.TheVariants.{Ok, Err}
+use Rattle.grant_text.specs.declared.Fault.TheVariants as fault
 use Rattle.grant_text.specs.Rows.{is_of, row_of}
-use Rattle.grant_text.specs.Table.{onto, lines, contents, gather, table_of, packed, room_after, Turned, TakenAt}
+use Rattle.grant_text.specs.Table.{onto, lines, contents, gather, table_of, packed, HasRoom, TakenAt}
 
 -- a line ends at its end, or with the text
 abbrev in_line : ℕ → Bool
-in_line = is_of 3
+in_line = is_of InLine
 
 in_line_lem : (x : ℕ) {b : Bool} → eqb x 10 ≡ b → in_line x ≡ not b
 unfolding is_of
@@ -63,7 +64,7 @@ line_last (x ∷ u) h e = go (eqb x 10) refl
 abbrev taken : Line → ℕ → Taken
 taken l p = record { content = l; next = p }
 
-module _ (t : List ℕ) (a e : ℕ) {l : Line} (g : a < length t) (w : RunTo (is_of 3) t a e) (k : l ≡ row_of (part t a e)) where
+module _ (t : List ℕ) (a e : ℕ) {l : Line} (g : a < length t) (w : RunTo (is_of InLine) t a e) (k : l ≡ row_of (part t a e)) where
   pub taken_on : e < length t → TakenAt t a (taken l (e + 1))
   unfolding contents
   taken_on h = record {
@@ -87,119 +88,132 @@ row_stored o at s n h e f =
     let l : at + 8 + 8 ≤ length (sets o at (be 8 s)) = rw (length-sets o at (be 8 s)) (omega arith) in
     rw (f, e, store_room 8 o at s (omega arith), store_room 8 (sets o at (be 8 s)) (at + 8) n l) (joined o at 8 s (be 8 n))
 
--- or left
-module _ {x : Bool} (o u : List ℕ) (at : ℕ) where
-  pub row_written : {o₁ : List ℕ} → x ≡ true → o₁ ≡ sets o at u → o₁ ≡ cond x (sets o at u) o
-  row_written q e = rw q e
-
-  pub row_left : x ≡ false → o ≡ cond x (sets o at u) o
-  row_left q = rw q
-
-cond_length : (x : Bool) (ys : List ℕ) (at : ℕ) (u : List ℕ) → length (cond x (sets ys at u) ys) ≡ length ys
-cond_length true ys at u = length-sets ys at u
-cond_length false ys at u = refl
-
 -- The text from a place on, behind so many lines and rows: what finishes it finishes the whole.
-pub record Gathers (x : Bool) (t xs : List ℕ) (a k n : ℕ) (ys : List ℕ) : Type 0 where
+pub record Gathers (t : List ℕ) (room a k n : ℕ) : Type 0 where
   pub inside : a ≤ length t
   pub few : k ≤ a
   pub fewer : n ≤ k
-  pub room : n ≤ length xs / 16
-  pub same : length ys ≡ length xs
-  pub says : gather (length xs / 16) k n (contents (drop a t)) ≡ table_of t (length xs / 16)
-  pub looked : x ≡ false → ys ≡ xs
-  pub writes : x ≡ true → sets ys (n * 16) (packed (contents (drop a t))) ≡ sets xs 0 (packed (contents t))
+  pub says : gather room k n (contents (drop a t)) ≡ table_of t room
 
-pub gathers_none : (x : Bool) (t xs : List ℕ) → Gathers x t xs 0 0 0 xs
+pub gathers_none : (t : List ℕ) (room : ℕ) → Gathers t room 0 0 0
 unfolding table_of
-gathers_none x t xs = record {
-  inside = omega arith;
-  few = omega arith;
-  fewer = omega arith;
-  room = omega arith;
-  same = refl;
-  says = refl;
-  looked = λ e. refl;
-  writes = λ e. refl;
-}
+gathers_none t room = record { inside = omega arith; few = omega arith; fewer = omega arith; says = refl }
 
-module _ (x : Bool) (t xs : List ℕ) {a k n : ℕ} {ys : List ℕ} {r : Taken} (g : Gathers x t xs a k n ys) (w : TakenAt t a r) where
-  pub gathers_blank : r.content ≡ Blank → Gathers x t xs r.next (k + 1) n ys
+module _ {t : List ℕ} {room a k n : ℕ} {r : Taken} (g : Gathers t room a k n) (w : TakenAt t a r) where
+  pub gathers_blank : r.content ≡ Blank → Gathers t room r.next (k + 1) n
   gathers_blank f = record {
     inside = w.inside;
     few = omega (arith, g.few, w.on);
     fewer = omega (arith, g.fewer);
-    room = g.room;
-    same = g.same;
     says = rw (w.is, f) at g.says;
-    looked = g.looked;
-    writes = λ e. rw (w.is, f) at (g.writes e);
   }
 
-  pub gathers_bad : r.content ≡ Bad → table.Bad (k + 1) ≡ table_of t (length xs / 16)
+  pub gathers_bad : r.content ≡ Bad → Err (fault.Bad (k + 1)) ≡ table_of t room
   gathers_bad f = rw (w.is, f) at g.says
 
-  pub bad_turned : Turned x (table.Bad (k + 1)) t xs ys
-  bad_turned = record { looked = g.looked; wrote = λ e q. absurd (let z : ◌≡◌ {A = ℕ} 0 1 = cc in omega arith) }
-
-  pub full_turned : Turned x (table.Full (k + 1)) t xs ys
-  full_turned = record { looked = g.looked; wrote = λ e q. absurd (let z : ◌≡◌ {A = ℕ} 0 1 = cc in omega arith) }
-
   module _ {s v : ℕ} (f : r.content ≡ Grant s v) where
-    says_row : cond (leb (length xs / 16) n) (table.Full (k + 1)) (gather (length xs / 16) (k + 1) (n + 1) (contents (drop r.next t))) ≡ table_of t (length xs / 16)
+    says_row : cond (leb room n) (Err (fault.Full (k + 1))) (gather room (k + 1) (n + 1) (contents (drop r.next t))) ≡ table_of t room
     says_row = rw (w.is, f) at g.says
 
-    pub gathers_full : length ys / 16 ≤ n → table.Full (k + 1) ≡ table_of t (length xs / 16)
-    gathers_full h = rw (le-leb (length xs / 16) n (rw g.same at h)) at says_row
+    pub gathers_full : room ≤ n → Err (fault.Full (k + 1)) ≡ table_of t room
+    gathers_full h = rw (le-leb room n h) at says_row
 
-    pub gathers_row : {zs : List ℕ} → n < length ys / 16 → zs ≡ cond x (sets ys (n * 16) (be 8 s ++ be 8 v)) ys → Gathers x t xs r.next (k + 1) (n + 1) zs
-    gathers_row {zs} h z =
-        let q : n < length xs / 16 = rw g.same at h in
-        record {
-          inside = w.inside;
-          few = omega (arith, g.few, w.on);
-          fewer = omega (arith, g.fewer);
-          room = omega arith;
-          same = ap length z ∙ cond_length x ys (n * 16) (be 8 s ++ be 8 v) ∙ g.same;
-          says = rw (lt-leb (length xs / 16) n q) at says_row;
-          looked = λ e. z ∙ rw e (g.looked e);
-          writes = λ e. rows_on zs (z ∙ rw e) e;
-        }
+    pub gathers_row : n < room → Gathers t room r.next (k + 1) (n + 1)
+    gathers_row h = record {
+      inside = w.inside;
+      few = omega (arith, g.few, w.on);
+      fewer = omega (arith, g.fewer);
+      says = rw (lt-leb room n h) at says_row;
+    }
+
+pub gathers_end : {t : List ℕ} {room a k n : ℕ} → Gathers t room a k n → length t ≤ a → Ok n ≡ table_of t room
+unfolding contents lines
+gathers_end {t} {room} {a} g h = rw (beyond t a h) at g.says
+
+-- The same where the rows are written.
+pub record Writing (t xs : List ℕ) (a n : ℕ) (ys : List ℕ) : Type 0 where
+  pub inside : a ≤ length t
+  pub room : n ≤ length xs / 16
+  pub same : length ys ≡ length xs
+  pub lines : ℕ
+  pub rows : ℕ
+  pub goes : gather (length xs / 16) lines n (contents (drop a t)) ≡ Ok rows
+  pub writes : sets ys (n * 16) (packed (contents (drop a t))) ≡ sets xs 0 (packed (contents t))
+
+pub writing_none : (t xs : List ℕ) → HasRoom t (length xs / 16) → Writing t xs 0 0 xs
+unfolding table_of
+writing_none t xs h = record {
+  inside = omega arith;
+  room = omega arith;
+  same = refl;
+  lines = 0;
+  rows = h.rows;
+  goes = h.is;
+  writes = refl;
+}
+
+module _ {t xs : List ℕ} {a n : ℕ} {ys : List ℕ} {r : Taken} (g : Writing t xs a n ys) (w : TakenAt t a r) where
+  pub writing_blank : r.content ≡ Blank → Writing t xs r.next n ys
+  writing_blank f = record {
+    inside = w.inside;
+    room = g.room;
+    same = g.same;
+    lines = g.lines + 1;
+    rows = g.rows;
+    goes = rw (w.is, f) at g.goes;
+    writes = rw (w.is, f) at g.writes;
+  }
+
+  writing_bad : r.content ≡ Bad → ⊥
+  writing_bad f =
+      let e : Err (fault.Bad (g.lines + 1)) ≡ Ok g.rows = rw (w.is, f) at g.goes in
+      let z : ◌≡◌ {A = ℕ} 0 1 = cc in omega arith
+
+  -- so what is no row is blank
+  pub writing_other : ((s v : ℕ) → r.content ≡ Grant s v → ⊥) → Writing t xs r.next n ys
+  writing_other never = go r.content refl
+    where
+      go : (l : Line) → r.content ≡ l → Writing t xs r.next n ys
+      go Blank e = writing_blank e
+      go (Grant s v) e = absurd (never s v e)
+      go Bad e = absurd (writing_bad e)
+
+  module _ {s v : ℕ} (f : r.content ≡ Grant s v) where
+    goes_row : cond (leb (length xs / 16) n) (Err (fault.Full (g.lines + 1))) (gather (length xs / 16) (g.lines + 1) (n + 1) (contents (drop r.next t))) ≡ Ok g.rows
+    goes_row = rw (w.is, f) at g.goes
+
+    pub has_room : n < length xs / 16
+    has_room = go (leb (length xs / 16) n) refl goes_row
       where
-        rows_on : (zs : List ℕ) → zs ≡ sets ys (n * 16) (be 8 s ++ be 8 v) → x ≡ true → sets zs ((n + 1) * 16) (packed (contents (drop r.next t))) ≡ sets xs 0 (packed (contents t))
-        rows_on zs z e =
+        go : (b : Bool) → leb (length xs / 16) n ≡ b → cond b (Err (fault.Full (g.lines + 1))) (gather (length xs / 16) (g.lines + 1) (n + 1) (contents (drop r.next t))) ≡ Ok g.rows → n < length xs / 16
+        go true e q = absurd (let z : ◌≡◌ {A = ℕ} 0 1 = cc in omega arith)
+        go false e q = omega (arith, leb-false (length xs / 16) n e)
+
+    pub room_for : n * 16 + 16 ≤ length ys
+    room_for = omega (arith, has_room, g.same)
+
+    pub writing_row : {zs : List ℕ} → zs ≡ sets ys (n * 16) (be 8 s ++ be 8 v) → Writing t xs r.next (n + 1) zs
+    writing_row {zs} z = record {
+      inside = w.inside;
+      room = omega (arith, has_room);
+      same = ap length z ∙ length-sets ys (n * 16) (be 8 s ++ be 8 v) ∙ g.same;
+      lines = g.lines + 1;
+      rows = g.rows;
+      goes = rw (lt-leb (length xs / 16) n has_room) at goes_row;
+      writes = rows_on;
+    }
+      where
+        rows_on : sets zs ((n + 1) * 16) (packed (contents (drop r.next t))) ≡ sets xs 0 (packed (contents t))
+        rows_on =
             let p : (n + 1) * 16 ≡ n * 16 + 16 = omega arith in
-            rw (z, p) (sym (sets_append ys (n * 16) (be 8 s ++ be 8 v) (packed (contents (drop r.next t)))) ∙ rw (w.is, f) at (g.writes e))
+            rw (z, p) (sym (sets_append ys (n * 16) (be 8 s ++ be 8 v) (packed (contents (drop r.next t)))) ∙ rw (w.is, f) at g.writes)
 
-module _ (x : Bool) (t xs : List ℕ) {a k n : ℕ} {ys : List ℕ} (g : Gathers x t xs a k n ys) (h : length t ≤ a) where
-  pub gathers_end : table.Rows n ≡ table_of t (length xs / 16)
-  unfolding contents lines
-  gathers_end = rw (beyond t a h) at g.says
+pub written_all : {t xs : List ℕ} {a n : ℕ} {ys : List ℕ} → Writing t xs a n ys → length t ≤ a → ys ≡ sets xs 0 (packed (contents t))
+unfolding contents lines
+written_all {t} {xs} {a} g h = rw (beyond t a h) at g.writes
 
-  written_all : x ≡ true → ys ≡ sets xs 0 (packed (contents t))
-  unfolding contents lines
-  written_all e = rw (beyond t a h) at (g.writes e)
+pub ruleset whole = (taken_on, taken_last, row_stored)
 
-  pub gathers_all : Turned x (table.Rows n) t xs ys
-  gathers_all = record { looked = g.looked; wrote = λ e q. written_all e }
+pub ruleset counting_ways = (gathers_none, gathers_blank, gathers_bad, gathers_full, gathers_row, gathers_end)
 
-pub first_says : (t : List ℕ) (m : ℕ) {r x : Table} → r ≡ table_of t m → r ≡ x → x ≡ table_of t m
-first_says t m a e = sym e ∙ a
-
--- the turn that looks, and the turn that writes
-module _ (t : List ℕ) {xs ys : List ℕ} {r : Table} (g : Turned false r t xs ys) where
-  pub first_kept : ys ≡ xs
-  first_kept = g.looked refl
-
-  module _ {q : Table} (a : q ≡ table_of t (length ys / 16)) where
-    pub second_says : q ≡ table_of t (length xs / 16)
-    second_says = rw (g.looked refl) at a
-
-    pub second_writes : {zs : List ℕ} {n : ℕ} → r ≡ table_of t (length xs / 16) → r ≡ table.Rows n → Turned true q t ys zs → zs ≡ room_after q t xs
-    second_writes {zs} {n} b e w =
-        let c : q ≡ table.Rows n = second_says ∙ sym b ∙ e in
-        rw c (w.wrote refl c ∙ rw (g.looked refl))
-
-pub ruleset turns = (first_says, first_kept, second_says, second_writes)
-
-pub ruleset whole = (taken_on, taken_last, row_stored, gathers_none, gathers_blank, gathers_bad, bad_turned, full_turned, gathers_full, gathers_row, gathers_end, gathers_all)
+pub ruleset writing_ways = (writing_none, writing_other, room_for, writing_row, written_all)

@@ -2,57 +2,52 @@
 // around; `#` starts a comment, and a line with nothing before it is skipped.
 #![tactic(auto)]
 
-ghost use Rattle.std.specs.Prelude.{◌≡◌, cond, ◌++◌, ◌+◌, ◌/◌, ◌≤◌, ◌<◌, length};
+ghost use Rattle.std.specs.Prelude.{◌≡◌, ◌++◌, ◌+◌, ◌/◌, ◌≤◌, ◌<◌, length};
 ghost use Rattle.std.proofs.lemmas.List.Edits.{sets};
 ghost use Rattle.buffer.specs.Bytes.{be};
 ghost use Rattle.buffer.specs.Runs.{RunTo};
 ghost use Rattle.grant_text.specs.Rows.{blank, is_of, grant_of, fields_of, row_of};
-ghost use Rattle.grant_text.specs.Table.{TakenAt, table_of, room_after, Turned};
+ghost use Rattle.grant_text.specs.Table.{contents, TakenAt, table_of, packed, room_after, HasRoom};
 
-// The classes of bytes that a line is cut at.
-const UNCOMMENTED: u8 = 0;
+// The classes of bytes that a line is cut at: no `#`, a blank, no blank, no line end.
+#[derive(Clone, Copy)]
+enum Class {
+    Uncommented,
+    Blank,
+    Word,
+    InLine,
+}
 
-const BLANK: u8 = 1;
-
-const WORD: u8 = 2;
-
-const LINE: u8 = 3;
-
+#[tactic(auto, unfolding(crate::specs::Rows::blank))]
 fn is_blank(x: u8) -> bool
     ensures { result ≡ blank x }
 {
-    if x == b' ' {
-        return true;
-    }
-    x == b'\t'
+    x == b' ' || x == b'\t'
 }
 
-// Whether a byte is of a class: no `#`, a blank, no blank, no line end.
-fn is(class: u8, x: u8) -> bool
+#[tactic(auto, unfolding(crate::specs::Rows::is_of))]
+fn is(class: Class, x: u8) -> bool
     ensures { result ≡ is_of class x }
 {
     match class {
-        UNCOMMENTED => x != b'#',
-        BLANK => is_blank(x),
-        WORD => !is_blank(x),
-        _ => x != b'\n',
+        Class::Uncommented => x != b'#',
+        Class::Blank => is_blank(x),
+        Class::Word => !is_blank(x),
+        Class::InLine => x != b'\n',
     }
 }
 
 // The place behind the bytes of a class, from a place on.
-fn behind(t: &[u8], from: usize, class: u8) -> usize
+fn behind(t: &[u8], from: usize, class: Class) -> usize
     requires { from ≤ length t.now }
     ensures { RunTo (is_of class) t.now from result }
 {
-    let mut i = from;
-    while i < t.len() {
-        if is(class, t[i]) {
-            i += 1;
-        } else {
+    for i in from..t.len() {
+        if !is(class, t[i]) {
             return i;
         }
     }
-    i
+    t.len()
 }
 
 // What a line holds: nothing, a row (its namespace as two's complement), or something else.
@@ -63,13 +58,13 @@ pub enum Line {
     Bad,
 }
 
-fn grant(subscriber: buffer::Number, namespace: buffer::Number) -> Line
+fn grant(subscriber: Option<u64>, namespace: Option<u64>) -> Line
     ensures { result ≡ grant_of subscriber namespace }
 {
-    let buffer::Number::Value(s) = subscriber else {
+    let Some(s) = subscriber else {
         return Line::Bad;
     };
-    let buffer::Number::Value(n) = namespace else {
+    let Some(n) = namespace else {
         return Line::Bad;
     };
     Line::Grant {
@@ -82,14 +77,14 @@ fn grant(subscriber: buffer::Number, namespace: buffer::Number) -> Line
 fn fields(t: &[u8]) -> Line
     ensures { result ≡ fields_of t.now }
 {
-    let a = behind(t, 0, BLANK);
+    let a = behind(t, 0, Class::Blank);
     if t.len() <= a {
         return Line::Blank;
     }
-    let b = behind(t, a, WORD);
-    let c = behind(t, b, BLANK);
-    let d = behind(t, c, WORD);
-    let e = behind(t, d, BLANK);
+    let b = behind(t, a, Class::Word);
+    let c = behind(t, b, Class::Blank);
+    let d = behind(t, c, Class::Word);
+    let e = behind(t, d, Class::Blank);
     if e < t.len() {
         return Line::Bad;
     }
@@ -102,7 +97,7 @@ fn fields(t: &[u8]) -> Line
 pub fn row(line: &[u8]) -> Line
     ensures { result ≡ row_of line.now }
 {
-    let end = behind(line, 0, UNCOMMENTED);
+    let end = behind(line, 0, Class::Uncommented);
     fields(&line[0..end])
 }
 
@@ -117,7 +112,7 @@ fn take_line(t: &[u8], from: usize) -> Taken
     requires { from < length t.now }
     ensures { TakenAt t.now from result }
 {
-    let end = behind(t, from, LINE);
+    let end = behind(t, from, Class::InLine);
     let content = row(&t[from..end]);
     if end < t.len() {
         return Taken {
@@ -137,65 +132,67 @@ fn put_row(out: &mut [u8], at: usize, subscriber: u64, namespace: u64)
     buffer::store8(out, at + 8, namespace);
 }
 
-fn put_if(write: bool, out: &mut [u8], at: usize, subscriber: u64, namespace: u64)
-    requires { at + 16 ≤ length out.old }
-    ensures { out.new ≡ cond write (sets out.old at (be 8 subscriber ++ be 8 namespace)) out.old }
-{
-    if write {
-        put_row(out, at, subscriber, namespace);
-    }
-}
-
-// What a text gives: so many rows; a line that is no row; a line whose row has no room. Lines are counted from 1.
-#[derive(Clone, Copy)]
-pub enum Table {
-    Rows(usize),
+// Why a text is no table: a line is no row, or its row has no room. Lines are counted from 1.
+#[derive(Clone, Copy, PartialEq, Eq)]
+pub enum Fault {
     Bad(usize),
     Full(usize),
 }
 
-// A turn over the lines, which looks, or writes too.
-fn gather(text: &[u8], out: &mut [u8], write: bool) -> Table
-    ensures value { result ≡ table_of text.now (length out.old / 16) }
-    ensures turned { Turned write result text.now out.old out.new }
+// How many rows a text gives, if it is a table of no more than there is room for.
+#[tactic(auto, using(crate::proofs::Whole::counting_ways))]
+fn count(text: &[u8], room: usize) -> Result<usize, Fault>
+    ensures { result ≡ table_of text.now room }
 {
     let mut from = 0;
     let mut lines = 0;
     let mut n = 0;
     while from < text.len() {
         let taken = take_line(text, from);
-        let content = taken.content;
         from = taken.next;
         lines += 1;
-        match content {
+        match taken.content {
             Line::Blank => {}
-            Line::Grant {
-                subscriber,
-                namespace,
-            } => {
-                if out.len() / 16 <= n {
-                    return Table::Full(lines);
+            Line::Grant { .. } => {
+                if room <= n {
+                    return Err(Fault::Full(lines));
                 }
-                put_if(write, out, n * 16, subscriber, namespace);
                 n += 1;
             }
-            Line::Bad => {
-                return Table::Bad(lines);
-            }
+            Line::Bad => return Err(Fault::Bad(lines)),
         }
     }
-    Table::Rows(n)
+    Ok(n)
+}
+
+// The rows of a text that is a table.
+#[tactic(auto, using(crate::proofs::Whole::writing_ways))]
+fn write(text: &[u8], out: &mut [u8])
+    requires { HasRoom text.now (length out.old / 16) }
+    ensures { out.new ≡ sets out.old 0 (packed (contents text.now)) }
+{
+    let mut from = 0;
+    let mut n = 0;
+    while from < text.len() {
+        let taken = take_line(text, from);
+        from = taken.next;
+        if let Line::Grant {
+            subscriber,
+            namespace,
+        } = taken.content
+        {
+            put_row(out, n * 16, subscriber, namespace);
+            n += 1;
+        }
+    }
 }
 
 // The rows of a text, 16 bytes each, in the lent room. A text that is no table leaves the room as it was.
-pub fn rows(text: &[u8], out: &mut [u8]) -> Table
+pub fn rows(text: &[u8], out: &mut [u8]) -> Result<usize, Fault>
     ensures value { result ≡ table_of text.now (length out.old / 16) }
     ensures out_after { out.new ≡ room_after result text.now out.old }
 {
-    let r = gather(text, out, false);
-    match r {
-        Table::Rows(_) => gather(text, out, true),
-        Table::Bad(line) => Table::Bad(line),
-        Table::Full(line) => Table::Full(line),
-    }
+    let n = count(text, out.len() / 16)?;
+    write(text, out);
+    Ok(n)
 }

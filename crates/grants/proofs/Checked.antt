@@ -12,7 +12,6 @@ use lib.IntN.{ℤ, pos, negsuc}
 use lib.Dec.{eqb}
 use borrow.Author.Tests.{eqb-false, eq-eqb, ne_eqb}
 use Rattle.buffer.proofs.ByteLaws.{and-true, not-true}
-use Rattle.ari.specs.Listing.{number}
 use Rattle.grants.specs.Grants.{Grant, some, same, below0, clash, Check, passes, check_from, check}
 use Rattle.grants.proofs.Grants.{some_row, row_some, same_is}
 

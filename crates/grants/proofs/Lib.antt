@@ -2,3 +2,4 @@ pub mod Grants
 pub mod Checked
 pub mod Signed
 pub mod RowWays
+pub mod Verdict

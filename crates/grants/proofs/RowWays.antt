@@ -13,6 +13,15 @@ use Rattle.buffer.proofs.Numbers.{load_there}
 use Rattle.grants.specs.Grants.{Grant, some, same, below0, clash, passes, refused, check_from, check, holds}
 use Rattle.ari.specs.Signed.{signed}
 use Rattle.grants.specs.Bytes.{row_by, row_of, holds_at, rows, check_bytes}
+use Rattle.std.specs.declared.slice.ChunksExact.{ChunksExact}
+use Rattle.std.specs.Slice.Iter.{chunks_exact_rest, chunks_exact_size, chunks_exact_steps}
+use Rattle.std.specs.List.{list_any}
+use Rattle.std.proofs.lemmas.Iterator.{YieldsList}
+use Rattle.std.proofs.lemmas.Iterator.Splits.{YieldsList-from_shown_while}
+use Rattle.std.proofs.Common.{Some, None}
+use Rattle.std.proofs.lemmas.List.{drop_all}
+use native.Mathlib.Numerals.{add-one}
+use denote.Ref.{Bor}
 use Rattle.grants.proofs.Signed.{same_words, not_negative, negative}
 
 -- a whole row at a place
@@ -53,6 +62,10 @@ row_front x y h =
       drop-append-le 8 x y (omega arith),
       take-append-le 8 (drop 8 x) y (rw length-drop (omega arith)),
     )
+
+front_row : (x y : List ℕ) → length x ≡ 16 → rows (x ++ y) ≡ row_of x ∷ rows y
+front_row x y e =
+    rw (rows_more (x ++ y) (rw length-append (omega arith)), row_front x y (omega arith), drop-append-le 16 x y (omega arith), drop_all 16 x (omega arith))
 
 rows_join : (k : ℕ) (x y : List ℕ) → length x ≡ 16 * k → rows (x ++ y) ≡ rows x ++ rows y
 rows_join zero [] y e = sym (rw (rows_end [] (omega arith)))
@@ -99,11 +112,25 @@ module _ (b : List ℕ) (at s n : ℕ) (w : at + 16 ≤ length b) where
     its_subscriber {x} {y} f h e =
         rw (← first_word b at w e, drop-drop 8 at b, ← second_word b at w f, h, same_words n n high high, eq-eqb n n refl, negative n low) (sym (and-true (not (eqb x s))))
 
+-- the rows that whole chunks give, and a search over them
+pub YieldsList-from_rows : (s : ChunksExact ℕ) (b : List ℕ) → chunks_exact_rest s ≡ b → chunks_exact_size s ≡ 16 → YieldsList chunks_exact_steps (λ y. row_of y.now) s (rows b)
+YieldsList-from_rows s b e k =
+    rw (← e)
+    (YieldsList-from_shown_while chunks_exact_steps (λ y. row_of y.now) (λ s. rows (chunks_exact_rest s)) (λ s. chunks_exact_size s ≡ 16) ends goes_on s k)
+  where
+    ends : (s t : ChunksExact ℕ) → chunks_exact_size s ≡ 16 → chunks_exact_steps s None t → length (rows (chunks_exact_rest s)) ≡ 0
+    ends s t e h = rw (rows_end (chunks_exact_rest s) (omega (arith, h.1.0)))
+
+    goes_on : (s : ChunksExact ℕ) (x : Bor (List ℕ)) (t : ChunksExact ℕ) → chunks_exact_size s ≡ 16 → chunks_exact_steps s (Some x) t
+        → (chunks_exact_size t ≡ 16) × (rows (chunks_exact_rest s) ≡ row_of x.now ∷ rows (chunks_exact_rest t))
+    goes_on s x t e h = (h.0 ∙ e, rw h.1.0 (front_row x.now (chunks_exact_rest t) (h.1.1 ∙ e)))
+
+pub some_is : (p : Grant → Bool) (t : List Grant) → list_any p t ≡ some p t
+some_is p [] = refl
+some_is p (g ∷ t) = rw (some_is p t)
+
 -- the rows of bytes, searched from the front
 module _ (p : Grant → Bool) (b : List ℕ) where
-  pub some_start : some p (rows b) ≡ some p (rows (drop 0 b))
-  some_start = refl
-
   module _ (at : ℕ) (e : some p (rows b) ≡ some p (rows (drop at b))) where
     pub some_end : length b - at < 16 → false ≡ some p (rows b)
     some_end h = rw (e, rows_end (drop at b) (rw length-drop h))
@@ -140,28 +167,28 @@ whole_table : (b : List ℕ) → length b % 16 ≡ 0 → check_bytes b ≡ check
 unfolding check_bytes
 whole_table b h = rw (eq-eqb (length b % 16) 0 h)
 
-pub check_start : (b : List ℕ) → check (rows b) ≡ check_from (rows (take 0 b)) (0 / 16) (rows (drop 0 b))
+pub check_start : (b : List ℕ) → check (rows b) ≡ check_from (rows (take 0 b)) 0 (rows (drop 0 b))
 unfolding check
 check_start b = rw (rows_end [] (omega arith))
 
-module _ (b : List ℕ) (at : ℕ) (w : length b % 16 ≡ 0) (k : at % 16 ≡ 0)
-    (e : check (rows b) ≡ check_from (rows (take at b)) (at / 16) (rows (drop at b))) where
-  pub check_end : length b ≤ at → passes ≡ check_bytes b
-  check_end h = rw (whole_table b w, e, rows_end (drop at b) (rw length-drop (omega arith)))
+module _ (b : List ℕ) (k : ℕ) (w : length b % 16 ≡ 0)
+    (e : check (rows b) ≡ check_from (rows (take (16 * k) b)) k (rows (drop (16 * k) b))) where
+  pub check_end : length b / 16 ≤ k → passes ≡ check_bytes b
+  check_end h = rw (whole_table b w, e, rows_end (drop (16 * k) b) (rw length-drop (omega arith)))
 
-  module _ (h : at < length b) {x : Bool} (f : x ≡ some (clash (row_of (drop at b))) (rows (take at b))) where
-    this_row : rows (drop at b) ≡ row_of (drop at b) ∷ rows (drop (at + 16) b)
-    this_row = rw (rows_more (drop at b) (rw length-drop (omega arith)), drop-drop 16 at b)
+  module _ (h : k < length b / 16) {x : Bool} (f : x ≡ some (clash (row_of (drop (16 * k) b))) (rows (take (16 * k) b))) where
+    this_row : rows (drop (16 * k) b) ≡ row_of (drop (16 * k) b) ∷ rows (drop (16 * k + 16) b)
+    this_row = rw (rows_more (drop (16 * k) b) (rw length-drop (omega arith)), drop-drop 16 (16 * k) b)
 
-    pub check_here : x ≡ true → refused 18 (at / 16) ≡ check_bytes b
+    pub check_here : x ≡ true → refused 18 k ≡ check_bytes b
     check_here g = rw (whole_table b w, e, this_row, ← f, g)
 
-    pub check_behind : x ≡ false → check (rows b) ≡ check_from (rows (take (at + 16) b)) ((at + 16) / 16) (rows (drop (at + 16) b))
+    pub check_behind : x ≡ false → check (rows b) ≡ check_from (rows (take (16 * (k + 1)) b)) (k + 1) (rows (drop (16 * (k + 1)) b))
     check_behind g =
-        let c : List ℕ = drop at b in
+        let c : List ℕ = drop (16 * k) b in
         let n : 16 ≤ length c = rw length-drop (omega arith) in
-        let q : (at + 16) / 16 ≡ suc (at / 16) = omega arith in
-        let l : length (take at b) ≡ 16 * (at / 16) = length-take-le at b (omega arith) ∙ omega arith in
-        rw (e, this_row, ← f, g, q, take-add at 16 b, rows_join (at / 16) (take at b) (take 16 c) l, rows_one c n)
+        let q : 16 * (k + 1) ≡ 16 * k + 16 = omega arith in
+        let l : length (take (16 * k) b) ≡ 16 * k = length-take-le (16 * k) b (omega arith) in
+        rw (e, this_row, ← f, g, q, take-add (16 * k) 16 b, rows_join k (take (16 * k) b) (take 16 c) l, rows_one c n, add-one)
 
-pub ruleset ways = (other_subscriber, its_namespace, other_namespace, its_subscriber, some_start, some_end, some_here, some_behind, positive, private_row, length_before, ragged_table, check_start, check_end, check_here, check_behind, holds_none, holds_past, holds_here)
+pub ruleset ways = (positive, private_row, length_before, ragged_table, check_start, check_end, check_here, check_behind, holds_none, holds_past, holds_here)

@@ -1,9 +1,11 @@
 -- What the functions answer, in the rules' numbers. Interface: check_of.
-use Rattle.grants.specs.declared.Verdict.{Verdict}
-use Rattle.grants.specs.declared.Verdict.TheVariants.{Passes, Refused}
+use Rattle.std.specs.declared.result.Result.{Result}
+use Rattle.std.specs.declared.result.Result.TheVariants.{Ok, Err}
+use Rattle.ari.specs.declared.Refusal.{Refusal}
+use Rattle.ari.specs.Refusals.{number_of}
 use Rattle.grants.specs.Grants.{Check, passes, refused}
 
--- the table passes, or 18 with a row
-abbrev pub check_of : Verdict → Check
-check_of Passes = passes
-check_of (Refused i) = refused 18 i
+-- the table passes, or is refused with a row
+abbrev pub check_of : Result (Unit {0}) Refusal → Check
+check_of (Ok u) = passes
+check_of (Err e) = refused (number_of e.fault) e.place

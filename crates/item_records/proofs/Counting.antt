@@ -4,7 +4,8 @@ use mathlib.Core.Path.{◌≡◌, refl, sym, ◌∙◌, ap}
 use mathlib.Core.Bool.{Bool, true, false, not, ◌||◌, cond}
 use mathlib.Core.List.{List}
 use native.Mathlib.Omega.{arith}
-use lib.ListN.{get_or, get_or-eq_default}
+use lib.ListN.{length, get_or, take, get_or-eq_default}
+use lib.Seq.{get_or-take, length-take-le}
 use lib.Dec.{ltb, eqb}
 use borrow.Author.Tests.{lt-ltb, le-ltb, ltb-true, ltb-false, eq-eqb, ne_eqb}
 use Rattle.cbor.proofs.Computed.{all_at}
@@ -50,8 +51,8 @@ two_slots i = go (ltb i 72) refl
         rw (v, ne_eqb i 24 (λ q. omega arith), ne_eqb i 25 (λ q. omega arith))
 
 module _ (i : ℕ) where
-  pub a_target : i ≡ 24 → true ≡ is_target_by i
-  a_target e = rw (eq-eqb i 24 e) at (two_slots i)
+  pub a_target : i ≡ 24 → eqb i 24 ≡ is_target_by i
+  a_target e = eq-eqb i 24 e ∙ (rw (eq-eqb i 24 e) at (two_slots i))
 
   pub a_report : (i ≡ 24 → ⊥) → eqb i 25 ≡ is_target_by i
   a_report n = rw (ne_eqb i 24 n) at (two_slots i)
@@ -79,12 +80,19 @@ module _ (t : Targets) (first : ℕ) where
 
 pub ruleset target_ways = (a_target, a_report, one_more, no_more, past_it, in_none, in_it)
 
--- the loop over the words
+-- the words one by one
 pub passed_one : (t : List ℕ) (j : ℕ) {x y : Targets} → x ≡ targets_to t j → y ≡ passed_by x (get_or t j 0) → y ≡ targets_to t (j + 1)
 passed_one t j e f = let s : j + 1 ≡ suc j = omega arith in f ∙ rw (s, e)
 
-pub passed_to : (t : List ℕ) (j k : ℕ) {x : Targets} → x ≡ targets_to t j → j ≤ suc k → k < j → x ≡ targets_to t (suc k)
-passed_to t j k e h l = let q : j ≡ suc k = omega arith in e ∙ ap (targets_to t) q
+-- the first words alone
+targets_of_first : (t : List ℕ) (n j : ℕ) → j ≤ n → targets_to (take n t) j ≡ targets_to t j
+targets_of_first t n zero h = refl
+targets_of_first t n (suc j) h = rw (targets_of_first t n j (omega arith), get_or-take n t j 0 (omega arith)) refl
+
+pub targets_first : (t : List ℕ) (k : ℕ) → k < length t → {x : Targets} → x ≡ targets_to (take (k + 1) t) (length (take (k + 1) t)) → x ≡ targets_to t (suc k)
+targets_first t k h e =
+    let l : length (take (k + 1) t) ≡ suc k = omega (arith, length-take-le (k + 1) t (omega arith)) in
+    e ∙ rw l (targets_of_first t (k + 1) (suc k) (omega arith))
 
 -- The words of an accepted input's table give its items' numbers: no count comes near 64 bits.
 module _ {m : Limits} {i : Input} {b : List ℕ} {n : ℕ} {t : List ℕ} (c : Tabled m i b n t) where
@@ -113,7 +121,7 @@ module _ {m : Limits} {i : Input} {b : List ℕ} {n : ℕ} {t : List ℕ} (c : T
   step_is p true after h = let e : min (p.count + 1) 18446744073709551615 ≡ suc p.count = omega arith in rw e
   step_is p false after h = refl
 
-  few : n < 65536
+  pub few : n < 65536
   few = omega (arith, fewer_than_bytes c.is, c.is.short, c.small)
 
   passed_all : (k : ℕ) → k ≤ n → targets_to t k ≡ as_targets (passed no_spot nothing xs k)

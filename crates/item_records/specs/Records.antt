@@ -1,6 +1,5 @@
--- Item records: R72 to R75, and R67. Interface: literal_of, kind_of, record_of, found_of, item_of, record_from. Private to src/: kind_at, record_by, found_from,
--- Roomy.
-use Rattle.std.specs.Prelude.{ℕ, suc, ◌≤◌, Bool, true, false, cond, List, [], ◌∷◌, length, get_or, ltb, eqb}
+-- Item records: R72 to R75, and R67. Interface: literal_of, kind_of, record_of, found_of, item_of, record_from. Private to src/: kind_at, record_by.
+use Rattle.std.specs.Prelude.{ℕ, Bool, true, false, cond, List, [], ◌∷◌, get_or, ltb, eqb}
 use Rattle.cbor.specs.declared.Head.{Head}
 use Rattle.cbor.specs.declared.Head.TheVariants.{Bad, Good}
 use Rattle.cbor.specs.Answer.{head_at}
@@ -15,8 +14,10 @@ use Rattle.ari.specs.Targets.{target_of}
 use Rattle.item_table.specs.declared.Item.{Item}
 use Rattle.item_table.specs.Entries as items
 use Rattle.item_table.specs.Entries.{reference_by, spot_number}
-use Rattle.reader.specs.declared.Answer.{Answer}
-use Rattle.reader.specs.declared.Answer.TheVariants.{Accepted, Refused}
+use Rattle.std.specs.declared.result.Result.{Result}
+use Rattle.std.specs.declared.result.Result.TheVariants.{Ok}
+use Rattle.ari.specs.declared.Refusal.{Refusal}
+use Rattle.ari.specs.Refusals.{refused}
 use Rattle.item_records.specs.declared.Literal.{Literal}
 use Rattle.item_records.specs.declared.Literal.TheVariants.{Unsigned, Negative, Bytes, Text, Simple, Half, Single, Double}
 use Rattle.item_records.specs.declared.Container.{Container}
@@ -26,8 +27,7 @@ use Rattle.item_records.specs.declared.Kind.TheVariants as kinds
 use Rattle.item_records.specs.declared.Record.{Record}
 use Rattle.item_records.specs.declared.Found.{Found}
 use Rattle.item_records.specs.declared.Targets.{Targets}
-use Rattle.item_records.specs.Numbered.{targets_to, target_by}
-use Rattle.item_records.specs.declared.Found.TheVariants as found
+use Rattle.item_records.specs.Numbered.{target_by}
 
 -- R73: what each case means is in Values
 abbrev pub literal_of : ℕ → ℕ → Literal
@@ -66,19 +66,9 @@ unfoldable pub record_from : List ℕ → Targets → ℕ → Record
 record_from b t e = record_by b t (items.item_of e)
 
 -- R75, R67
-abbrev pub found_of : Input → List ℕ → ℕ → reader.Answer → Found
-found_of i b k (refuse r p) = found.Refused r p
-found_of i b k (accept n) = cond (ltb k n) (found.Item (record_of (spots_of i (decode b)) (spot_number i b k)) n) (found.Refused 17 n)
+abbrev pub found_of : Input → List ℕ → ℕ → reader.Answer → Result Found Refusal
+found_of i b k (refuse r p) = refused r p
+found_of i b k (accept n) = cond (ltb k n) (Ok (record { item = record_of (spots_of i (decode b)) (spot_number i b k); count = n })) (refused 17 n)
 
-unfoldable pub item_of : Limits → Input → List ℕ → ℕ → Found
+unfoldable pub item_of : Limits → Input → List ℕ → ℕ → Result Found Refusal
 item_of m i b k = found_of i b k (read m i b)
-
--- the same from the input's answer and table
-abbrev pub found_from : List ℕ → ℕ → List ℕ → Answer → Found
-found_from b k t (Refused r p) = found.Refused r p
-found_from b k t (Accepted n) = cond (ltb k n) (found.Item (record_from b (targets_to t (suc k)) (get_or t k 0)) n) (found.Refused 17 n)
-
--- a table with room for each item
-abbrev pub Roomy : Answer → List ℕ → Type 0
-Roomy (Refused r p) t = Unit {0}
-Roomy (Accepted n) t = n ≤ length t

@@ -1,13 +1,12 @@
 // Item k of an input: its record, read off the item table and the input's bytes.
 #![tactic(auto)]
 
-ghost use Rattle.std.specs.Prelude.{◌≡◌, suc, ◌<◌, ◌≤◌, min, length};
+ghost use Rattle.std.specs.Prelude.{◌≡◌, ◌<◌, ◌≤◌, min, length};
 ghost use Rattle.ari.specs.Limits.{gate_limits, capped};
-ghost use Rattle.item_records.specs.Records.{literal_of, kind_of, kind_at, record_from, found_from, Roomy, item_of};
+ghost use Rattle.item_records.specs.Records.{literal_of, kind_of, kind_at, record_from, item_of};
 ghost use Rattle.item_records.specs.Numbered.{is_target_by, passed_by, target_by, targets_to};
 
-use ari::{Input, Limits, Target};
-use reader::Answer;
+use ari::{Fault, Input, Limits, Refusal, Target};
 
 // What is no container: a number (Negative(n) is -1 - n), a simple value, a float's bits or a string's length: specs/Values.antt.
 #[derive(Clone, Copy)]
@@ -56,27 +55,25 @@ pub struct Targets {
 
 pub const NO_TARGETS: Targets = Targets { count: 0, end: 0 };
 
-// Item k with the item count; or the input's own refusal; or 17 with the count.
+// An item with the count of all.
 #[derive(Clone, Copy)]
-pub enum Found {
-    Item { record: Record, count: usize },
-    Refused { number: u8, place: usize },
+pub struct Found {
+    pub item: Record,
+    pub count: usize,
 }
 
+// What a head of no container is.
 fn literal_of(kind: u8, arg: u64) -> Literal
     ensures { result ≡ literal_of kind arg }
 {
     match kind {
-        0 => Literal::Unsigned(arg),
-        1 => Literal::Negative(arg),
-        2 => Literal::Bytes(arg),
-        3 => Literal::Text(arg),
-        4 => Literal::Simple(arg),
-        5 => Literal::Simple(arg),
-        6 => Literal::Simple(arg),
-        7 => Literal::Half(arg),
-        8 => Literal::Single(arg),
-        9 => Literal::Double(arg),
+        cbor::UNSIGNED => Literal::Unsigned(arg),
+        cbor::NEGATIVE => Literal::Negative(arg),
+        cbor::BYTES => Literal::Bytes(arg),
+        cbor::TEXT => Literal::Text(arg),
+        cbor::HALF => Literal::Half(arg),
+        cbor::SINGLE => Literal::Single(arg),
+        cbor::DOUBLE => Literal::Double(arg),
         _ => Literal::Simple(arg),
     }
 }
@@ -87,14 +84,11 @@ fn kind_of(reference: bool, kind: u8, arg: u64) -> Kind
     if reference {
         return Kind::Reference(arg);
     }
-    if kind == cbor::ARRAY {
-        return Kind::Container(Container::Array(arg));
+    match kind {
+        cbor::ARRAY => Kind::Container(Container::Array(arg)),
+        cbor::MAP => Kind::Container(Container::Map(arg)),
+        _ => Kind::Literal(literal_of(kind, arg)),
     }
-    if kind == cbor::MAP {
-        return Kind::Container(Container::Map(arg));
-    }
-    let literal = literal_of(kind, arg);
-    Kind::Literal(literal)
 }
 
 fn kind_at(slot: u64, h: cbor::Head) -> Kind
@@ -114,10 +108,7 @@ fn kind_at(slot: u64, h: cbor::Head) -> Kind
 pub fn is_target(slot: u64) -> bool
     ensures { result ≡ is_target_by slot }
 {
-    if slot == grammar::TARGET {
-        return true;
-    }
-    slot == grammar::REPORT
+    slot == grammar::TARGET || slot == grammar::REPORT
 }
 
 // One item further.
@@ -127,7 +118,7 @@ pub fn pass(targets: Targets, entry: u64) -> Targets
     let x = item_table::item_of(entry);
     if is_target(x.slot) {
         return Targets {
-            count: buffer::saturating_add(targets.count, 1),
+            count: targets.count.saturating_add(1),
             end: x.after,
         };
     }
@@ -139,12 +130,10 @@ fn target_of(targets: Targets, first: usize) -> Target
     ensures { result ≡ target_by targets first }
 {
     if targets.end <= first {
-        return Target::None;
+        Target::None
+    } else {
+        Target::Number(targets.count.saturating_sub(1))
     }
-    if targets.count == 0 {
-        return Target::Number(0);
-    }
-    Target::Number(targets.count - 1)
 }
 
 // The record of a word of the item table, with the targets and reports up to it.
@@ -152,82 +141,81 @@ pub fn record_of(s: &[u8], targets: Targets, entry: u64) -> Record
     ensures { result ≡ record_from s.now targets entry }
 {
     let x = item_table::item_of(entry);
-    let target = target_of(targets, x.first);
-    let kind = kind_at(x.slot, cbor::head_again(s, x.first));
     Record {
         first: x.first,
         after: x.after,
         around: x.around,
-        target,
-        kind,
+        target: target_of(targets, x.first),
+        kind: kind_at(x.slot, cbor::head_again(s, x.first)),
     }
 }
 
-// The targets and reports among the items of a table up to item k.
-fn targets_to(entries: &[u64], k: usize) -> Targets
-    requires { k < length entries.now }
-    ensures { result ≡ targets_to entries.now (suc k) }
+// The targets and reports among a table's first items.
+fn targets_to(entries: &[u64]) -> Targets
+    ensures { result ≡ targets_to entries.now (length entries.now) }
 {
     let mut targets = NO_TARGETS;
-    let mut j = 0;
-    while j <= k {
-        targets = pass(targets, entries[j]);
-        j += 1;
+    for &entry in entries {
+        targets = pass(targets, entry);
     }
     targets
 }
 
-fn find_item(s: &[u8], k: usize, a: Answer, entries: &[u64]) -> Found
-    requires { Roomy a entries.now }
-    ensures { result ≡ found_from s.now k entries.now a }
-{
-    match a {
-        Answer::Refused { number, place } => Found::Refused { number, place },
-        Answer::Accepted(count) => {
-            if k < count {
-                let targets = targets_to(entries, k);
-                let record = record_of(s, targets, entries[k]);
-                return Found::Item { record, count };
-            }
-            Found::Refused {
-                number: 17,
-                place: count,
-            }
-        }
-    }
-}
-
-fn item_in(input: Input, limits: Limits, s: &[u8], k: usize, entries: &mut [u64]) -> Found
+// In a table with room for the items.
+fn item_in(
+    input: Input,
+    limits: Limits,
+    s: &[u8],
+    k: usize,
+    entries: &mut [u64],
+) -> Result<Found, Refusal>
     requires { (min limits.items (length s.now) ≤ length entries.old) × (limits.bytes < 65536) × (limits.containers < 256) }
     ensures { result ≡ item_of limits input s.now k }
 {
-    let a = reader::keep(input, limits, s, entries);
-    find_item(s, k, a, entries)
+    let count = reader::keep(input, limits, s, entries)?;
+    if count <= k {
+        return Err(Refusal {
+            fault: Fault::NoSuchNumber,
+            place: count,
+        });
+    }
+    let targets = targets_to(&entries[..k + 1]);
+    Ok(Found {
+        item: record_of(s, targets, entries[k]),
+        count,
+    })
 }
 
-// An input has no more items than bytes: a table of 128 serves a small one, and is cleared in a fraction of the time.
-fn item_small(input: Input, limits: Limits, s: &[u8], k: usize) -> Found
-    requires { (length s.now ≤ 128) × (limits.bytes < 65536) × (limits.containers < 256) }
+// In a table of so many entries.
+fn item_by_table<const N: usize>(
+    input: Input,
+    limits: Limits,
+    s: &[u8],
+    k: usize,
+) -> Result<Found, Refusal>
+    requires fits { N ≤ 4096 }
+    requires s_in_bounds { (min limits.items (length s.now) ≤ N) × (limits.bytes < 65536) × (limits.containers < 256) }
     ensures { result ≡ item_of limits input s.now k }
 {
-    let mut entries = [0u64; 128];
+    let mut entries = [0u64; N];
     item_in(input, limits, s, k, &mut entries)
 }
 
-// Item k of an input within these limits, none above the gate's own.
-pub fn item_within(input: Input, limits: Limits, s: &[u8], k: usize) -> Found
+// Item k of an input within these limits, none above the gate's own; or the input's own refusal, or 17 with the count.
+pub fn item_within(input: Input, limits: Limits, s: &[u8], k: usize) -> Result<Found, Refusal>
     ensures { result ≡ item_of (capped limits) input s.now k }
 {
     let most = ari::cap(limits);
+    // An input has no more items than bytes, and a small table is cleared in a fraction of the time.
     if s.len() <= 128 {
-        return item_small(input, most, s, k);
+        item_by_table::<128>(input, most, s, k)
+    } else {
+        item_by_table::<{ ari::ITEMS }>(input, most, s, k)
     }
-    let mut entries = [0u64; ari::ITEMS];
-    item_in(input, most, s, k, &mut entries)
 }
 
 // Item k of an input.
-pub fn item(input: Input, s: &[u8], k: usize) -> Found
+pub fn item(input: Input, s: &[u8], k: usize) -> Result<Found, Refusal>
     ensures { result ≡ item_of gate_limits input s.now k }
 {
     item_within(input, ari::LIMITS, s, k)

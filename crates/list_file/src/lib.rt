@@ -1,10 +1,8 @@
 // A list of names from a file into lent room. What is wrong is said on standard error, after the file's name.
 #![tactic(auto)]
 
-ghost use Rattle.std.specs.Prelude.{◌≡◌, length};
-ghost use Rattle.list_file.specs.Loads.{Within};
+ghost use Rattle.std.specs.Prelude.{◌≡◌, ◌≤◌, length, IfSome};
 
-use input_file::Loaded;
 use std::env::Env;
 use std::fs::Files;
 
@@ -16,20 +14,16 @@ pub fn buffer() -> [u8; 262145]
 }
 
 // The file that argument k names, if it leaves a byte of the room; no bytes where there is no such argument.
-pub fn load_argument(rt: &(impl Env + Files), k: usize, text: &mut [u8]) -> Loaded
-    ensures { Within result (length text.old) }
+pub fn load_argument(rt: &(impl Env + Files), k: usize, text: &mut [u8]) -> Option<usize>
+    ensures { IfSome result (λ n. n ≤ length text.old) }
 {
     if !arguments::is_given(rt, k) {
-        return Loaded::Bytes(0);
+        return Some(0);
     }
-    match input_file::load(rt, k, text) {
-        Loaded::Bytes(n) => {
-            if n < text.len() {
-                return Loaded::Bytes(n);
-            }
-            input_file::say(rt, k, b": more than 262144 bytes\n");
-            Loaded::Nothing
-        }
-        Loaded::Nothing => Loaded::Nothing,
+    let n = input_file::load(rt, k, text)?;
+    if n < text.len() {
+        return Some(n);
     }
+    input_file::say(rt, k, b": more than 262144 bytes\n");
+    None
 }

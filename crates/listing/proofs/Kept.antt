@@ -1,8 +1,8 @@
 -- Each word of the table of references, and the listing. The idea: reference k is one of the items, so what the item table's words are known to say
 -- its word says too.
-use Prim.Native.Nat.{ℕ, zero, suc, ◌+◌, ◌%◌, ◌^◌, ◌<◌, ◌≤◌}
+use Prim.Native.Nat.{ℕ, zero, suc, ◌+◌, ◌^◌, ◌<◌}
 use mathlib.Core.Path.{◌≡◌, refl, sym, ◌∙◌, ap}
-use mathlib.Core.Bool.{Bool, true, false, cond}
+use mathlib.Core.Bool.{Bool, true, false}
 use mathlib.Core.List.{List, [], ◌∷◌, map}
 use native.Mathlib.Omega.{arith}
 use native.Mathlib.Numerals.{add-one}
@@ -23,7 +23,7 @@ use Rattle.item_table.specs.declared.Item.{Item}
 use Rattle.item_table.specs.Entries.{item_of, head_of, entry_of, no_spot, Tabled}
 use Rattle.item_table.specs.References.{Referenced}
 use Rattle.item_table.proofs.Entries.{get_d_entries, head_of_at}
-use Rattle.reader.proofs.Kept.{as_many}
+use Rattle.reader.proofs.Results.{as_many}
 use Rattle.listing.specs.declared.Namespace.{Namespace}
 use Rattle.listing.specs.declared.Reference.TheVariants.{To}
 use Rattle.listing.specs.Entries.{namespace_of, reference_from, space_code}

@@ -1,18 +1,18 @@
 -- Each word of the item table, and the listing. The idea: the listing from item k on is that from item k + 1 on, with an entry in front where item k
 -- is a reference; so a loop over the words goes through the entries in their order.
-use Prim.Native.Nat.{ℕ, zero, suc, ◌+◌, ◌-◌, ◌*◌, ◌<◌, ◌≤◌}
+use Prim.Native.Nat.{ℕ, zero, suc, ◌+◌, ◌-◌, ◌<◌, ◌≤◌}
 use mathlib.Core.Path.{◌≡◌, refl, sym, ◌∙◌, ap}
 use mathlib.Core.Bool.{Bool, true, false, cond}
 use mathlib.Core.List.Memᴰ
 use mathlib.Core.List.{List, [], ◌∷◌, ◌++◌, append_assoc, append-nil, map, Memᴰ}
 use native.Mathlib.Omega.{arith}
 use native.Mathlib.Numerals.{add-one}
-use lib.ListN.{length, get_or, take, drop, length-append, length-drop, length-map, take-append-drop}
+use lib.ListN.{length, get_or, drop, length-append, length-drop, take-append-drop}
 use lib.Seq.{drop-cons, drop-drop, drop_at, take_at, drop-length}
 use lib.IntN.{pos, negsuc}
 use lib.Dec.{eqb}
 use borrow.Author.Tests.{eqb-true, ne_eqb}
-use Rattle.cbor.specs.Head.{unsigned, negative, text, Lead, size, string_size, lead_bytes}
+use Rattle.cbor.specs.Head.{unsigned, negative, text, size, string_size, lead_bytes}
 use Rattle.cbor.specs.Answer.{head_at}
 use Rattle.cbor.proofs.HeadLaws.{length_lead}
 use Rattle.ari.specs.Table.{max64, is_reference}
@@ -28,7 +28,7 @@ use Rattle.ari.proofs.Spots.{spot_count}
 use Rattle.ari.proofs.Listed.{nothing_else_is_listed, own_bytes}
 use Rattle.ari.proofs.Referring.{place_of, found_references}
 use Rattle.ari.proofs.Named.{Named, InRange, own_namespace, numbers_in_range}
-use Rattle.item_table.specs.Entries.{no_spot, head_of, spot_number, Tabled}
+use Rattle.item_table.specs.Entries.{no_spot, spot_number, Tabled}
 use Rattle.item_table.proofs.Entries.{no_string, head_is, there, fine_at, covers_at, item_at, head_of_at, short_at}
 use Rattle.listing.specs.declared.Namespace.{Namespace}
 use Rattle.listing.specs.declared.Namespace.TheVariants.{Number, Name, Relative}

@@ -1,11 +1,12 @@
 -- The entries as they are written. The idea: what stands in front of `at` and the entries from k on are the whole listing.
-use Prim.Native.Nat.{ℕ, ◌+◌, ◌*◌, ◌/◌, ◌%◌, ◌^◌, ◌<◌, ◌≤◌}
+use Prim.Native.Nat.{ℕ, ◌+◌, ◌-◌, ◌*◌, ◌/◌, ◌%◌, ◌^◌, ◌<◌, ◌≤◌}
 use mathlib.Core.Path.{◌≡◌, refl, sym, ◌∙◌, ap}
-use mathlib.Core.List.{List, [], ◌∷◌, ◌++◌, append_assoc, append-nil}
+use mathlib.Core.List.{List, [], ◌++◌, append_assoc, append-nil}
 use native.Mathlib.Omega.{arith}
 use native.Mathlib.Nat.{add-zero, zero-add, mul-zero, mul-suc}
-use lib.ListN.{length, get_or, take, drop, length-append, take-append-drop}
+use lib.ListN.{length, get_or, take, drop, length-append, length-drop, take-append-drop}
 use lib.Seq.{sets, sets-eq, length-sets, length-take-le, take_at, drop_at, drop-drop, drop-length}
+use Rattle.std.proofs.lemmas.List.{get_or-take, get_or-drop}
 use Rattle.buffer.proofs.ByteLaws.{be_join}
 use Rattle.buffer.specs.Bytes.{be}
 use Rattle.ari.specs.declared.Limits.{Limits}
@@ -71,60 +72,69 @@ pub record Written (b out₀ : List ℕ) (k at : ℕ) (out : List ℕ) : Type 0 
   pub front : take at out ++ listing_bytes (drop k (listing b)) ≡ listing_bytes (listing b)
   pub behind : drop at out ≡ drop at out₀
 
-module _ {m : Limits} {b t : List ℕ} {n : ℕ} (c : Referenced m Message b n t) {out₀ : List ℕ} where
-  pub written_start : 24 * length (listing b) ≤ length out₀ → Written b out₀ 0 0 out₀
-  written_start h = record { lengths = refl; room = h; place = zero-add _; front = refl; behind = refl }
+-- the words of the references, behind their number
+abbrev pub reference_words : List ℕ → List ℕ
+reference_words t = take ((1 + get_or t 0 0) - 1) (drop 1 t)
 
-  module _ {k at : ℕ} {out : List ℕ} (i : Written b out₀ k at out) where
-    pub written_end : {l : ℕ} → l ≡ get_or t 0 0 → l ≤ k → k ≤ l → out ≡ listing_bytes (listing b) ++ drop (24 * length (listing b)) out₀
-    written_end {l} e h g =
-        let last : k ≡ length (listing b) = omega (arith, e, number_is c) in
-        let none : drop k (listing b) ≡ [] = rw last (drop-length (listing b)) in
-        let p : at ≡ 24 * length (listing b) = rw (none, mul-zero, add-zero) at i.place in
-        let f : take at out ≡ listing_bytes (listing b) = sym (append-nil (take at out)) ∙ rw none at i.front in
-        sym (take-append-drop at out) ∙ rw (f, i.behind, p)
+module _ {m : Limits} {b t : List ℕ} {n : ℕ} (c : Referenced m Message b n t) where
+  as_many : length (reference_words t) ≡ length (listing b)
+  as_many = omega (arith, length-take-le ((1 + get_or t 0 0) - 1) (drop 1 t) (omega (arith, length-drop 1 t, number_is c, words c)), number_is c)
 
-    module _ {l : ℕ} (e : l ≡ get_or t 0 0) (h : k < l) where
-      listed : k < length (listing b)
-      listed = omega (arith, e, number_is c)
+  word_same : (k : ℕ) → k < length (reference_words t) → get_or (reference_words t) k 0 ≡ get_or t (k + 1) 0
+  word_same k h =
+      get_or-take ((1 + get_or t 0 0) - 1) (drop 1 t) k 0 (omega (arith, as_many, number_is c)) ∙ get_or-drop 1 t k 0 ∙ ap (λ (i : ℕ). get_or t i 0) (omega arith)
 
-      pub word_there : k + 1 < length t
-      word_there = omega (arith, listed, words c)
+  module _ {out₀ : List ℕ} where
+    pub written_start : 24 * length (listing b) ≤ length out₀ → Written b out₀ 0 0 out₀
+    written_start h = record { lengths = refl; room = h; place = zero-add _; front = refl; behind = refl }
 
-      pub namespace_inside : {x : Item} → x ≡ item_of (get_or t (k + 1) 0) → {head : ℕ} → head ≡ head_of (get_or t (k + 1) 0) → x.first + head < 2 ^ 64
-      namespace_inside ex eh = inside c k listed ex eh
+    module _ {k at : ℕ} {out : List ℕ} (i : Written b out₀ k at out) where
+      pub written_end : length (reference_words t) ≤ k → k ≤ length (reference_words t) → out ≡ listing_bytes (listing b) ++ drop (24 * length (listing b)) out₀
+      written_end h g =
+          let last : k ≡ length (listing b) = omega (arith, as_many) in
+          let none : drop k (listing b) ≡ [] = rw last (drop-length (listing b)) in
+          let p : at ≡ 24 * length (listing b) = rw (none, mul-zero, add-zero) at i.place in
+          let f : take at out ≡ listing_bytes (listing b) = sym (append-nil (take at out)) ∙ rw none at i.front in
+          sym (take-append-drop at out) ∙ rw (f, i.behind, p)
 
-      module _ {x : Item} (ex : x ≡ item_of (get_or t (k + 1) 0)) {head : ℕ} (eh : head ≡ head_of (get_or t (k + 1) 0)) {s : Namespace}
-          (es : s ≡ namespace_of (x.first + head) (head_at b (x.first + head))) where
-        abbrev y : Stands b k x.first x.after s
-        y = stands c k listed ex eh es
+      module _ (h : k < length (reference_words t)) {x : Item} (ex : x ≡ item_of (get_or (reference_words t) k 0)) {head : ℕ} (eh : head ≡ head_of (get_or (reference_words t) k 0)) where
+        listed : k < length (listing b)
+        listed = omega (arith, as_many)
 
-        places : at + (24 * length (drop (k + 1) (listing b)) + 24) ≡ 24 * length (listing b)
-        places = rw (y.listed, mul-suc) at i.place
+        item_same : x ≡ item_of (get_or t (k + 1) 0)
+        item_same = ex ∙ ap item_of (word_same k h)
 
-        pub entry_room : at + 24 ≤ length out
-        entry_room = omega (arith, places, i.room, i.lengths)
+        head_same : head ≡ head_of (get_or t (k + 1) 0)
+        head_same = eh ∙ ap head_of (word_same k h)
 
-        pub first_short : x.first < 65536
-        first_short = y.short.0
+        pub namespace_inside : x.first + head < 2 ^ 64
+        namespace_inside = inside c k listed item_same head_same
 
-        pub after_short : x.after < 65536
-        after_short = y.short.1
+        module _ {s : Namespace} (es : s ≡ namespace_of (x.first + head) (head_at b (x.first + head))) where
+          abbrev y : Stands b k x.first x.after s
+          y = stands c k listed item_same head_same es
 
-        pub written_one : {out' : List ℕ} → out' ≡ sets out at (entry_code x.first x.after s) → Written b out₀ (k + 1) (at + 24) out'
-        written_one stored =
-            let vs = entry_code x.first x.after s in
-            let l : length vs ≡ 24 = refl in
-            record {
-              lengths = ap length stored ∙ length-sets out at vs ∙ i.lengths;
-              room = i.room;
-              place = omega (arith, places);
-              front =
-                  in_front out at vs l entry_room stored (listing_bytes (drop (k + 1) (listing b)))
-                  ∙ ap (λ (u : List ℕ). take at out ++ (u ++ listing_bytes (drop (k + 1) (listing b)))) (stands_bytes y)
-                  ∙ ap (λ (es : List Entry). take at out ++ listing_bytes es) (sym y.listed)
-                  ∙ i.front;
-              behind = not_reached out at vs l entry_room stored ∙ sym (drop-drop 24 at out) ∙ ap (drop 24) i.behind ∙ drop-drop 24 at out₀;
-            }
+          places : at + (24 * length (drop (k + 1) (listing b)) + 24) ≡ 24 * length (listing b)
+          places = rw (y.listed, mul-suc) at i.place
 
-pub ruleset writes = (written_start, written_end, word_there, namespace_inside, entry_room, first_short, after_short, written_one)
+          entry_room : at + 24 ≤ length out
+          entry_room = omega (arith, places, i.room, i.lengths)
+
+          pub entry_fits : (at + 24 ≤ length out) × (x.first < 65536) × (x.after < 65536)
+          entry_fits = (entry_room, y.short.0, y.short.1)
+
+          pub written_one : {out' : List ℕ} → out' ≡ sets out at (entry_code x.first x.after s) → Written b out₀ (k + 1) (at + 24) out'
+          written_one stored =
+              let vs = entry_code x.first x.after s in
+              let l : length vs ≡ 24 = refl in
+              record {
+                lengths = ap length stored ∙ length-sets out at vs ∙ i.lengths;
+                room = i.room;
+                place = omega (arith, places);
+                front =
+                    in_front out at vs l entry_room stored (listing_bytes (drop (k + 1) (listing b)))
+                    ∙ ap (λ (u : List ℕ). take at out ++ (u ++ listing_bytes (drop (k + 1) (listing b)))) (stands_bytes y)
+                    ∙ ap (λ (es : List Entry). take at out ++ listing_bytes es) (sym y.listed)
+                    ∙ i.front;
+                behind = not_reached out at vs l entry_room stored ∙ sym (drop-drop 24 at out) ∙ ap (drop 24) i.behind ∙ drop-drop 24 at out₀;
+              }

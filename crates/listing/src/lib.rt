@@ -15,20 +15,22 @@ ghost use Rattle.listing.specs.Answers.{listed_of, list_of, written_by, written_
 ghost use Rattle.listing.specs.Entries.{namespace_of, reference_from, string_in};
 ghost use Rattle.listing.specs.Codes.{kind_code, word_code, entry_code};
 
-use ari::{Input, Limits};
-use reader::Answer;
+use ari::{Fault, Input, Limits, Refusal};
 
-// The entries listed with the item count; or the message's own refusal; or 16 with the number of references.
+// How many entries a message has, and its item count.
 #[derive(Clone, Copy)]
-pub enum Listed {
-    Entries { listed: usize, count: usize },
-    Refused { number: u8, place: usize },
+pub struct Listed {
+    pub listed: usize,
+    pub count: usize,
 }
 
 // The most entries of a listing: a reference takes two items at least (ari, proofs/ListingBound.antt). An entry has 24 bytes.
 pub const ENTRIES: usize = ari::ITEMS / 2;
 
 pub const ROOM: usize = ENTRIES * 24;
+
+// The words of the largest table of references.
+const REFERENCES: usize = ENTRIES + 1;
 
 // A namespace: a number in two's complement; a name, by the place of its head and its length; relative.
 #[derive(Clone, Copy)]
@@ -102,26 +104,25 @@ pub fn reference_at(s: &[u8], entry: u64) -> Reference
 }
 
 // A namespace's two numbers in an entry.
-fn kind_code(n: Namespace) -> u64
-    ensures { result ≡ kind_code n }
-{
-    match n {
-        Namespace::Number(_) => 0,
-        Namespace::Name {
-            place: _,
-            length: _,
-        } => 1,
-        Namespace::Relative => 2,
+impl Namespace {
+    fn kind(self) -> u64
+        ensures { result ≡ kind_code self }
+    {
+        match self {
+            Namespace::Number(_) => 0,
+            Namespace::Name { .. } => 1,
+            Namespace::Relative => 2,
+        }
     }
-}
 
-fn word_code(n: Namespace) -> u64
-    ensures { result ≡ word_code n }
-{
-    match n {
-        Namespace::Number(word) => word,
-        Namespace::Name { place, length: _ } => place as u64,
-        Namespace::Relative => 0,
+    fn word(self) -> u64
+        ensures { result ≡ word_code self }
+    {
+        match self {
+            Namespace::Number(word) => word,
+            Namespace::Name { place, .. } => place as u64,
+            Namespace::Relative => 0,
+        }
     }
 }
 
@@ -142,7 +143,7 @@ fn put_entry(out: &mut [u8], at: usize, first: usize, after: usize, namespace: N
     ensures { out.new ≡ sets out.old at (entry_code first after namespace) }
 {
     let ends = first as u64 * 4294967296 + after as u64;
-    put_numbers(out, at, ends, kind_code(namespace), word_code(namespace));
+    put_numbers(out, at, ends, namespace.kind(), namespace.word());
 }
 
 // The entries of a table of references, where there is room for them.
@@ -153,10 +154,7 @@ fn write_entries(s: &[u8], limits: Limits, count: usize, references: &[u64], out
 {
     let listed = references[0] as usize;
     let mut at = 0;
-    let mut k = 0;
-    while k < listed {
-        let word = references[k + 1];
-        k += 1;
+    for &word in &references[1..1 + listed] {
         let x = item_table::item_of(word);
         let size = item_table::head_of(word);
         let namespace = namespace_at(s, x.first + size);
@@ -166,88 +164,84 @@ fn write_entries(s: &[u8], limits: Limits, count: usize, references: &[u64], out
 }
 
 // What a table's message answers, and its entries, where there is room for them.
-fn list_table(s: &[u8], limits: Limits, count: usize, references: &[u64], out: &mut [u8]) -> Listed
+fn list_table(
+    s: &[u8],
+    limits: Limits,
+    count: usize,
+    references: &[u64],
+    out: &mut [u8],
+) -> Result<Listed, Refusal>
     requires { Referenced limits input.Message s.now count references.now }
     ensures value { result ≡ listed_of (accept count) (listing s.now) (length out.old / 24) }
     ensures out_after { out.new ≡ written_by result (listing s.now) out.old }
 {
     let listed = references[0] as usize;
     if out.len() / 24 < listed {
-        return Listed::Refused {
-            number: 16,
+        return Err(Refusal {
+            fault: Fault::NoRoom,
             place: listed,
-        };
+        });
     }
     write_entries(s, limits, count, references, out);
-    Listed::Entries { listed, count }
+    Ok(Listed { listed, count })
 }
 
-fn list_in(s: &[u8], limits: Limits, out: &mut [u8], references: &mut [u64]) -> Listed
+fn list_in(
+    s: &[u8],
+    limits: Limits,
+    out: &mut [u8],
+    references: &mut [u64],
+) -> Result<Listed, Refusal>
     requires { (min limits.items (length s.now) < 2 * length references.old) × (limits.bytes < 65536) × (limits.containers < 256) }
     ensures value { result ≡ list_of limits s.now out.old }
     ensures out_after { out.new ≡ written_of limits s.now out.old }
 {
-    match reader::keep_references(Input::Message, limits, s, references) {
-        Answer::Refused { number, place } => Listed::Refused { number, place },
-        Answer::Accepted(count) => list_table(s, limits, count, references, out),
-    }
+    let count = reader::keep_references(Input::Message, limits, s, references)?;
+    list_table(s, limits, count, references, out)
 }
 
 // A message has no more items than bytes, and at most half as many references: tables of 65 and of 513 words serve small ones, and are cleared in a
 // fraction of the time.
-fn list_small(s: &[u8], limits: Limits, out: &mut [u8]) -> Listed
-    requires { (length s.now ≤ 128) × (limits.bytes < 65536) × (limits.containers < 256) }
+fn list_sized<const WORDS: usize>(
+    s: &[u8],
+    limits: Limits,
+    out: &mut [u8],
+) -> Result<Listed, Refusal>
+    requires words_bound { (WORDS < 65536) × (min limits.items (length s.now) < 2 * WORDS) }
+    requires limits_bound { (limits.bytes < 65536) × (limits.containers < 256) }
     ensures value { result ≡ list_of limits s.now out.old }
     ensures out_after { out.new ≡ written_of limits s.now out.old }
 {
-    let mut references = [0u64; 65];
-    list_in(s, limits, out, &mut references)
-}
-
-fn list_middle(s: &[u8], limits: Limits, out: &mut [u8]) -> Listed
-    requires { (length s.now ≤ 1024) × (limits.bytes < 65536) × (limits.containers < 256) }
-    ensures value { result ≡ list_of limits s.now out.old }
-    ensures out_after { out.new ≡ written_of limits s.now out.old }
-{
-    let mut references = [0u64; 513];
-    list_in(s, limits, out, &mut references)
-}
-
-fn list_large(s: &[u8], limits: Limits, out: &mut [u8]) -> Listed
-    requires { (limits.items ≤ 4096) × (limits.bytes < 65536) × (limits.containers < 256) }
-    ensures value { result ≡ list_of limits s.now out.old }
-    ensures out_after { out.new ≡ written_of limits s.now out.old }
-{
-    let mut references = [0u64; ENTRIES + 1];
+    let mut references = [0u64; WORDS];
     list_in(s, limits, out, &mut references)
 }
 
 // The listing of a message within these limits, none above the gate's own, in the lent room.
-pub fn list_within(limits: Limits, s: &[u8], out: &mut [u8]) -> Listed
+pub fn list_within(limits: Limits, s: &[u8], out: &mut [u8]) -> Result<Listed, Refusal>
     ensures value { result ≡ list_of (capped limits) s.now out.old }
     ensures out_after { out.new ≡ written_of (capped limits) s.now out.old }
 {
     let most = ari::cap(limits);
     if s.len() <= 128 {
-        return list_small(s, most, out);
+        return list_sized::<65>(s, most, out);
     }
     if s.len() <= 1024 {
-        return list_middle(s, most, out);
+        return list_sized::<513>(s, most, out);
     }
-    list_large(s, most, out)
+    list_sized::<REFERENCES>(s, most, out)
 }
 
 // The listing of a message. It does not go through `list_within`: a function with two callers stays one of its own, so that a small message makes no room
 // on the stack for the largest table.
-pub fn list_message(s: &[u8], out: &mut [u8]) -> Listed
+pub fn list_message(s: &[u8], out: &mut [u8]) -> Result<Listed, Refusal>
     ensures value { result ≡ list_of gate_limits s.now out.old }
     ensures out_after { out.new ≡ written_of gate_limits s.now out.old }
 {
     if s.len() <= 128 {
-        return list_small(s, ari::LIMITS, out);
+        return list_sized::<65>(s, ari::LIMITS, out);
     }
     if s.len() <= 1024 {
-        return list_middle(s, ari::LIMITS, out);
+        return list_sized::<513>(s, ari::LIMITS, out);
     }
-    list_large(s, ari::LIMITS, out)
+    list_sized::<REFERENCES>(s, ari::LIMITS, out)
 }

@@ -15,67 +15,63 @@ use Rattle.names.specs.declared.Names.{Names}
 use Rattle.names.specs.declared.Names.TheVariants as lists
 use Rattle.names.specs.Names.{check_names}
 use Rattle.day_file.specs.declared.Format.{Format}
-use Rattle.day_file.specs.declared.Day.{Day}
-use Rattle.day_file.specs.declared.Day.TheVariants as day
+use Rattle.std.specs.declared.result.Result.{Result}
+use Rattle.std.specs.declared.result.Result.TheVariants.{Ok, Err}
+use Rattle.ari.specs.declared.Refusal.{Refusal}
+use Rattle.ari.specs.Refusals.{refused}
 use Rattle.day_file.specs.Day.{messages_from, messages_in, message_stands, first_not, Sized, outline_day, check_day}
 use Rattle.day_file.proofs.Ways.{outline_refused, bad_message, day_passes, sized_count}
-use Rattle.month_figures.specs.declared.Month.{Month}
-use Rattle.month_figures.specs.declared.Month.TheVariants.{Done, Refused}
 use Rattle.month_figures.specs.Figures.{Message, Source, message_with, messages_of, Figures, figures}
 use Rattle.month_figures.specs.State.{words, Holds}
 use Rattle.month.specs.declared.Tally.{Tally}
-use Rattle.month.specs.declared.Walked.{Walked}
-use Rattle.month.specs.declared.Walked.TheVariants as walked
 use Rattle.month.specs.Adding.{source_of, judged, added_by, add_of, Adds}
 use Rattle.month.specs.Code.{with_messages, Fetches, Settles, CountedBy, CountedOn, filed_by, Files}
 use Rattle.month.proofs.Walking.{FileBy, FileWalked}
 use Rattle.month.proofs.Sums.{figures_plus}
-
-refused_not_done : (r p : ℕ) → Refused r p ≡ Done → ⊥
-refused_not_done r p e = let z : ◌≡◌ {A = ℕ} 0 1 = cc in omega arith
+use Rattle.month.proofs.Keeping.{refused_not_done}
 
 -- 22 with the first message that is refused, or what the figures say with all n messages of a file
-abbrev pub unless_refused : ℕ → ℕ → Month → Month
-unless_refused k n r = cond (ltb k n) (Refused 22 k) r
+abbrev pub unless_refused : ℕ → ℕ → Result (Unit {0}) Refusal → Result (Unit {0}) Refusal
+unless_refused k n r = cond (ltb k n) (refused 22 k) r
 
-pub record MessagesAdded (f : Format) (m : Limits) (b : List ℕ) (n : ℕ) (published own ws : List ℕ) (r : Month) (ws' : List ℕ) : Type 0 where
-  pub kept : (r ≡ Done → ⊥) → ws' ≡ ws
+pub record MessagesAdded (f : Format) (m : Limits) (b : List ℕ) (n : ℕ) (published own ws : List ℕ) (r : Result (Unit {0}) Refusal) (ws' : List ℕ) : Type 0 where
+  pub kept : (r ≡ Ok tt → ⊥) → ws' ≡ ws
   pub answer : (x : Figures) → Holds ws x
       → (r ≡ unless_refused (first_not (message_stands f m b) 0 n) n (judged (with_messages (map (message_with published own) (messages_from f b 0 n)) x)))
-      × (r ≡ Done → Holds ws' (with_messages (map (message_with published own) (messages_from f b 0 n)) x))
+      × (r ≡ Ok tt → Holds ws' (with_messages (map (message_with published own) (messages_from f b 0 n)) x))
 
 module _ (f : Format) (m : Limits) (b : List ℕ) (n : ℕ) (published own ws : List ℕ) where
-  pub counted_on : {t : Tally} {ps cs : List ℕ} → Fetches ws t ps cs → {w : Walked} {ps' cs' : List ℕ} → FileWalked f m b n published own t ps cs w ps' cs' → CountedOn f m b n published own ws w ps' cs'
+  pub counted_on : {t : Tally} {ps cs : List ℕ} → Fetches ws t ps cs → {w : Result Tally ℕ} {ps' cs' : List ℕ} → FileWalked f m b n published own t ps cs w ps' cs' → CountedOn f m b n published own ws w ps' cs'
   counted_on {t} {ps} {cs} h {w} {ps'} {cs'} u = record { by = go w u.by }
     where
-      go : (w : Walked) → FileBy f m b n published own t ps cs w ps' cs' → CountedBy f m b n published own ws w ps' cs'
-      go (walked.Counted t') (every, goes) = (every, λ x held. goes.on x (h.held x held))
-      go (walked.Refused k) c = c
+      go : (w : Result Tally ℕ) → FileBy f m b n published own t ps cs w ps' cs' → CountedBy f m b n published own ws w ps' cs'
+      go (Ok t') (every, goes) = (every, λ x held. goes.on x (h.held x held))
+      go (Err k) c = c
 
-  module _ {w : Walked} {ps cs : List ℕ} (u : CountedOn f m b n published own ws w ps cs) where
-    pub messages_refused : {k : ℕ} → w ≡ walked.Refused k → MessagesAdded f m b n published own ws (Refused 22 k) ws
+  module _ {w : Result Tally ℕ} {ps cs : List ℕ} (u : CountedOn f m b n published own ws w ps cs) where
+    pub messages_refused : {k : ℕ} → w ≡ Err k → MessagesAdded f m b n published own ws (refused 22 k) ws
     messages_refused {k} i =
         let (first, less) = rw i at u.by in
-        record { kept = λ _. refl; answer = λ x held. (sym (rw (← first, lt-ltb k n less)), λ q. absurd (refused_not_done 22 k q)) }
+        record { kept = λ _. refl; answer = λ x held. (sym (rw (← first, lt-ltb k n less)), λ q. absurd (refused_not_done q)) }
 
-    pub messages_settled : {t : Tally} → w ≡ walked.Counted t → {r : Month} {ws' : List ℕ} → Settles ws t ps cs r ws' → MessagesAdded f m b n published own ws r ws'
+    pub messages_settled : {t : Tally} → w ≡ Ok t → {r : Result (Unit {0}) Refusal} {ws' : List ℕ} → Settles ws t ps cs r ws' → MessagesAdded f m b n published own ws r ws'
     messages_settled i v =
         let (every, counted) = rw i at u.by in
         record { kept = v.kept; answer = λ x held. let (answer, after) = v.answer _ (counted x held) in (answer ∙ sym (rw (← every, le-ltb n n (omega arith))), after) }
 
 pub ruleset messages = (messages_refused, messages_settled)
 
-module _ (f : Format) (m : Limits) (b published own ws : List ℕ) {d : Day} (e : d ≡ outline_day f b) where
+module _ (f : Format) (m : Limits) (b published own ws : List ℕ) {d : Result ℕ Refusal} (e : d ≡ outline_day f b) where
   abbrev all_of : List Message
   all_of = map (message_with published own) (messages_in f b)
 
-  pub file_refused : {r p : ℕ} → d ≡ day.Refused r p → Files f m b published own ws (Refused r p) ws
-  file_refused {r} {p} g = record {
+  pub file_refused : {i : Refusal} → d ≡ Err i → Files f m b published own ws (Err i) ws
+  file_refused g = record {
     kept = λ _. refl;
-    answer = λ x h. (ap (λ (y : Day). filed_by y (with_messages all_of x)) (outline_refused f m b e g), λ q. absurd (refused_not_done r p q));
+    answer = λ x h. (ap (λ (y : Result ℕ Refusal). filed_by y (with_messages all_of x)) (outline_refused f m b e g), λ q. absurd (refused_not_done q));
   }
 
-  pub file_went : Sized f b d → {n : ℕ} → d ≡ day.Messages n → {r : Month} {ws' : List ℕ} → MessagesAdded f m b n published own ws r ws' → Files f m b published own ws r ws'
+  pub file_went : Sized f b d → {n : ℕ} → d ≡ Ok n → {r : Result (Unit {0}) Refusal} {ws' : List ℕ} → MessagesAdded f m b n published own ws r ws' → Files f m b published own ws r ws'
   file_went s {n} g {r} {ws'} a = record { kept = a.kept; answer = λ x h. let (answer, after) = a.answer x h in (answer ∙ go x (ltb first n) refl, λ q. rw (messages) at (after q)) }
     where
       first : ℕ
@@ -85,10 +81,10 @@ module _ (f : Format) (m : Limits) (b published own ws : List ℕ) {d : Day} (e 
       messages = ap (λ (k : ℕ). map (message_with published own) (messages_from f b 0 k)) (sized_count f b s g)
 
       go : (x : Figures) (t : Bool) → ltb (first_not (message_stands f m b) 0 n) n ≡ t
-          → cond t (Refused 22 (first_not (message_stands f m b) 0 n)) (judged (with_messages (map (message_with published own) (messages_from f b 0 n)) x)) ≡ filed_by (check_day f m b) (with_messages all_of x)
-      go x true i = ap (λ (y : Day). filed_by y (with_messages all_of x)) (bad_message f m b e g refl (ltb-true _ n i))
+          → cond t (refused 22 (first_not (message_stands f m b) 0 n)) (judged (with_messages (map (message_with published own) (messages_from f b 0 n)) x)) ≡ filed_by (check_day f m b) (with_messages all_of x)
+      go x true i = ap (λ (y : Result ℕ Refusal). filed_by y (with_messages all_of x)) (bad_message f m b e g refl (ltb-true _ n i))
       go x false i =
-          ap (λ (y : List Message). judged (with_messages y x)) messages ∙ ap (λ (y : Day). filed_by y (with_messages all_of x)) (day_passes f m b e g refl (ltb-false _ n i))
+          ap (λ (y : List Message). judged (with_messages y x)) messages ∙ ap (λ (y : Result ℕ Refusal). filed_by y (with_messages all_of x)) (day_passes f m b e g refl (ltb-false _ n i))
 
 pub ruleset files = (file_refused, file_went)
 
@@ -96,11 +92,11 @@ module _ (f : Format) (m : Limits) (b published own ws : List ℕ) (room : words
   abbrev source : Source
   source = source_of f b published own
 
-  by_day : (d : Day) (x : Figures) → filed_by d x ≡ added_by d lists.Passes x
-  by_day (day.Refused r p) x = refl
-  by_day (day.Messages n) x = refl
+  by_day : (d : Result ℕ Refusal) (x : Figures) → filed_by d x ≡ added_by d lists.Passes x
+  by_day (Err i) x = refl
+  by_day (Ok n) x = refl
 
-  pub add_passed : c ≡ lists.Passes → {r : Month} {ws' : List ℕ} → Files f m b published own ws r ws' → Adds m ws source r ws'
+  pub add_passed : c ≡ lists.Passes → {r : Result (Unit {0}) Refusal} {ws' : List ℕ} → Files f m b published own ws r ws' → Adds m ws source r ws'
   unfolding add_of
   add_passed g {r} {ws'} h = record {
     short = λ l. absurd (omega arith);
@@ -115,37 +111,37 @@ module _ (f : Format) (m : Limits) (b published own ws : List ℕ) (room : words
         );
   }
 
-  module _ {p : ℕ} (g : c ≡ lists.Refused p) {d : Day} (i : d ≡ check_day f m b) where
-    pub add_wrong_file : {r q : ℕ} → d ≡ day.Refused r q → Adds m ws source (Refused r q) ws
+  module _ {p : ℕ} (g : c ≡ lists.Refused p) {d : Result ℕ Refusal} (i : d ≡ check_day f m b) where
+    pub add_wrong_file : {i : Refusal} → d ≡ Err i → Adds m ws source (Err i) ws
     unfolding add_of
-    add_wrong_file {r} {q} j = record {
+    add_wrong_file j = record {
       short = λ l. absurd (omega arith);
       kept = λ _. refl;
-      after = λ xs held. (ap (λ (y : Day). added_by y (check_names published own) (figures (xs ++ messages_of source))) (sym j ∙ i), λ z. absurd (refused_not_done r q z));
+      after = λ xs held. (ap (λ (y : Result ℕ Refusal). added_by y (check_names published own) (figures (xs ++ messages_of source))) (sym j ∙ i), λ z. absurd (refused_not_done z));
     }
 
-    pub add_wrong_list : {n : ℕ} → d ≡ day.Messages n → Adds m ws source (Refused 19 p) ws
+    pub add_wrong_list : {n : ℕ} → d ≡ Ok n → Adds m ws source (refused 19 p) ws
     unfolding add_of
     add_wrong_list {n} j = record {
       short = λ l. absurd (omega arith);
       kept = λ _. refl;
       after = λ xs held. (
-        ap (λ (y : Names). added_by (day.Messages n) y (figures (xs ++ messages_of source))) (sym g ∙ e)
-            ∙ ap (λ (y : Day). added_by y (check_names published own) (figures (xs ++ messages_of source))) (sym j ∙ i),
-        λ z. absurd (refused_not_done 19 p z),
+        ap (λ (y : Names). added_by (Ok n) y (figures (xs ++ messages_of source))) (sym g ∙ e)
+            ∙ ap (λ (y : Result ℕ Refusal). added_by y (check_names published own) (figures (xs ++ messages_of source))) (sym j ∙ i),
+        λ z. absurd (refused_not_done z),
       );
     }
 
-pub add_short : (m : Limits) (ws : List ℕ) (s : Source) → length ws < words → Adds m ws s (Refused 16 4144) ws
+pub add_short : (m : Limits) (ws : List ℕ) (s : Source) → length ws < words → Adds m ws s (refused 16 4144) ws
 add_short m ws s h = record { short = λ _. refl; kept = λ _. refl; after = λ xs held. absurd (omega (arith, held.room)) }
 
 pub ruleset adds = (add_passed, add_wrong_file, add_wrong_list)
 
-module _ (ws : List ℕ) (s : Source) {r : Month} {ws' : List ℕ} where
+module _ (ws : List ℕ) (s : Source) {r : Result (Unit {0}) Refusal} {ws' : List ℕ} where
   pub add_capped : (m : Limits) {c : Limits} → c ≡ capped m → Adds c ws s r ws' → Adds (capped m) ws s r ws'
   add_capped m e a = rw (← e) a
 
-pub add_version : (b published own ws : List ℕ) {r : Month} {ws' : List ℕ} {f : Format} → f ≡ format_of b → {m : Limits} → m ≡ limits_of b → Adds (capped m) ws (source_of f b published own) r ws'
+pub add_version : (b published own ws : List ℕ) {r : Result (Unit {0}) Refusal} {ws' : List ℕ} {f : Format} → f ≡ format_of b → {m : Limits} → m ≡ limits_of b → Adds (capped m) ws (source_of f b published own) r ws'
     → Adds (limits_of b) ws (source_of (format_of b) b published own) r ws'
 add_version b published own ws {r} {ws'} e {m} g a =
     let limits : capped m ≡ limits_of b = ap capped g ∙ capped_limits b in

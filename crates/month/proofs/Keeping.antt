@@ -10,35 +10,29 @@ use lib.ListN.{length, take, drop, get_or, set, length-drop}
 use lib.Seq.{sets, sets-eq, length-sets, paste, paste-zero, paste-suc, length-paste, take-paste, take-take, take_at, take-add, drop_at, drop-cons, length-take-le, get_or-take, get_or-drop}
 use lib.Dec.{ltb, leb}
 use borrow.Author.Tests.{lt-ltb, le-ltb, le-leb, lt-leb, leb-true, leb-false, ltb-true, ltb-false, not-true, not-false}
+use borrow.Rule.Slice.PartMut.{put_mid}
+use Rattle.std.proofs.lemmas.Slice.{put_mid-paste}
 use Rattle.buffer.specs.Bytes.{all}
 use Rattle.month_lines.specs.Lines.{Line, most_lines, most_total}
 use Rattle.month_lines.specs.Code.{beyond, capped, place, amount}
-use Rattle.month_figures.specs.declared.Month.{Month}
-use Rattle.month_figures.specs.declared.Month.TheVariants.{Done, Refused}
+use Rattle.std.specs.declared.result.Result.{Result}
+use Rattle.std.specs.declared.result.Result.TheVariants.{Ok, Err}
+use Rattle.ari.specs.declared.Refusal.{Refusal}
+use Rattle.ari.specs.Refusals.{refused}
 use Rattle.month_figures.specs.Figures.{Figures, fits, lines_fit}
 use Rattle.month_figures.specs.State.{words, first_place, first_amount, word, place_in, references_in, Holds}
 use Rattle.month.specs.declared.Tally.{Tally}
 use Rattle.month.specs.Adding.{judged}
 use Rattle.month.specs.Code.{Held, tally_in, Fetches, tally_words, put_back, is_small, totals_small, lines_small, Judges, Settles}
 
--- a copy so far
-pub record Copied (from : List ℕ) (at : ℕ) (d : List ℕ) (to i : ℕ) (d' : List ℕ) : Type 0 where
-  pub is : d' ≡ paste d to (drop at from) i
+-- a part copied into a part
+pub copied_front : (d s : List ℕ) (at n : ℕ) {x : List ℕ} → x ≡ take (at + n - at) (drop at s) → x ++ drop n d ≡ paste d 0 (drop at s) n
+copied_front d s at n e = let z : at + n - at ≡ n = omega arith in let y : 0 + n ≡ n = omega arith in rw (e, z, y)
 
-module _ (from : List ℕ) (at : ℕ) (d : List ℕ) (to : ℕ) where
-  pub copied_none : Copied from at d to 0 d
-  copied_none = record { is = paste-zero d to (drop at from) }
-
-  module _ {i : ℕ} {d' : List ℕ} (c : Copied from at d to i d') {many : ℕ} (h : at + many ≤ length from) (l : to + many ≤ length d) where
-    pub copied_next : i < many → Copied from at d to (i + 1) (set d' (to + i) (get_or from (at + i) 0))
-    copied_next k = record {
-      is = rw (c.is, ← get_or-drop at from i 0, add-one i) (paste-suc d to (drop at from) i 0 (omega arith) (omega (arith, length-drop at from)));
-    }
-
-    pub copied_all : many ≤ i → i ≤ many → d' ≡ paste d to (drop at from) many
-    copied_all k j = let e : i ≡ many = omega arith in rw (← e) c.is
-
-pub ruleset copies = (copied_none, copied_next, copied_all)
+pub copied_into : (d s : List ℕ) (at n : ℕ) {x : List ℕ} → x ≡ take n s → n ≤ length s → put_mid at (at + n - at) d x ≡ paste d at s n
+copied_into d s at n {x} e h =
+    let z : n ≡ at + n - at = omega arith in
+    put_mid-paste at (at + n - at) d x (take n s) n e z (sym (length-take-le n s h)) ∙ rw (take-take n n s (omega arith))
 
 -- figures that fit
 both : (a b : Bool) → (a && b) ≡ true → (a ≡ true) × (b ≡ true)
@@ -82,8 +76,8 @@ pub loaded : (ws : List ℕ) {n : ℕ} → n ≡ min (word ws 5) 256
 loaded ws e = rw e
 
 module _ (ws ps cs : List ℕ) (room : words ≤ length ws) (a : most_lines ≤ length ps) (b : most_lines ≤ length cs) {t : Tally} (e : t ≡ tally_in ws) where
-  copied_front : (d s : List ℕ) (n : ℕ) → n ≤ length s → take n (paste d 0 s n) ≡ take n s
-  copied_front d s n h = let z : 0 + n ≡ n = omega arith in ap (λ (k : ℕ). take k (paste d 0 s n)) (sym z) ∙ take-paste d 0 s n (omega arith) h
+  front_copied : (d s : List ℕ) (n : ℕ) → n ≤ length s → take n (paste d 0 s n) ≡ take n s
+  front_copied d s n h = let z : 0 + n ≡ n = omega arith in ap (λ (k : ℕ). take k (paste d 0 s n)) (sym z) ∙ take-paste d 0 s n (omega arith) h
 
   pub fetched : {ps' cs' : List ℕ} → ps' ≡ paste ps 0 (drop first_place ws) t.lines → cs' ≡ paste cs 0 (drop first_amount ws) t.lines → Fetches ws t ps' cs'
   fetched {ps'} {cs'} p q = record { held = λ f h. held f h }
@@ -104,8 +98,8 @@ module _ (ws ps cs : List ℕ) (room : words ≤ length ws) (a : most_lines ≤ 
             lined = record {
               size = omega (arith, lines, h.few);
               rising = h.rising;
-              places = λ _. rw (p, lines) (copied_front ps (drop first_place ws) n long-places ∙ h.places);
-              amounts = λ _. rw (q, lines) (copied_front cs (drop first_amount ws) n long-amounts ∙ h.amounts ∙ own_amounts f.lines fit.lines);
+              places = λ _. rw (p, lines) (front_copied ps (drop first_place ws) n long-places ∙ h.places);
+              amounts = λ _. rw (q, lines) (front_copied cs (drop first_amount ws) n long-amounts ∙ h.amounts ∙ own_amounts f.lines fit.lines);
             };
           }
 
@@ -146,28 +140,28 @@ module _ {t : Tally} {ps cs : List ℕ} {f : Figures} (h : Held t ps cs f) where
         ∙ ap (λ (x : Bool). (leb f.messages most_total && (leb f.bytes most_total && (leb f.items most_total && (leb f.unknown most_total && leb f.relative most_total)))) && x) amounts_are
         ∙ grouped (leb f.messages most_total) (leb f.bytes most_total) (leb f.items most_total) (leb f.unknown most_total) (leb f.relative most_total) (lines_fit f.lines)
 
-    within_lines : judged f ≡ cond (totals_small t && lines_small cs t.lines) Done (Refused 26 0)
+    within_lines : judged f ≡ cond (totals_small t && lines_small cs t.lines) (Ok tt) (refused 26 0)
     within_lines = rw (le-ltb most_lines (length f.lines) (omega (arith, its_lines)), fits_are)
 
-  too_many : most_lines < t.lines → Refused 25 0 ≡ judged f
+  too_many : most_lines < t.lines → refused 25 0 ≡ judged f
   too_many k = sym (rw (lt-ltb most_lines (length f.lines) (omega (arith, h.lined.size))))
 
-refused_not_done : (r p : ℕ) → Refused r p ≡ Done → ⊥
-refused_not_done r p e = let z : ◌≡◌ {A = ℕ} 0 1 = cc in omega arith
+pub refused_not_done : {i : Refusal} → ◌≡◌ {A = Result (Unit {0}) Refusal} (Err i) (Ok tt) → ⊥
+refused_not_done e = let z : ◌≡◌ {A = ℕ} 0 1 = cc in omega arith
 
 module _ (t : Tally) (cs : List ℕ) where
-  pub judge_lines : most_lines < t.lines → Judges t cs (Refused 25 0)
-  judge_lines h = record { answer = λ ps f x. too_many x h; few = λ e. absurd (refused_not_done 25 0 e) }
+  pub judge_lines : most_lines < t.lines → Judges t cs (refused 25 0)
+  judge_lines h = record { answer = λ ps f x. too_many x h; few = λ e. absurd (refused_not_done e) }
 
   module _ (few : t.lines ≤ most_lines) {a : Bool} (e : a ≡ totals_small t) where
-    pub judge_totals : not a ≡ true → Judges t cs (Refused 26 0)
+    pub judge_totals : not a ≡ true → Judges t cs (refused 26 0)
     judge_totals n = record { answer = λ ps f x. sym (within_lines x few ∙ rw (← e, not-true a n)); few = λ _. few }
 
     module _ (n : not a ≡ false) {b : Bool} (g : b ≡ lines_small cs t.lines) where
-      pub judge_amounts : not b ≡ true → Judges t cs (Refused 26 0)
+      pub judge_amounts : not b ≡ true → Judges t cs (refused 26 0)
       judge_amounts k = record { answer = λ ps f x. sym (within_lines x few ∙ rw (← e, not-false a n, ← g, not-true b k)); few = λ _. few }
 
-      pub judge_done : not b ≡ false → Judges t cs Done
+      pub judge_done : not b ≡ false → Judges t cs (Ok tt)
       judge_done k = record { answer = λ ps f x. sym (within_lines x few ∙ rw (← e, not-false a n, ← g, not-false b k)); few = λ _. few }
 
 pub ruleset judges = (judge_lines, judge_totals, judge_amounts, judge_done)
@@ -299,22 +293,22 @@ module _ (ws : List ℕ) (t : Tally) (ps cs : List ℕ) (room : words ≤ length
         amounts = ap (λ (k : ℕ). take k (drop first_amount two)) (sym n) ∙ amounts_there ∙ ap (λ (k : ℕ). take k cs) n ∙ h.lined.amounts (omega (arith, n)) ∙ amounts;
       }
 
-judged_fit : (f : Figures) → Done ≡ judged f → fits f ≡ true
+judged_fit : (f : Figures) → Ok tt ≡ judged f → fits f ≡ true
 judged_fit f = go (ltb most_lines (length f.lines)) (fits f)
   where
-    go : (x y : Bool) → Done ≡ cond x (Refused 25 0) (cond y Done (Refused 26 0)) → y ≡ true
-    go true y e = absurd (refused_not_done 25 0 (sym e))
+    go : (x y : Bool) → Ok (tt {0}) ≡ cond x (refused 25 0) (cond y (Ok (tt {0})) (refused 26 0)) → y ≡ true
+    go true y e = absurd (refused_not_done (sym e))
     go false true e = refl
-    go false false e = absurd (refused_not_done 26 0 (sym e))
+    go false false e = absurd (refused_not_done (sym e))
 
-module _ (ws : List ℕ) (t : Tally) (ps cs : List ℕ) {r : Month} (j : Judges t cs r) where
-  pub settle_few : r ≡ Done → t.lines ≤ most_lines
+module _ (ws : List ℕ) (t : Tally) (ps cs : List ℕ) {r : Result (Unit {0}) Refusal} (j : Judges t cs r) where
+  pub settle_few : r ≡ Ok tt → t.lines ≤ most_lines
   settle_few e = j.few e
 
-  pub settle_refused : {n p : ℕ} → r ≡ Refused n p → Settles ws t ps cs (Refused n p) ws
-  settle_refused {n} {p} e = record { kept = λ _. refl; answer = λ f h. (sym e ∙ j.answer ps f h, λ d. absurd (refused_not_done n p d)) }
+  pub settle_refused : {i : Refusal} → r ≡ Err i → Settles ws t ps cs (Err i) ws
+  settle_refused e = record { kept = λ _. refl; answer = λ f h. (sym e ∙ j.answer ps f h, λ d. absurd (refused_not_done d)) }
 
-  pub settle_done : words ≤ length ws → most_lines ≤ length ps → most_lines ≤ length cs → r ≡ Done → {ws' : List ℕ} → ws' ≡ put_back ws t ps cs → Settles ws t ps cs Done ws'
+  pub settle_done : words ≤ length ws → most_lines ≤ length ps → most_lines ≤ length cs → r ≡ Ok tt → {ws' : List ℕ} → ws' ≡ put_back ws t ps cs → Settles ws t ps cs (Ok tt) ws'
   settle_done room a b e g = record {
     kept = λ n. absurd (n refl);
     answer = λ f h. let q = sym e ∙ j.answer ps f h in (q, λ _. rw g (put_back_holds ws t ps cs room a b (j.few e) h (judged_fit f q)));

@@ -16,11 +16,12 @@ use Rattle.ari.specs.Listing.{Space, number, name, relative, Entry}
 use Rattle.ari.specs.Reader.{read, accept}
 use Rattle.ari.proofs.Demand.{demand_two}
 use Rattle.item_table.specs.Entries.{Tabled}
-use Rattle.reader.specs.declared.Answer.{Answer}
-use Rattle.reader.specs.declared.Answer.TheVariants.{Accepted}
-use Rattle.reader.specs.declared.Answer.TheVariants as answers
-use Rattle.reader.specs.Answers.{answer_of}
-use Rattle.reader.proofs.Kept.{accepted, refused}
+use Rattle.std.specs.declared.result.Result.{Result}
+use Rattle.std.specs.declared.result.Result.TheVariants.{Ok, Err}
+use Rattle.ari.specs.declared.Refusal.{Refusal}
+use Rattle.ari.specs.Reader as ari
+use Rattle.reader.specs.Results.{result_of}
+use Rattle.reader.proofs.Results as results
 use Rattle.listing.specs.declared.Reference.{Reference}
 use Rattle.listing.specs.declared.Reference.TheVariants.{Nothing, To}
 use Rattle.listing.specs.declared.Namespace.{Namespace}
@@ -33,8 +34,6 @@ use Rattle.day_file.specs.Day.{is_accepted, message_in, message_at, message_stan
 use Rattle.day_file.proofs.Ways.{Passing, passing_none, all_pass, this_fails, this_passes}
 use Rattle.month_figures.specs.Figures.{Message, space_of, message_with, Figures}
 use Rattle.month.specs.declared.Tally.{Tally}
-use Rattle.month.specs.declared.Walked.{Walked}
-use Rattle.month.specs.declared.Walked.TheVariants as walked
 use Rattle.month.specs.Code.{with_space, with_spaces, with_code, with_size, with_message, with_messages, Held, Goes, sized, MessageWalked}
 use Rattle.month.proofs.Counting.{size_counted}
 
@@ -80,22 +79,26 @@ module _ {m : Limits} {b ws : List ℕ} {n : ℕ} (c : Tabled m input.Message b 
 pub ruleset spacings = (spacing_none, spacing_all, spacing_over, spacing_one)
 
 -- from the message's answer
-module _ (m : Limits) (b published own : List ℕ) (t : Tally) (ps cs : List ℕ) {a : Answer} (e : a ≡ answer_of (read m input.Message b)) where
-  pub message_refused : {r p : ℕ} → a ≡ answers.Refused r p → MessageWalked m b published own t ps cs (walked.Refused 0) ps cs
-  message_refused f = record { by = ap is_accepted (refused m input.Message b e f) }
+module _ (m : Limits) (b published own : List ℕ) (t : Tally) (ps cs : List ℕ) {a : Result ℕ Refusal} (e : a ≡ result_of (read m input.Message b)) where
+  pub message_refused : {i : Refusal} → a ≡ Err i → MessageWalked m b published own t ps cs (Err i) ps cs
+  message_refused {i} f = record { by = go (read m input.Message b) (sym f ∙ e) }
+    where
+      go : (y : ari.Answer) → Err i ≡ result_of y → is_accepted y ≡ false
+      go (ari.refuse r p) q = refl
+      go (ari.accept n) q = absurd (let z : ◌≡◌ {A = ℕ} 0 1 = cc in omega arith)
 
   -- the items of an accepted message are its heads
-  pub message_counted : ((j : ℕ) → Fits w8 (get_or b j 0)) → {n : ℕ} → a ≡ Accepted n → {u : Tally} → u ≡ sized t (length b) n
-      → {r : Tally} {ps' cs' : List ℕ} → Goes u ps cs (with_spaces (map space_of (translated published own b))) r ps' cs' → MessageWalked m b published own t ps cs (walked.Counted r) ps' cs'
+  pub message_counted : ((j : ℕ) → Fits w8 (get_or b j 0)) → {n : ℕ} → a ≡ Ok n → {u : Tally} → u ≡ sized t (length b) n
+      → {r : Tally} {ps' cs' : List ℕ} → Goes u ps cs (with_spaces (map space_of (translated published own b))) r ps' cs' → MessageWalked m b published own t ps cs (Ok r) ps' cs'
   message_counted bytes {n} f g s =
-      let e : read m input.Message b ≡ accept n = accepted m input.Message b e f in
+      let e : read m input.Message b ≡ accept n = results.is_accepted m input.Message b e f in
       let count = ((demand_two m input.Message b n (all_bytes b bytes)).0 e).count in
       record { by = (ap is_accepted e, record { on = λ x h. rw count (s.on (with_size (length b) n x) (rw g ((size_counted t ps cs (length b) n).on x h))) }) }
 
 pub ruleset messages = (message_refused, message_counted)
 
 message_there : (f : Format) (m : Limits) (b : List ℕ) (k : ℕ) (published own : List ℕ) (t : Tally) (ps cs : List ℕ) → k < 65536 → 8 ≤ length b → {x : List ℕ} → x ≡ message_at f b k
-    → {w : Walked} {ps' cs' : List ℕ} → MessageWalked m x published own t ps cs w ps' cs' → MessageWalked m (message_in f b k) published own t ps cs w ps' cs'
+    → {w : Result Tally Refusal} {ps' cs' : List ℕ} → MessageWalked m x published own t ps cs w ps' cs' → MessageWalked m (message_in f b k) published own t ps cs w ps' cs'
 unfolding message_at
 message_there f m b k published own t ps cs h long e r =
     let there : message_in f b k ≡ message_at f b k = sym (rw (le-leb 8 (length b) long, le-leb k 65535 (omega arith))) in
@@ -106,12 +109,12 @@ abbrev left : Format → List ℕ → List ℕ → List ℕ → ℕ → ℕ → 
 left f b published own k n = map (message_with published own) (messages_from f b k n)
 
 -- all messages of a file are counted, or the first that is refused is known
-abbrev pub FileBy : Format → Limits → List ℕ → ℕ → List ℕ → List ℕ → Tally → List ℕ → List ℕ → Walked → List ℕ → List ℕ → Type 0
-FileBy f m b n published own t ps cs (walked.Counted t') ps' cs' =
+abbrev pub FileBy : Format → Limits → List ℕ → ℕ → List ℕ → List ℕ → Tally → List ℕ → List ℕ → Result Tally ℕ → List ℕ → List ℕ → Type 0
+FileBy f m b n published own t ps cs (Ok t') ps' cs' =
     (n ≡ first_not (message_stands f m b) 0 n) × Goes t ps cs (with_messages (left f b published own 0 n)) t' ps' cs'
-FileBy f m b n published own t ps cs (walked.Refused k) ps' cs' = (k ≡ first_not (message_stands f m b) 0 n) × (k < n)
+FileBy f m b n published own t ps cs (Err k) ps' cs' = (k ≡ first_not (message_stands f m b) 0 n) × (k < n)
 
-pub record FileWalked (f : Format) (m : Limits) (b : List ℕ) (n : ℕ) (published own : List ℕ) (t : Tally) (ps cs : List ℕ) (r : Walked) (ps' cs' : List ℕ) : Type 0 where
+pub record FileWalked (f : Format) (m : Limits) (b : List ℕ) (n : ℕ) (published own : List ℕ) (t : Tally) (ps cs : List ℕ) (r : Result Tally ℕ) (ps' cs' : List ℕ) : Type 0 where
   pub by : FileBy f m b n published own t ps cs r ps' cs'
 
 pub record Filing (f : Format) (m : Limits) (b published own : List ℕ) (n : ℕ) (t₀ : Tally) (ps₀ cs₀ : List ℕ) (k : ℕ) (t : Tally) (ps cs : List ℕ) : Type 0 where
@@ -123,7 +126,7 @@ module _ (f : Format) (m : Limits) (b published own : List ℕ) (n : ℕ) (t₀ 
   filing_none = let e : n - 0 ≡ n = omega arith in record { passing = passing_none (message_stands f m b) n; on = λ x h. (x, h, rw e) }
 
   module _ {k : ℕ} {t : Tally} {ps cs : List ℕ} (s : Filing f m b published own n t₀ ps₀ cs₀ k t ps cs) where
-    pub filing_all : n ≤ k → k ≤ n → FileWalked f m b n published own t₀ ps₀ cs₀ (walked.Counted t) ps cs
+    pub filing_all : n ≤ k → k ≤ n → FileWalked f m b n published own t₀ ps₀ cs₀ (Ok t) ps cs
     filing_all h l =
         let at_end : k ≡ n = omega arith in
         let e : n - k ≡ 0 = omega arith in
@@ -134,7 +137,7 @@ module _ (f : Format) (m : Limits) (b published own : List ℕ) (n : ℕ) (t₀ 
           );
         }
 
-    module _ (h : k < n) (few : n < 65536) (long : 8 ≤ length b) {y : List ℕ} (i : y ≡ message_at f b k) {w : Walked} {ps' cs' : List ℕ} (v : MessageWalked m y published own t ps cs w ps' cs') where
+    module _ (h : k < n) (few : n < 65536) (long : 8 ≤ length b) {y : List ℕ} (i : y ≡ message_at f b k) {w : Result Tally Refusal} {ps' cs' : List ℕ} (v : MessageWalked m y published own t ps cs w ps' cs') where
       r : MessageWalked m (message_in f b k) published own t ps cs w ps' cs'
       r = message_there f m b k published own t ps cs (omega arith) long i v
 
@@ -142,12 +145,12 @@ module _ (f : Format) (m : Limits) (b published own : List ℕ) (n : ℕ) (t₀ 
       unfolding message_stands
       stands_as = refl
 
-      pub filing_refused : {j : ℕ} → w ≡ walked.Refused j → FileWalked f m b n published own t₀ ps₀ cs₀ (walked.Refused k) ps' cs'
-      filing_refused {j} g =
+      pub filing_refused : {i : Refusal} → w ≡ Err i → FileWalked f m b n published own t₀ ps₀ cs₀ (Err k) ps' cs'
+      filing_refused g =
           let no-message : is_accepted (read m input.Message (message_in f b k)) ≡ false = rw g at r.by in
           record { by = (this_fails (message_stands f m b) n s.passing h {x = false} (sym (stands_as ∙ no-message)) refl, h) }
 
-      pub filing_next : {t' : Tally} → w ≡ walked.Counted t' → Filing f m b published own n t₀ ps₀ cs₀ (k + 1) t' ps' cs'
+      pub filing_next : {t' : Tally} → w ≡ Ok t' → Filing f m b published own n t₀ ps₀ cs₀ (k + 1) t' ps' cs'
       filing_next {t'} g =
           let (taken, goes) = rw g at r.by in
           let z : n - k ≡ suc (n - (k + 1)) = omega arith in

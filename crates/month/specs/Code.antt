@@ -3,6 +3,9 @@ use Rattle.std.specs.Prelude.{ℕ, ◌+◌, ◌<◌, ◌≤◌, min, ◌≡◌, 
 use Rattle.std.proofs.lemmas.List.Edits.{sets}
 use Rattle.std.proofs.Math.Seq.{paste}
 use Rattle.buffer.specs.Bytes.{all}
+use Rattle.std.specs.declared.result.Result.{Result}
+use Rattle.std.specs.declared.result.Result.TheVariants.{Ok, Err}
+use Rattle.ari.specs.declared.Refusal.{Refusal}
 use Rattle.ari.specs.declared.Limits.{Limits}
 use Rattle.ari.specs.declared.Input.TheVariants as input
 use Rattle.ari.specs.Listing.{Space, number, name, relative}
@@ -10,18 +13,12 @@ use Rattle.ari.specs.Reader.{read}
 use Rattle.listing.specs.declared.Namespace.{Namespace}
 use Rattle.listing.specs.declared.Namespace.TheVariants as code
 use Rattle.day_file.specs.declared.Format.{Format}
-use Rattle.day_file.specs.declared.Day.{Day}
-use Rattle.day_file.specs.declared.Day.TheVariants as day
 use Rattle.day_file.specs.Day.{is_accepted, message_stands, first_not, messages_from, messages_in, check_day}
 use Rattle.month_lines.specs.Lines.{counted, most_lines}
 use Rattle.month_lines.specs.Code.{beyond, capped, Lined}
-use Rattle.month_figures.specs.declared.Month.{Month}
-use Rattle.month_figures.specs.declared.Month.TheVariants.{Done, Refused}
 use Rattle.month_figures.specs.Figures.{Message, message_with, turned, place_of, bytes_in, items_in, Figures}
 use Rattle.month_figures.specs.State.{first_place, first_amount, word, Holds}
 use Rattle.month.specs.declared.Tally.{Tally}
-use Rattle.month.specs.declared.Walked.{Walked}
-use Rattle.month.specs.declared.Walked.TheVariants as walked
 use Rattle.month.specs.Adding.{judged}
 
 -- one reference more
@@ -80,11 +77,11 @@ abbrev pub sized : Tally → ℕ → ℕ → Tally
 sized t b i = record { messages = min (t.messages + 1) beyond; bytes = min (t.bytes + b) beyond; items = min (t.items + i) beyond; unknown = t.unknown; relative = t.relative; lines = t.lines }
 
 -- a message is counted, or it is refused
-abbrev pub MessageBy : Limits → List ℕ → List ℕ → List ℕ → Tally → List ℕ → List ℕ → Walked → List ℕ → List ℕ → Type 0
-MessageBy m b published own t ps cs (walked.Counted t') ps' cs' = (is_accepted (read m input.Message b) ≡ true) × Goes t ps cs (with_message (message_with published own b)) t' ps' cs'
-MessageBy m b published own t ps cs (walked.Refused k) ps' cs' = is_accepted (read m input.Message b) ≡ false
+abbrev pub MessageBy : Limits → List ℕ → List ℕ → List ℕ → Tally → List ℕ → List ℕ → Result Tally Refusal → List ℕ → List ℕ → Type 0
+MessageBy m b published own t ps cs (Ok t') ps' cs' = (is_accepted (read m input.Message b) ≡ true) × Goes t ps cs (with_message (message_with published own b)) t' ps' cs'
+MessageBy m b published own t ps cs (Err e) ps' cs' = is_accepted (read m input.Message b) ≡ false
 
-pub record MessageWalked (m : Limits) (b published own : List ℕ) (t : Tally) (ps cs : List ℕ) (r : Walked) (ps' cs' : List ℕ) : Type 0 where
+pub record MessageWalked (m : Limits) (b published own : List ℕ) (t : Tally) (ps cs : List ℕ) (r : Result Tally Refusal) (ps' cs' : List ℕ) : Type 0 where
   pub by : MessageBy m b published own t ps cs r ps' cs'
 
 -- a state's words, taken out
@@ -95,12 +92,12 @@ pub record Fetches (ws : List ℕ) (t : Tally) (ps cs : List ℕ) : Type 0 where
   pub held : (f : Figures) → Holds ws f → Held t ps cs f
 
 -- with all messages of a file; or the first that is refused is known
-abbrev pub CountedBy : Format → Limits → List ℕ → ℕ → List ℕ → List ℕ → List ℕ → Walked → List ℕ → List ℕ → Type 0
-CountedBy f m b n published own ws (walked.Counted t) ps cs =
+abbrev pub CountedBy : Format → Limits → List ℕ → ℕ → List ℕ → List ℕ → List ℕ → Result Tally ℕ → List ℕ → List ℕ → Type 0
+CountedBy f m b n published own ws (Ok t) ps cs =
     (n ≡ first_not (message_stands f m b) 0 n) × ((x : Figures) → Holds ws x → Held t ps cs (with_messages (map (message_with published own) (messages_from f b 0 n)) x))
-CountedBy f m b n published own ws (walked.Refused k) ps cs = (k ≡ first_not (message_stands f m b) 0 n) × (k < n)
+CountedBy f m b n published own ws (Err k) ps cs = (k ≡ first_not (message_stands f m b) 0 n) × (k < n)
 
-pub record CountedOn (f : Format) (m : Limits) (b : List ℕ) (n : ℕ) (published own ws : List ℕ) (r : Walked) (ps cs : List ℕ) : Type 0 where
+pub record CountedOn (f : Format) (m : Limits) (b : List ℕ) (n : ℕ) (published own ws : List ℕ) (r : Result Tally ℕ) (ps cs : List ℕ) : Type 0 where
   pub by : CountedBy f m b n published own ws r ps cs
 
 -- and put back
@@ -120,21 +117,21 @@ totals_small t = is_small t.messages && (is_small t.bytes && (is_small t.items &
 abbrev pub lines_small : List ℕ → ℕ → Bool
 lines_small cs n = all is_small (take n cs)
 
-pub record Judges (t : Tally) (cs : List ℕ) (r : Month) : Type 0 where
+pub record Judges (t : Tally) (cs : List ℕ) (r : Result (Unit {0}) Refusal) : Type 0 where
   pub answer : (ps : List ℕ) (f : Figures) → Held t ps cs f → r ≡ judged f
-  pub few : r ≡ Done → t.lines ≤ most_lines
+  pub few : r ≡ Ok tt → t.lines ≤ most_lines
 
 -- the words when a file has been counted, or as they were
-pub record Settles (ws : List ℕ) (t : Tally) (ps cs : List ℕ) (r : Month) (ws' : List ℕ) : Type 0 where
-  pub kept : (r ≡ Done → ⊥) → ws' ≡ ws
-  pub answer : (f : Figures) → Held t ps cs f → (r ≡ judged f) × (r ≡ Done → Holds ws' f)
+pub record Settles (ws : List ℕ) (t : Tally) (ps cs : List ℕ) (r : Result (Unit {0}) Refusal) (ws' : List ℕ) : Type 0 where
+  pub kept : (r ≡ Ok tt → ⊥) → ws' ≡ ws
+  pub answer : (f : Figures) → Held t ps cs f → (r ≡ judged f) × (r ≡ Ok tt → Holds ws' f)
 
 -- what the figures say with all messages of a file whose lists are well-formed
-abbrev pub filed_by : Day → Figures → Month
-filed_by (day.Refused r p) f = Refused r p
-filed_by (day.Messages n) f = judged f
+abbrev pub filed_by : Result ℕ Refusal → Figures → Result (Unit {0}) Refusal
+filed_by (Err e) f = Err e
+filed_by (Ok n) f = judged f
 
-pub record Files (f : Format) (m : Limits) (b published own ws : List ℕ) (r : Month) (ws' : List ℕ) : Type 0 where
-  pub kept : (r ≡ Done → ⊥) → ws' ≡ ws
+pub record Files (f : Format) (m : Limits) (b published own ws : List ℕ) (r : Result (Unit {0}) Refusal) (ws' : List ℕ) : Type 0 where
+  pub kept : (r ≡ Ok tt → ⊥) → ws' ≡ ws
   pub answer : (x : Figures) → Holds ws x
-      → (r ≡ filed_by (check_day f m b) (with_messages (map (message_with published own) (messages_in f b)) x)) × (r ≡ Done → Holds ws' (with_messages (map (message_with published own) (messages_in f b)) x))
+      → (r ≡ filed_by (check_day f m b) (with_messages (map (message_with published own) (messages_in f b)) x)) × (r ≡ Ok tt → Holds ws' (with_messages (map (message_with published own) (messages_in f b)) x))

@@ -13,14 +13,12 @@ ghost use Rattle.month_figures.specs.Figures.{space_of};
 ghost use Rattle.month_figures.specs.State.{words};
 ghost use Rattle.day_file.specs.Versions.{format_of, limits_of};
 ghost use Rattle.month.specs.Adding.{source_of, Adds};
-ghost use Rattle.month.specs.Code.{with_counts, with_code, with_spaces, Goes, sized, MessageWalked, tally_in, tally_words, Fetches, put_back, totals_small, lines_small, Judges, Settles, CountedOn, Files};
+ghost use Rattle.month.specs.Code.{with_code, with_spaces, Goes, sized, MessageWalked, tally_in, tally_words, Fetches, put_back, totals_small, lines_small, Judges, Settles, CountedOn, Files};
 
-use ari::{Input, Limits};
-use day_file::{Day, Format};
+use ari::{Fault, Input, Limits, Refusal};
+use day_file::Format;
 use listing::{Namespace, Reference};
-use month_figures::Month;
 use names::Names;
-use reader::Answer;
 
 // The totals of a month, and how many lines there are.
 #[derive(Clone, Copy)]
@@ -33,48 +31,30 @@ pub struct Tally {
     pub lines: usize,
 }
 
-// What was read is counted; or a message is refused, by its number.
-#[derive(Clone, Copy)]
-pub enum Walked {
-    Counted(Tally),
-    Refused(usize),
-}
-
-// The totals of messages, with these counts of references and lines.
-fn with_counts(t: Tally, unknown: u64, relative: u64, lines: usize) -> Tally
-    ensures { result ≡ with_counts t unknown relative lines }
-{
-    Tally {
-        messages: t.messages,
-        bytes: t.bytes,
-        items: t.items,
-        unknown,
-        relative,
-        lines,
-    }
-}
-
 // One reference more: to a number, by a name that stands for none, or with no namespace.
+#[tactic(auto, using(crate::proofs::Counting::counts))]
 fn count_space(places: &mut [u64], amounts: &mut [u64], t: Tally, namespace: Namespace) -> Tally
     requires { (256 ≤ length places.old) × (256 ≤ length amounts.old) }
     ensures { Goes t places.old amounts.old (with_code namespace) result places.new amounts.new }
 {
     match namespace {
-        Namespace::Number(word) => {
-            let lines = month_lines::count(places, amounts, t.lines, month_figures::turned(word));
-            with_counts(t, t.unknown, t.relative, lines)
-        }
-        Namespace::Name { .. } => with_counts(
-            t,
-            month_lines::more(t.unknown, 1),
-            t.relative,
-            t.lines,
-        ),
-        Namespace::Relative => with_counts(t, t.unknown, month_lines::more(t.relative, 1), t.lines),
+        Namespace::Number(word) => Tally {
+            lines: month_lines::count(places, amounts, t.lines, month_figures::turned(word)),
+            ..t
+        },
+        Namespace::Name { .. } => Tally {
+            unknown: month_lines::more(t.unknown, 1),
+            ..t
+        },
+        Namespace::Relative => Tally {
+            relative: month_lines::more(t.relative, 1),
+            ..t
+        },
     }
 }
 
 // A message more, with so many bytes and items.
+#[tactic(auto, using(crate::proofs::Counting::counts))]
 fn with_size(t: Tally, bytes: usize, items: usize) -> Tally
     ensures { result ≡ sized t bytes items }
 {
@@ -82,13 +62,12 @@ fn with_size(t: Tally, bytes: usize, items: usize) -> Tally
         messages: month_lines::more(t.messages, 1),
         bytes: month_lines::more(t.bytes, bytes as u64),
         items: month_lines::more(t.items, items as u64),
-        unknown: t.unknown,
-        relative: t.relative,
-        lines: t.lines,
+        ..t
     }
 }
 
 // The references of a table.
+#[tactic(auto, using(crate::proofs::Walking::spacings))]
 fn count_table<'a>(
     s: &[u8],
     limits: Limits,
@@ -105,22 +84,18 @@ fn count_table<'a>(
     ensures { Goes t places.old amounts.old (with_spaces (map space_of (translated published.now own.now s.now))) result places.new amounts.new }
 {
     let mut tally = t;
-    let mut k = 0;
-    while k < count {
-        let r = listing::reference_at(s, entries[k]);
-        k += 1;
-        match r {
-            Reference::Nothing => {}
-            Reference::To { namespace, .. } => {
-                let n = names::stands_for(published, own, s, namespace);
-                tally = count_space(places, amounts, tally, n);
-            }
-        }
+    for k in 0..count {
+        let Reference::To { namespace, .. } = listing::reference_at(s, entries[k]) else {
+            continue;
+        };
+        let space = names::stands_for(published, own, s, namespace);
+        tally = count_space(places, amounts, tally, space);
     }
     tally
 }
 
 // A message's size and references, if it is accepted.
+#[tactic(auto, using(crate::proofs::Walking::messages))]
 fn count_message<'a>(
     limits: Limits,
     s: &[u8],
@@ -130,33 +105,19 @@ fn count_message<'a>(
     amounts: &mut [u64],
     t: Tally,
     table: &mut [u64],
-) -> Walked
+) -> Result<Tally, Refusal>
     requires s_in_bounds { (min limits.items (length s.now) ≤ length table.old) × (limits.bytes < 65536) × (limits.containers < 256) }
     requires in_bounds { (256 ≤ length places.old) × (256 ≤ length amounts.old) }
     ensures { MessageWalked limits s.now published.now own.now t places.old amounts.old result places.new amounts.new }
 {
-    match reader::keep(Input::Message, limits, s, table) {
-        Answer::Refused { .. } => Walked::Refused(0),
-        Answer::Accepted(count) => {
-            let u = with_size(t, s.len(), count);
-            Walked::Counted(count_table(
-                s, limits, count, table, published, own, places, amounts, u,
-            ))
-        }
-    }
+    let count = reader::keep(Input::Message, limits, s, table)?;
+    let sized = with_size(t, s.len(), count);
+    Ok(count_table(
+        s, limits, count, table, published, own, places, amounts, sized,
+    ))
 }
 
-fn copy(from: &[u64], at: usize, into: &mut [u64], to: usize, many: usize)
-    requires { (at + many ≤ length from.now) × (to + many ≤ length into.old) }
-    ensures { into.new ≡ paste into.old to (drop at from.now) many }
-{
-    let mut i = 0;
-    while i < many {
-        into[to + i] = from[at + i];
-        i += 1;
-    }
-}
-
+#[tactic(auto, using(crate::proofs::Keeping::loaded))]
 fn load(state: &[u64]) -> Tally
     requires { words ≤ length state.now }
     ensures value { result ≡ tally_in state.now }
@@ -168,19 +129,22 @@ fn load(state: &[u64]) -> Tally
         items: state[month_figures::ITEMS],
         unknown: state[month_figures::UNKNOWN],
         relative: state[month_figures::RELATIVE],
-        lines: buffer::least(state[month_figures::COUNT] as usize, month_lines::LINES),
+        lines: (state[month_figures::COUNT] as usize).min(month_lines::LINES),
     }
 }
 
 // A state's figures, to count on.
+#[tactic(auto, using(crate::proofs::Keeping::fetched))]
 fn fetch(state: &[u64], places: &mut [u64], amounts: &mut [u64]) -> Tally
     requires { (words ≤ length state.now) × (256 ≤ length places.old) × (256 ≤ length amounts.old) }
     ensures { Fetches state.now result places.new amounts.new }
 {
     let t = load(state);
     let lines = t.lines;
-    copy(state, month_figures::PLACES, places, 0, lines);
-    copy(state, month_figures::AMOUNTS, amounts, 0, lines);
+    places[..lines].copy_from_slice(&state[month_figures::PLACES..month_figures::PLACES + lines]);
+    amounts[..lines].copy_from_slice(
+        &state[month_figures::AMOUNTS..month_figures::AMOUNTS + lines],
+    );
     t
 }
 
@@ -197,89 +161,77 @@ fn store(state: &mut [u64], t: Tally)
 }
 
 // Figures back into a state.
+#[tactic(auto, using(crate::proofs::Keeping::put_back_is))]
 fn put_back(state: &mut [u64], t: Tally, places: &[u64], amounts: &[u64])
     requires { (words ≤ length state.old) × (256 ≤ length places.now) × (256 ≤ length amounts.now) × (t.lines ≤ 256) }
     ensures { state.new ≡ put_back state.old t places.now amounts.now }
 {
     store(state, t);
     let lines = t.lines;
-    copy(places, 0, state, month_figures::PLACES, lines);
-    copy(amounts, 0, state, month_figures::AMOUNTS, lines);
+    state[month_figures::PLACES..month_figures::PLACES + lines].copy_from_slice(&places[..lines]);
+    state[month_figures::AMOUNTS..month_figures::AMOUNTS + lines].copy_from_slice(
+        &amounts[..lines],
+    );
 }
 
 fn totals_small(t: Tally) -> bool
     ensures { result ≡ totals_small t }
 {
-    if month_lines::BEYOND <= t.messages {
-        return false;
-    }
-    if month_lines::BEYOND <= t.bytes {
-        return false;
-    }
-    if month_lines::BEYOND <= t.items {
-        return false;
-    }
-    if month_lines::BEYOND <= t.unknown {
-        return false;
-    }
-    t.relative < month_lines::BEYOND
+    t.messages < month_lines::BEYOND
+        && t.bytes < month_lines::BEYOND
+        && t.items < month_lines::BEYOND
+        && t.unknown < month_lines::BEYOND
+        && t.relative < month_lines::BEYOND
 }
 
+#[tactic(auto, using(crate::proofs::Keeping::checks))]
 fn lines_small(amounts: &[u64], lines: usize) -> bool
     requires { lines ≤ length amounts.now }
     ensures { result ≡ lines_small amounts.now lines }
 {
-    let mut i = 0;
-    while i < lines {
+    for i in 0..lines {
         if month_lines::BEYOND <= amounts[i] {
             return false;
         }
-        i += 1;
     }
     true
 }
 
 // Whether figures stay within 256 lines and 2^63 - 1.
-fn judge(t: Tally, amounts: &[u64]) -> Month
+#[tactic(auto, using(crate::proofs::Keeping::judges))]
+fn judge(t: Tally, amounts: &[u64]) -> Result<(), Refusal>
     requires { 256 ≤ length amounts.now }
     ensures { Judges t amounts.now result }
 {
     if month_lines::LINES < t.lines {
-        return Month::Refused {
-            number: 25,
+        return Err(Refusal {
+            fault: Fault::MonthFull,
             place: 0,
-        };
+        });
     }
-    if !totals_small(t) {
-        return Month::Refused {
-            number: 26,
+    if !totals_small(t) || !lines_small(amounts, t.lines) {
+        return Err(Refusal {
+            fault: Fault::TotalTooLarge,
             place: 0,
-        };
+        });
     }
-    if !lines_small(amounts, t.lines) {
-        return Month::Refused {
-            number: 26,
-            place: 0,
-        };
-    }
-    Month::Done
+    Ok(())
 }
 
 // The state takes the figures that a file has left, if they are within the bounds.
-fn settle(state: &mut [u64], t: Tally, places: &[u64], amounts: &[u64]) -> Month
+#[tactic(auto, using(crate::proofs::Keeping::settles))]
+fn settle(state: &mut [u64], t: Tally, places: &[u64], amounts: &[u64]) -> Result<(), Refusal>
     requires { (words ≤ length state.old) × (256 ≤ length places.now) × (256 ≤ length amounts.now) }
     ensures { Settles state.old t places.now amounts.now result state.new }
 {
-    match judge(t, amounts) {
-        Month::Refused { number, place } => Month::Refused { number, place },
-        Month::Done => {
-            put_back(state, t, places, amounts);
-            Month::Done
-        }
-    }
+    judge(t, amounts)?;
+    put_back(state, t, places, amounts);
+    Ok(())
 }
 
-// A state's figures, with the messages of a file whose trailer and table stand, each read once. The table serves one after the other.
+// A state's figures, with the messages of a file whose trailer and table stand, each read once; or the number of the first that is refused. The table serves one
+// after the other.
+#[tactic(auto, using(crate::proofs::Walking::files, crate::proofs::Adding::counted_on))]
 fn count_file<'a>(
     format: Format,
     limits: Limits,
@@ -291,26 +243,25 @@ fn count_file<'a>(
     places: &mut [u64],
     amounts: &mut [u64],
     table: &mut [u64],
-) -> Walked
+) -> Result<Tally, usize>
     requires limits_le_gate_limits { (limits.items ≤ gate_limits.items) × (gate_limits.items ≤ length table.old) × (limits.bytes < 65536) × (limits.containers < 256) × (count < 65536) × (8 ≤ length file.now) }
     requires words_in_bounds { (words ≤ length state.now) × (256 ≤ length places.old) × (256 ≤ length amounts.old) }
     ensures { CountedOn format limits file.now count published.now own.now state.now result places.new amounts.new }
 {
     let mut tally = fetch(state, places, amounts);
-    let mut k = 0;
-    while k < count {
+    for k in 0..count {
         let s = day_file::message_at(format, file, k);
-        let w = count_message(limits, s, published, own, places, amounts, tally, table);
-        let Walked::Counted(u) = w else {
-            return Walked::Refused(k);
+        let Ok(counted) = count_message(limits, s, published, own, places, amounts, tally, table)
+        else {
+            return Err(k);
         };
-        tally = u;
-        k += 1;
+        tally = counted;
     }
-    Walked::Counted(tally)
+    Ok(tally)
 }
 
 // A file whose lists are well-formed. A refusal leaves the state as it is.
+#[tactic(auto, using(crate::proofs::Adding::files, crate::proofs::Adding::messages))]
 fn add_file<'a>(
     format: Format,
     limits: Limits,
@@ -321,26 +272,25 @@ fn add_file<'a>(
     places: &mut [u64],
     amounts: &mut [u64],
     table: &mut [u64],
-) -> Month
+) -> Result<(), Refusal>
     requires limits_le_gate_limits { (limits.items ≤ gate_limits.items) × (gate_limits.items ≤ length table.old) × (limits.bytes < 65536) × (limits.containers < 256) }
     requires words_in_bounds { (words ≤ length state.old) × (256 ≤ length places.old) × (256 ≤ length amounts.old) }
     ensures { Files format limits file.now published.now own.now state.old result state.new }
 {
-    match day_file::outline(format, file) {
-        Day::Refused { number, place } => Month::Refused { number, place },
-        Day::Messages(count) => match count_file(
-            format, limits, state, file, count, published, own, places, amounts, table,
-        ) {
-            Walked::Refused(k) => Month::Refused {
-                number: 22,
-                place: k,
-            },
-            Walked::Counted(u) => settle(state, u, places, amounts),
-        },
+    let count = day_file::outline(format, file)?;
+    match count_file(
+        format, limits, state, file, count, published, own, places, amounts, table,
+    ) {
+        Ok(tally) => settle(state, tally, places, amounts),
+        Err(message) => Err(Refusal {
+            fault: Fault::BadMessage,
+            place: message,
+        }),
     }
 }
 
 // Where the lists are wrong the file is only checked. The working memory is a copy of the lines, and the items of one message.
+#[tactic(auto, using(crate::proofs::Adding::adds))]
 fn add_listed<'a>(
     format: Format,
     limits: Limits,
@@ -348,7 +298,7 @@ fn add_listed<'a>(
     file: &[u8],
     published: &'a [u8],
     own: &'a [u8],
-) -> Month
+) -> Result<(), Refusal>
     requires { (limits.items ≤ gate_limits.items) × (limits.bytes < 65536) × (limits.containers < 256) × (words ≤ length state.old) }
     ensures { Adds limits state.old (source_of format file.now published.now own.now) result state.new }
 {
@@ -369,18 +319,19 @@ fn add_listed<'a>(
                 &mut table,
             )
         }
-        Names::Refused { place } => match day_file::check(format, limits, file) {
-            Day::Refused { number, place } => Month::Refused { number, place },
-            Day::Messages(_) => Month::Refused {
-                number: 19,
+        Names::Refused { place } => {
+            day_file::check(format, limits, file)?;
+            Err(Refusal {
+                fault: Fault::BadLine,
                 place: place as usize,
-            },
-        },
+            })
+        }
     }
 }
 
 // Counts a day file of this format, with messages within these limits, none above the gate's own, into a month's state. The state is lent: any words are safe,
 // and what is promised is for one that was opened, or is all zeros, and went through these calls only.
+#[tactic(auto, using(crate::proofs::Adding::within))]
 pub fn add_within<'a>(
     format: Format,
     limits: Limits,
@@ -388,20 +339,23 @@ pub fn add_within<'a>(
     file: &[u8],
     published: &'a [u8],
     own: &'a [u8],
-) -> Month
+) -> Result<(), Refusal>
     ensures { Adds (capped limits) state.old (source_of format file.now published.now own.now) result state.new }
 {
     if state.len() < month_figures::WORDS {
-        return Month::Refused {
-            number: 16,
-            place: month_figures::WORDS * 8,
-        };
+        return Err(month_figures::TOO_SHORT);
     }
     add_listed(format, ari::cap(limits), state, file, published, own)
 }
 
 // The same by the version that the file's trailer names.
-pub fn add<'a>(state: &mut [u64], file: &[u8], published: &'a [u8], own: &'a [u8]) -> Month
+#[tactic(auto, using(crate::proofs::Adding::add_version))]
+pub fn add<'a>(
+    state: &mut [u64],
+    file: &[u8],
+    published: &'a [u8],
+    own: &'a [u8],
+) -> Result<(), Refusal>
     ensures { Adds (limits_of file.now) state.old (source_of (format_of file.now) file.now published.now own.now) result state.new }
 {
     add_within(

@@ -14,10 +14,8 @@ use Rattle.buffer.specs.Put.{Put}
 use Rattle.buffer.proofs.ByteLaws.{length_be}
 use Rattle.buffer.proofs.Putting.{put_nothing, put_both}
 use Rattle.month_lines.specs.Lines.{Line, most_lines}
-use Rattle.month_figures.specs.declared.Month.{Month}
-use Rattle.month_figures.specs.declared.Month.TheVariants as call
-use Rattle.month_figures.specs.declared.Shown.{Shown}
-use Rattle.month_figures.specs.declared.Shown.TheVariants.{Lines, Refused}
+use Rattle.std.specs.declared.result.Result.TheVariants.{Ok, Err}
+use Rattle.ari.specs.Refusals.{refused}
 use Rattle.month_figures.specs.Figures.{half, turned, Figures, figures}
 use Rattle.month_figures.specs.State.{words, first_place, first_amount, word, place_in, references_in, Holds, Opens, line_bytes, lines_bytes, figures_bytes, bytes_for, shown_of, room_after, Shows}
 use Rattle.month_figures.specs.Code.{no_figures, totals_of, line_at, lines_at}
@@ -50,10 +48,10 @@ fresh ws h z = record {
 }
 
 module _ (ws : List ℕ) where
-  pub open_short : length ws < words → Opens ws (call.Refused 16 4144) ws
+  pub open_short : length ws < words → Opens ws (refused 16 4144) ws
   open_short h = record { short = λ _. (refl, refl); afresh = λ l. absurd (omega arith) }
 
-  pub open_done : words ≤ length ws → {ws' : List ℕ} → ws' ≡ sets ws 0 no_figures → Opens ws call.Done ws'
+  pub open_done : words ≤ length ws → {ws' : List ℕ} → ws' ≡ sets ws 0 no_figures → Opens ws (Ok tt) ws'
   open_done h {ws'} e =
       let split : ws' ≡ no_figures ++ drop 6 ws = e ∙ sets-eq no_figures ws 0 (omega arith) in
       let long : length ws' ≡ length ws = ap length e ∙ length-sets ws 0 no_figures in
@@ -159,17 +157,17 @@ module _ (f : Figures) where
         rw (h.messages, h.bytes, h.items, h.unknown, h.relative, lines)
 
 module _ (ws out : List ℕ) where
-  pub show_short : length ws < words → Shows ws out (Refused 16 4144) out
+  pub show_short : length ws < words → Shows ws out (refused 16 4144) out
   show_short h = record { short = λ _. (refl, refl); figures_are = λ f k. absurd (omega (arith, k.room)) }
 
   module _ (h : words ≤ length ws) {n : ℕ} (e : n ≡ min (word ws 5) 256) where
     all_lines : {f : Figures} → Holds ws f → length f.lines ≡ n
     all_lines k = omega (arith, k.lines, k.few)
 
-    pub show_lacks : length out < 40 + 16 * n → Shows ws out (Refused 16 (40 + 16 * n)) out
+    pub show_lacks : length out < 40 + 16 * n → Shows ws out (refused 16 (40 + 16 * n)) out
     show_lacks l = record { short = λ k. absurd (omega arith); figures_are = λ f k. (sym (rw (all_lines k, lt-ltb (length out) (bytes_for n) l)), refl) }
 
-    pub show_done : 40 + 16 * n ≤ length out → {out' : List ℕ} {q : ℕ} → Put out out' 0 q (totals_of ws ++ lines_at ws 0 n) → Shows ws out (Lines n) out'
+    pub show_done : 40 + 16 * n ≤ length out → {out' : List ℕ} {q : ℕ} → Put out out' 0 q (totals_of ws ++ lines_at ws 0 n) → Shows ws out (Ok n) out'
     show_done l {out'} p = record { short = λ k. absurd (omega arith); figures_are = λ f k. (sym (rw (all_lines k, le-ltb (length out) (bytes_for n) l)), written f k) }
       where
         written : (f : Figures) → Holds ws f → out' ≡ figures_bytes f ++ drop (bytes_for n) out

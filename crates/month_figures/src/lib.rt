@@ -8,19 +8,7 @@ ghost use Rattle.month_figures.specs.Figures.{turned};
 ghost use Rattle.month_figures.specs.State.{words, word, Opens, Shows};
 ghost use Rattle.month_figures.specs.Code.{no_figures, sums_of, totals_of, line_at, lines_at};
 
-// A call was done; or 16, and in `month` the file's refusal, 19, 25 or 26.
-#[derive(Clone, Copy)]
-pub enum Month {
-    Done,
-    Refused { number: u8, place: usize },
-}
-
-// The figures were written, with so many lines; or 16 with the bytes needed.
-#[derive(Clone, Copy)]
-pub enum Shown {
-    Lines(usize),
-    Refused { number: u8, place: usize },
-}
+use ari::{Fault, Refusal};
 
 // The words of a state.
 pub const MESSAGES: usize = 0;
@@ -41,16 +29,24 @@ pub const AMOUNTS: usize = 262; // of references, by the lines' order
 
 pub const WORDS: usize = 518;
 
+// A state with fewer words, and the bytes that it needs.
+pub const TOO_SHORT: Refusal = Refusal {
+    fault: Fault::NoRoom,
+    place: WORDS * 8,
+};
+
 const HALF: u64 = 9223372036854775808;
 
 // The place of a namespace among all numbers in rising order, by its word in two's complement; and back.
+#[tactic(auto, using(crate::proofs::Words::turns))]
 pub fn turned(word: u64) -> u64
     ensures { result ≡ turned word }
 {
     if word < HALF {
-        return word + HALF;
+        word + HALF
+    } else {
+        word - HALF
     }
-    word - HALF
 }
 
 // No figures. The lines' words may stay: none of them is in use.
@@ -58,28 +54,22 @@ fn clear(state: &mut [u64])
     requires { words ≤ length state.old }
     ensures { state.new ≡ sets state.old 0 no_figures }
 {
-    state[MESSAGES] = 0;
-    state[BYTES] = 0;
-    state[ITEMS] = 0;
-    state[UNKNOWN] = 0;
-    state[RELATIVE] = 0;
-    state[COUNT] = 0;
+    state[..PLACES].fill(0);
 }
 
 // Begins a month: what was counted before is dropped.
-pub fn open(state: &mut [u64]) -> Month
+#[tactic(auto, using(crate::proofs::Words::opens))]
+pub fn open(state: &mut [u64]) -> Result<(), Refusal>
     ensures { Opens state.old result state.new }
 {
     if state.len() < WORDS {
-        return Month::Refused {
-            number: 16,
-            place: WORDS * 8,
-        };
+        return Err(TOO_SHORT);
     }
     clear(state);
-    Month::Done
+    Ok(())
 }
 
+#[tactic(auto, using(crate::proofs::Words::totals))]
 fn put_sums(state: &[u64], out: &mut [u8]) -> usize
     requires { words ≤ length state.now }
     ensures { Put out.old out.new 0 result (sums_of state.now) }
@@ -89,6 +79,7 @@ fn put_sums(state: &[u64], out: &mut [u8]) -> usize
     buffer::put8(out, b, state[ITEMS])
 }
 
+#[tactic(auto, using(crate::proofs::Words::totals))]
 fn put_totals(state: &[u64], out: &mut [u8]) -> usize
     requires { words ≤ length state.now }
     ensures { Put out.old out.new 0 result (totals_of state.now) }
@@ -98,6 +89,7 @@ fn put_totals(state: &[u64], out: &mut [u8]) -> usize
     buffer::put8(out, b, state[RELATIVE])
 }
 
+#[tactic(auto, using(crate::proofs::Words::puts))]
 fn put_line(state: &[u64], i: usize, out: &mut [u8], at: usize) -> usize
     requires { (words ≤ length state.now) × (i < 256) }
     ensures { Put out.old out.new at result (line_at state.now i) }
@@ -106,19 +98,19 @@ fn put_line(state: &[u64], i: usize, out: &mut [u8], at: usize) -> usize
     buffer::put8(out, a, state[AMOUNTS + i])
 }
 
+#[tactic(auto, using(crate::proofs::Words::puts))]
 fn put_lines(state: &[u64], lines: usize, out: &mut [u8], at: usize) -> usize
     requires { (words ≤ length state.now) × (lines ≤ 256) }
     ensures { Put out.old out.new at result (lines_at state.now 0 lines) }
 {
     let mut p = at;
-    let mut i = 0;
-    while i < lines {
+    for i in 0..lines {
         p = put_line(state, i, out, p);
-        i += 1;
     }
     p
 }
 
+#[tactic(auto, using(crate::proofs::Words::puts))]
 fn put_figures(state: &[u64], lines: usize, out: &mut [u8]) -> usize
     requires { (words ≤ length state.now) × (lines ≤ 256) }
     ensures { Put out.old out.new 0 result (totals_of state.now ++ lines_at state.now 0 lines) }
@@ -127,24 +119,23 @@ fn put_figures(state: &[u64], lines: usize, out: &mut [u8]) -> usize
     put_lines(state, lines, out, at)
 }
 
-// The figures of a state, in lent room. Any words are safe; what is promised is for a state that began empty.
-pub fn show(state: &[u64], out: &mut [u8]) -> Shown
+// The figures of a state, in lent room: how many lines were written, or 16 with the bytes needed. Any words are safe; what is promised is for a state that
+// began empty.
+#[tactic(auto, using(crate::proofs::Words::shows))]
+pub fn show(state: &[u64], out: &mut [u8]) -> Result<usize, Refusal>
     ensures { Shows state.now out.old result out.new }
 {
     if state.len() < WORDS {
-        return Shown::Refused {
-            number: 16,
-            place: WORDS * 8,
-        };
+        return Err(TOO_SHORT);
     }
-    let lines = buffer::least(state[COUNT] as usize, month_lines::LINES);
+    let lines = (state[COUNT] as usize).min(month_lines::LINES);
     let needed = 40 + 16 * lines;
     if out.len() < needed {
-        return Shown::Refused {
-            number: 16,
+        return Err(Refusal {
+            fault: Fault::NoRoom,
             place: needed,
-        };
+        });
     }
     put_figures(state, lines, out);
-    Shown::Lines(lines)
+    Ok(lines)
 }

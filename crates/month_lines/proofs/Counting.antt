@@ -1,16 +1,21 @@
 -- One reference more, as words. The idea: where the words are split at a place, the line is there or is inserted there.
 use Prim.Native.Nat.{ℕ, zero, suc, ◌+◌, ◌<◌, ◌≤◌, min}
 use mathlib.Core.Path.{◌≡◌, refl, sym, ◌∙◌, ap}
-use mathlib.Core.Bool.{Bool, true, false, ◌&&◌, cond, true≢false}
-use mathlib.Core.List.{List, [], ◌∷◌, ◌++◌, map}
+use mathlib.Core.Bool.{Bool, true, false, cond}
+use mathlib.Core.List.{List, [], ◌∷◌, map}
 use native.Mathlib.Omega.{arith}
-use native.Mathlib.Numerals.{add-one}
-use lib.ListN.{length, take, drop, get_or, set, length-map, length-append}
+use lib.ListN.{length, take, drop, get_or, set, length-map}
 use lib.Seq.{take-append-le, take-set-lt, get_or-take, length-take-le, take_all}
 use lib.Dec.{eqb, ltb}
+use Rattle.std.specs.Prelude.{Err}
+use Rattle.std.proofs.Common.{Equal}
+use Rattle.std.specs.Ordering.{nat_cmp}
+use Rattle.std.specs.List.Sorted.{IsBinarySearchResult}
+use Rattle.std.proofs.lemmas.List.Sorted.{searched}
+use Rattle.std.proofs.lemmas.Bool.Decides.{nat_tests}
 use borrow.Author.Tests.{lt-ltb, le-ltb, eq-eqb, ne_eqb, eqb-true, eqb-false, ltb-true, ltb-false}
 use Rattle.month_lines.specs.Lines.{Line, line, counted, Behind, Rising, most_lines}
-use Rattle.month_lines.specs.Code.{beyond, capped, used, place, amount, Lined, Sorted, Splits, is_there, inserted, shifted, Counts}
+use Rattle.month_lines.specs.Code.{beyond, place, amount, Lined, inserted, shifted, Counts}
 use Rattle.month_lines.proofs.Words.{insert_take, insert_length}
 
 insert_map : (f : Line → ℕ) (l : List Line) (i : ℕ) (c : Line) → map f (inserted i c l) ≡ inserted i (f c) (map f l)
@@ -98,6 +103,38 @@ new p (l ∷ ls) (suc i) b h f =
     let first : l.place < p = b 0 (omega arith) in
     rw (ne_eqb p l.place (λ q. omega arith), le-ltb p l.place (omega arith)) (ap (λ (v : List Line). l ∷ v) (new p ls i (λ j k. b (suc j) (omega arith)) (omega arith) (λ k. f (omega arith))))
 
+-- the first n words rise
+abbrev Sorted : List ℕ → ℕ → Type 0
+Sorted ps n = (i j : ℕ) → i < j → j < n → get_or ps i 0 < get_or ps j 0
+
+-- words before a place are before p, those from there on are behind it
+abbrev pub Splits : List ℕ → ℕ → ℕ → ℕ → Type 0
+Splits ps n p i = Sorted ps n → ((j : ℕ) → j < i → get_or ps j 0 < p) × ((j : ℕ) → i ≤ j → j < n → p < get_or ps j 0)
+
+-- what the library's search in them says of a place where p is, and of one where it would be inserted
+module _ (ps : List ℕ) (n p : ℕ) (long : n ≤ length ps) (i : ℕ) where
+  size : length (take n ps) ≡ n
+  size = length-take-le n ps long
+
+  pub found_at : i < n → nat_cmp (get_or (take n ps) i 0) p ≡ Equal → get_or ps i 0 ≡ p
+  found_at h e = let q : get_or (take n ps) i 0 ≡ get_or ps i 0 = get_or-take n ps i 0 h in rw (← q) (grind (arith, nat_tests))
+
+  pub splits : IsBinarySearchResult (λ y. nat_cmp y p) (take n ps) (Err i) → Splits ps n p i
+  splits h o =
+      let up : (a b : ℕ) → a ≤ b → b < length (take n ps) → get_or (take n ps) a 0 ≤ get_or (take n ps) b 0 = λ a b l k. rises a b l (rw size at k) in
+      let r = searched (take n ps) p (Err i) h up in
+      let le : i ≤ n = omega (arith, r.0, size) in (
+        λ j k. rw (get_or-take n ps j 0 (omega arith)) at (r.1 j k),
+        λ j k l. rw (get_or-take n ps j 0 l) at (r.2 j k (rw size l)),
+      )
+    where
+      rises : (a b : ℕ) → a ≤ b → b < n → get_or (take n ps) a 0 ≤ get_or (take n ps) b 0
+      rises a b l k = rw (get_or-take n ps a 0 (omega arith), get_or-take n ps b 0 k) (go (ltb a b) refl)
+        where
+          go : (t : Bool) → ltb a b ≡ t → get_or ps a 0 ≤ get_or ps b 0
+          go true e = let h = o a b (ltb-true a b e) k in omega arith
+          go false e = let z : a ≡ b = omega (arith, ltb-false a b e) in rw z (omega arith)
+
 -- the ways of `count`
 module _ (ps cs : List ℕ) (n p : ℕ) where
   pub count_beyond : most_lines < n → Counts ps cs n p n ps cs
@@ -130,9 +167,9 @@ module _ (ps cs : List ℕ) (n p : ℕ) where
     sorted : Sorted ps n
     sorted i j h k = rw (at_place i (omega arith), at_place j k) (rising_at ls x.rising i j h (omega (arith, all_used)))
 
-    module _ {i : ℕ} (s : Splits ps n p i i) (le : i ≤ n) where
+    module _ {i : ℕ} (below : Sorted ps n → (j : ℕ) → j < i → get_or ps j 0 < p) (le : i ≤ n) where
       before : Before p i ls
-      before j h = rw (← at_place j (omega arith)) (s.before sorted j h)
+      before j h = rw (← at_place j (omega arith)) (below sorted j h)
 
       lined_there : i < n → get_or ps i 0 ≡ p → {v : ℕ} → v ≡ min (get_or cs i 0 + 1) beyond → Lined ps (set cs i v) n (counted p ls)
       lined_there h e {v} f =
@@ -145,11 +182,11 @@ module _ (ps cs : List ℕ) (n p : ℕ) where
             amounts = λ k. rw (long, take-set-lt (length ls) cs i v (omega (arith, all_used)), x.amounts (omega (arith, all_used)), f, at_amount i h) (sym t.one_more);
           }
 
-      module _ (missing : i < n → get_or ps i 0 ≡ p → ⊥) where
+      module _ (above : Sorted ps n → (j : ℕ) → i ≤ j → j < n → p < get_or ps j 0) where
         is_new : counted p ls ≡ inserted i (line p 1) ls
         is_new =
             new p ls i before (omega (arith, all_used))
-            (λ h. let k : i < n = omega (arith, all_used) in omega (arith, at_place i k, s.behind sorted i (omega arith) k, missing k))
+            (λ h. let k : i < n = omega (arith, all_used) in omega (arith, at_place i k, above sorted i (omega arith) k))
 
         one_longer : length (counted p ls) ≡ suc n
         one_longer = ap length is_new ∙ insert_length ls i (line p 1) ∙ ap suc all_used
@@ -179,41 +216,13 @@ module _ (ps cs : List ℕ) (n p : ℕ) where
           amounts = λ k. rw g (grown amount cs (omega arith) (x.amounts (omega (arith, all_used))));
         }
 
-  pub elsewhere : {i : ℕ} → n ≤ i → false ≡ is_there ps n i p
-  unfolding is_there
-  elsewhere {i} h = sym (rw (le-ltb i n h))
+  module _ (few : n ≤ most_lines) (a : most_lines ≤ length ps) (b : most_lines ≤ length cs) {i : ℕ} where
+    pub count_there : i < n → get_or ps i 0 ≡ p → {v : ℕ} → v ≡ min (get_or cs i 0 + 1) beyond → Counts ps cs n p n ps (set cs i v)
+    count_there h e f = record { counts = λ _ _ ls x. lined_there few a b x (λ o j k. rw e at (o j i k h)) (omega arith) h e f }
 
-  pub compared : {i : ℕ} → i < n → eqb (get_or ps i 0) p ≡ is_there ps n i p
-  unfolding is_there
-  compared {i} h = sym (rw (lt-ltb i n h))
-
-  is_there_lem : (i : ℕ) → true ≡ is_there ps n i p → (i < n) × (get_or ps i 0 ≡ p)
-  unfolding is_there
-  is_there_lem i e = go (ltb i n) refl (eqb (get_or ps i 0) p) refl e
-    where
-      go : (t : Bool) → ltb i n ≡ t → (u : Bool) → eqb (get_or ps i 0) p ≡ u → true ≡ (t && u) → (i < n) × (get_or ps i 0 ≡ p)
-      go true f true g h = (ltb-true i n f, eqb-true (get_or ps i 0) p g)
-      go true f false g h = absurd (true≢false h)
-      go false f u g h = absurd (true≢false h)
-
-  not_there : (i : ℕ) → false ≡ is_there ps n i p → i < n → get_or ps i 0 ≡ p → ⊥
-  unfolding is_there
-  not_there i e h f = true≢false (sym (rw (lt-ltb i n h, eq-eqb (get_or ps i 0) p f) at e))
-
-  module _ (few : n ≤ most_lines) (a : most_lines ≤ length ps) (b : most_lines ≤ length cs) {i : ℕ} (s : Splits ps n p i i) (le : i ≤ n) {t : Bool} (g : t ≡ is_there ps n i p) where
-    pub count_there : t ≡ true → {v : ℕ} → v ≡ min (get_or cs i 0 + 1) beyond → Counts ps cs n p n ps (set cs i v)
-    count_there e f = let (h, k) = is_there_lem i (sym e ∙ g) in record { counts = λ _ _ ls x. lined_there few a b x s le h k f }
-
-    pub there_inside : t ≡ true → i < length cs
-    there_inside e = omega (arith, (is_there_lem i (sym e ∙ g)).0)
-
-    module _ (missing : t ≡ false) where
+    module _ (s : Splits ps n p i) (le : i ≤ n) where
       pub count_full : n ≡ most_lines → Counts ps cs n p (most_lines + 1) ps cs
-      count_full e = record { counts = λ _ _ ls x. lined_full few a b x s le (not_there i (sym missing ∙ g)) e }
+      count_full e = record { counts = λ _ _ ls x. lined_full few a b x (λ o. (s o).0) le (λ o. (s o).1) e }
 
-      pub count_new : (n ≡ most_lines → ⊥) → {ps' cs' : List ℕ} → ps' ≡ shifted n i p ps → cs' ≡ shifted n i 1 cs → Counts ps cs n p (n + 1) ps' cs'
-      count_new h f q = record { counts = λ _ _ ls x. lined_new few a b x s le (not_there i (sym missing ∙ g)) (omega arith) f q }
-
-pub ruleset tests = (elsewhere, compared)
-
-pub ruleset ways = (count_beyond, count_few_places, count_few_amounts, there_inside, count_there, count_full, count_new)
+      pub count_new : n < most_lines → {ps' cs' : List ℕ} → ps' ≡ shifted n i p ps → cs' ≡ shifted n i 1 cs → Counts ps cs n p (n + 1) ps' cs'
+      count_new h f q = record { counts = λ _ _ ls x. lined_new few a b x (λ o. (s o).0) le (λ o. (s o).1) h f q }

@@ -1,45 +1,12 @@
--- Words in a sorted row. The ideas: halving keeps that all words before `low` are before the place and none from `high` on is; a word that is carried up
--- still has to be inserted, and that gives the whole.
-use Prim.Native.Nat.{ℕ, zero, suc, ◌+◌, ◌<◌, ◌≤◌}
+-- Words in a row. The idea: the last of those in use is moved before the others, and gives way to the new one.
+use Prim.Native.Nat.{ℕ, zero, suc, ◌+◌, ◌-◌, ◌<◌, ◌≤◌}
 use mathlib.Core.Path.{◌≡◌, sym, ◌∙◌, ap, refl}
-use mathlib.Core.Bool.{Bool, true, false}
-use mathlib.Core.List.{List, [], ◌∷◌, ◌++◌}
+use mathlib.Core.List.{List, [], ◌∷◌, ◌++◌, append_assoc}
+use borrow.Rule.Slice.PartMut.{put_mid}
 use native.Mathlib.Omega.{arith}
-use native.Mathlib.Numerals.{add-one}
-use lib.ListN.{length, take, drop, get_or, set, drop_of_length-le}
-use lib.Seq.{append_snoc, set_split, drop-set-lt, take_all, length-take-le}
-use lib.Dec.{leb}
-use borrow.Author.Tests.{leb-true, leb-false}
-use Rattle.month_lines.specs.Code.{Sorted, Splits, inserted, shifted}
-
--- the search by halving
-module _ (ps : List ℕ) (n p : ℕ) where
-  pub splits_none : Splits ps n p 0 n
-  splits_none = record { before = λ s j h. absurd (omega arith); behind = λ s j h l. absurd (omega arith) }
-
-  module _ {low high : ℕ} (s : Splits ps n p low high) (l : low < high) (m : high ≤ n) (mid : ℕ) (a : low ≤ mid) (b : mid < high) where
-    not_above : Sorted ps n → (j : ℕ) → j ≤ mid → get_or ps j 0 ≤ get_or ps mid 0
-    not_above o j h = go (leb mid j) refl
-      where
-        go : (t : Bool) → leb mid j ≡ t → get_or ps j 0 ≤ get_or ps mid 0
-        go true e = let i : j ≡ mid = omega (arith, leb-true mid j e) in rw i (omega arith)
-        go false e = omega (arith, o j mid (leb-false mid j e) (omega arith))
-
-    not_below : Sorted ps n → (j : ℕ) → mid ≤ j → j < n → get_or ps mid 0 ≤ get_or ps j 0
-    not_below o j h k = go (leb j mid) refl
-      where
-        go : (t : Bool) → leb j mid ≡ t → get_or ps mid 0 ≤ get_or ps j 0
-        go true e = let i : j ≡ mid = omega (arith, leb-true j mid e) in rw i (omega arith)
-        go false e = omega (arith, o mid j (leb-false j mid e) k)
-
-    pub splits_low : get_or ps mid 0 < p → Splits ps n p (mid + 1) high
-    splits_low h = record { before = λ o j k. omega (arith, not_above o j (omega arith)); behind = s.behind }
-
-    pub splits_high : p ≤ get_or ps mid 0 → Splits ps n p low mid
-    splits_high h = record { before = s.before; behind = λ o j k g. omega (arith, not_below o j k g) }
-
-  pub met : {low high : ℕ} → Splits ps n p low high → high ≤ low → low ≤ high → Splits ps n p low low
-  met {low} {high} s h l = let e : high ≡ low = omega arith in rw e at s
+use lib.ListN.{length, take, drop, get_or, set, length-drop}
+use lib.Seq.{take-append-add, drop-drop, length-take-le}
+use Rattle.month_lines.specs.Code.{inserted, shifted}
 
 -- the insertion
 module _ {ℓ} {A : Type ℓ} where
@@ -64,20 +31,47 @@ module _ {ℓ} {A : Type ℓ} where
   insert_length [] (suc i) c = refl
   insert_length (y ∷ l) (suc i) c = ap suc (insert_length l i c)
 
-module _ (ws : List ℕ) (n : ℕ) where
-  -- the whole, x, is what is left to insert
-  pub shift_on : (i c : ℕ) (x : List ℕ) → shifted n i c ws ≡ x → i < n → n < length ws → shifted n (i + 1) (get_or ws i 0) (set ws i c) ≡ x
-  unfolding shifted
-  shift_on i c x e h l = rw (add-one i, insert_step 0 ws i c (omega arith), drop-set-lt (suc n) ws i c (omega arith)) e
+-- the last word of some, moved before the others
+last_of : (d : List ℕ) (k : ℕ) → k < length d → drop k (take (suc k) d) ≡ get_or d k 0 ∷ []
+last_of [] k h = absurd (omega arith)
+last_of (x ∷ d) zero h = refl
+last_of (x ∷ d) (suc k) h = last_of d k (omega arith)
 
-  pub shift_done : (i c : ℕ) (x : List ℕ) → shifted n i c ws ≡ x → n ≤ i → i ≤ n → n < length ws → set ws i c ≡ x
-  unfolding shifted
-  shift_done i c x e h k l =
-      let at_end : i ≡ n = omega arith in
-      let size : length (take n ws) ≡ n = length-take-le n ws (omega arith) in
-      let front : take (suc n) (inserted n c ws) ≡ take n ws ++ (c ∷ []) =
-      insert_take ws n n c (omega arith) (omega arith) ∙ insert_split (take n ws) n c (omega arith) ∙ rw (take_all n (take n ws) (omega arith), drop_of_length-le (take n ws) {i = n} (omega arith)) in
-      let whole : set ws n c ≡ take (suc n) (inserted n c ws) ++ drop (suc n) ws = set_split ws n c l ∙ sym (rw front (append_snoc (take n ws) c (drop (suc n) ws))) in
-      rw at_end (whole ∙ rw at_end at e)
+others : (d : List ℕ) (k : ℕ) → take k (take (suc k) d) ≡ take k d
+others [] zero = refl
+others [] (suc k) = refl
+others (x ∷ d) zero = refl
+others (x ∷ d) (suc k) = ap (λ (r : List ℕ). x ∷ r) (others d k)
 
-pub ruleset shifts = (shift_on, shift_done)
+turned : (d : List ℕ) (k : ℕ) → k < length d
+    → drop (length (take (suc k) d) - 1) (take (suc k) d) ++ take (length (take (suc k) d) - 1) (take (suc k) d) ≡ get_or d k 0 ∷ take k d
+turned d k h =
+    let z : length (take (suc k) d) - 1 ≡ k = omega (arith, length-take-le (suc k) d (omega arith)) in
+    rw (z, last_of d k h, others d k)
+
+set_behind : (xs r : List ℕ) (y c i : ℕ) → length xs ≡ i → set (xs ++ y ∷ r) i c ≡ xs ++ c ∷ r
+set_behind [] r y c zero e = refl
+set_behind [] r y c (suc i) e = absurd (omega arith)
+set_behind (x ∷ xs) r y c zero e = absurd (omega arith)
+set_behind (x ∷ xs) r y c (suc i) e = ap (λ (l : List ℕ). x ∷ l) (set_behind xs r y c i (omega arith))
+
+pub moved_up : (ws : List ℕ) (n i c : ℕ) → i ≤ n → n < length ws → {rot : List ℕ}
+    → rot ≡ drop (length (take (n + 1 - i) (drop i ws)) - 1) (take (n + 1 - i) (drop i ws)) ++ take (length (take (n + 1 - i) (drop i ws)) - 1) (take (n + 1 - i) (drop i ws))
+    → set (put_mid i (n + 1 - i) ws rot) i c ≡ shifted n i c ws
+unfolding shifted
+moved_up ws n i c le l {rot} e =
+    let m : n + 1 - i ≡ suc (n - i) = omega arith in
+    let s : i + suc (n - i) ≡ suc n = omega arith in
+    let h : n - i < length (drop i ws) = rw length-drop (omega arith) in
+    let r : rot ≡ get_or (drop i ws) (n - i) 0 ∷ take (n - i) (drop i ws) = (rw m at e) ∙ turned (drop i ws) (n - i) h in
+    let w : length (take i ws) ≡ i = length-take-le i ws (omega arith) in
+    let q : suc n ≡ length (take i ws) + suc (n - i) = omega (arith, w) in
+    let t : take (suc n) (take i ws ++ c ∷ drop i ws) ≡ take i ws ++ c ∷ take (n - i) (drop i ws) =
+    ap (λ (j : ℕ). take j (take i ws ++ c ∷ drop i ws)) q ∙ take-append-add (take i ws) (c ∷ drop i ws) (suc (n - i))
+    in
+    let u : drop (suc (n - i)) (drop i ws) ≡ drop (suc n) ws = drop-drop (suc (n - i)) i ws ∙ ap (λ (j : ℕ). drop j ws) s in
+    let v : take (suc n) (inserted i c ws) ≡ take i ws ++ c ∷ take (n - i) (drop i ws) = ap (take (suc n)) (insert_split ws i c (omega arith)) ∙ t in
+    let put : set (put_mid i (suc (n - i)) ws (get_or (drop i ws) (n - i) 0 ∷ take (n - i) (drop i ws))) i c ≡ take i ws ++ c ∷ (take (n - i) (drop i ws) ++ drop (suc (n - i)) (drop i ws)) =
+    set_behind (take i ws) (take (n - i) (drop i ws) ++ drop (suc (n - i)) (drop i ws)) (get_or (drop i ws) (n - i) 0) c i w
+    in
+    rw (m, r) (put ∙ rw (u, v) (sym (append_assoc (take i ws) (c ∷ take (n - i) (drop i ws)) (drop (suc n) ws))))

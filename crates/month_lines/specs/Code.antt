@@ -1,5 +1,5 @@
 -- Private to src/ and to the crate `month`: the lines as words.
-use Rattle.std.specs.Prelude.{ℕ, zero, suc, ◌+◌, ◌<◌, ◌≤◌, min, ◌≡◌, List, [], ◌∷◌, ◌++◌, map, Bool, ◌&&◌, eqb, ltb, length, take, drop, get_or}
+use Rattle.std.specs.Prelude.{ℕ, zero, suc, ◌≤◌, min, ◌≡◌, List, [], ◌∷◌, ◌++◌, map, length, take, drop}
 use Rattle.month_lines.specs.Lines.{Line, counted, Rising, most_lines}
 
 -- a total as a word: one past the most stands for all that are beyond it
@@ -25,18 +25,6 @@ pub record Lined (ps cs : List ℕ) (n : ℕ) (ls : List Line) : Type 0 where
   pub rising : Rising ls
   pub places : length ls ≤ most_lines → take (length ls) ps ≡ map place ls
   pub amounts : length ls ≤ most_lines → take (length ls) cs ≡ map amount ls
-
--- the first n words rise
-abbrev pub Sorted : List ℕ → ℕ → Type 0
-Sorted ps n = (i j : ℕ) → i < j → j < n → get_or ps i 0 < get_or ps j 0
-
--- among them r is the first that is not before p
-pub record Splits (ps : List ℕ) (n p low high : ℕ) : Type 0 where
-  pub before : Sorted ps n → (j : ℕ) → j < low → get_or ps j 0 < p
-  pub behind : Sorted ps n → (j : ℕ) → high ≤ j → j < n → p ≤ get_or ps j 0
-
-unfoldable pub is_there : List ℕ → ℕ → ℕ → ℕ → Bool
-is_there ps n i p = ltb i n && eqb (get_or ps i 0) p
 
 -- a word more at a place, behind which the others move up; the words in use were n
 module _ {ℓ} {A : Type ℓ} where

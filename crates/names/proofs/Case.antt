@@ -11,9 +11,10 @@ use lib.Dec.{eqb}
 use borrow.Author.Tests.{le-leb, lt-leb}
 use Rattle.buffer.specs.Bytes.{within}
 use Rattle.buffer.specs.Runs.{front, past}
-use Rattle.buffer.specs.Decimal.{push_of, digitsOf, onward, unsigned_of, signed_of}
-use Rattle.buffer.specs.declared.Number.{Number}
-use Rattle.buffer.specs.declared.Number.TheVariants.{Value, Bad}
+use Rattle.buffer.specs.Decimal.{push_of, digitsOf, unsigned_of, signed_of}
+use Rattle.std.specs.declared.option.Option.{Option}
+use Rattle.std.specs.declared.option.Option.TheVariants.{Some, None}
+use Rattle.std.specs.Option.{option_and_then}
 use Rattle.buffer.proofs.ByteLaws.{within_true}
 use Rattle.ari.specs.Name.{lower, folded_name, same_name}
 use Rattle.ari.proofs.Case.{Recased, kept, lower_capital, lower_other, namespace_name_kept, folded_again, recased_same}
@@ -63,9 +64,9 @@ unfolding digitsOf
 digits_kept n [] = refl
 digits_kept n (x ∷ t) = rw (push_kept n x) (go (push_of n x) (λ m. digits_kept m t))
   where
-    go : (r : Number) → ((m : ℕ) → digitsOf m (folded_name t) ≡ digitsOf m t) → onward (λ m. digitsOf m (folded_name t)) r ≡ onward (λ m. digitsOf m t) r
-    go (Value m) ih = ih m
-    go Bad ih = refl
+    go : (r : Option ℕ) → ((m : ℕ) → digitsOf m (folded_name t) ≡ digitsOf m t) → option_and_then (λ m. digitsOf m (folded_name t)) r ≡ option_and_then (λ m. digitsOf m t) r
+    go (Some m) ih = ih m
+    go None ih = refl
 
 first_kept : (y : ℕ) → (((x : ℕ) → eqb (lower x) y ≡ eqb x y)) → (t : List ℕ) → eqb (get_or (folded_name t) 0 0) y ≡ eqb (get_or t 0 0) y
 first_kept y k [] = refl

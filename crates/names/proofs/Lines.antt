@@ -4,20 +4,17 @@ use mathlib.Core.Path.{◌≡◌, refl, sym, ◌∙◌, ap}
 use mathlib.Core.Bool.{Bool, true, false, not, ◌&&◌, cond}
 use mathlib.Core.List.{List, [], ◌∷◌}
 use native.Mathlib.Omega.{arith}
-use native.Mathlib.Nat.{min-eq_left, min-eq_right}
-use lib.ListN.{length, get_or, drop, length-drop}
+use native.Mathlib.Nat.{min-eq_left}
+use lib.ListN.{length, get_or, take, drop, length-drop}
 use lib.Seq.{drop-drop, length-take-le}
 use lib.Dec.{eqb}
 use borrow.Author.Tests.{not-true, not-false}
 use Rattle.buffer.specs.Bytes.{part}
 use Rattle.buffer.specs.Runs.{front, past, RunTo}
 use Rattle.buffer.specs.Decimal.{signed_of}
-use Rattle.buffer.specs.declared.Number.{Number}
-use Rattle.buffer.specs.declared.Number.TheVariants.{Bad}
 use Rattle.buffer.proofs.RunLaws.{beyond, here, part_none, part_all}
 use Rattle.ari.specs.Name.{namespace_name, same_name}
-use Rattle.names.specs.declared.Wrong.{Wrong}
-use Rattle.names.specs.declared.Wrong.TheVariants.{Nowhere, At}
+use Rattle.std.proofs.Common.{Option, Some, None}
 use Rattle.names.specs.declared.Names.TheVariants.{Passes, Refused}
 use Rattle.names.specs.Names.{Line, other_than, in_line, lengthen, lines, in_name, name_of, number_of, is_number, formed, well_formed, matches, found, is_own, find_line, number_for, Place, none, at, bad_from, wrong_of, check_names}
 
@@ -52,41 +49,41 @@ is_other x stop = refl
 
 -- a line's name and number
 module _ (t : List ℕ) {q : ℕ} (r : RunTo in_name t 0 q) where
-  pub name_is : part t 0 q ≡ name_of t
+  pub name_is : take q t ≡ name_of t
   unfolding name_of
-  name_is = sym r.front_is
+  name_is = let z : q - 0 ≡ q = omega arith in rw z at (sym r.front_is)
 
-  pub no_number : q ≡ length t → Bad ≡ number_of t
+  pub no_number : q ≡ length t → None ≡ number_of t
   unfolding number_of
   no_number e = let z : past in_name t ≡ [] = r.past_is ∙ beyond t q (omega arith) in rw z
 
-  pub number_is : {n : Number} → n ≡ signed_of (part t (q + 1) (length t)) → n ≡ number_of t
+  pub number_is : {n : Option ℕ} → n ≡ signed_of (part t (q + 1) (length t)) → n ≡ number_of t
   unfolding number_of
   number_is g =
       let z : drop 1 (past in_name t) ≡ drop (q + 1) t = ap (drop 1) r.past_is ∙ drop-drop 1 q t in
       g ∙ rw (z, part_all t (q + 1))
 
-  module _ {x : Bool} (ex : x ≡ namespace_name (part t 0 q)) where
-    pub ill_named : not x ≡ true → false ≡ formed t
+  module _ {x : Bool} (ex : x ≡ namespace_name (take q t)) where
+    pub ill_named : x ≡ false → x ≡ formed t
     unfolding formed
-    ill_named n = rw (← name_is, ← ex, not-true x n)
+    ill_named n = rw (← name_is, ← ex, n)
 
-    pub well_named : not x ≡ false → {n : Number} → n ≡ number_of t → {y : Bool} → y ≡ is_number n → y ≡ formed t
+    pub well_named : x ≡ true → {n : Option ℕ} → n ≡ number_of t → {y : Bool} → y ≡ is_number n → y ≡ formed t
     unfolding formed
-    well_named m e g = g ∙ rw (← name_is, ← ex, not-false x m, e)
+    well_named m e g = g ∙ rw (← name_is, ← ex, m, e)
 
-  module _ (name : List ℕ) {x : Bool} (ex : x ≡ same_name (part t 0 q) name) where
-    pub other_name : not x ≡ true → false ≡ matches name t
+  module _ (name : List ℕ) {x : Bool} (ex : x ≡ same_name (take q t) name) where
+    pub other_name : x ≡ false → x ≡ matches name t
     unfolding matches
-    other_name n = rw (← name_is, ← ex, not-true x n) (go (formed t))
+    other_name n = rw (← name_is, ← ex, n) (go (formed t))
       where
         go : (y : Bool) → false ≡ y && false
         go true = refl
         go false = refl
 
-    pub own_name : not x ≡ false → {y : Bool} → y ≡ formed t → y ≡ matches name t
+    pub own_name : x ≡ true → {y : Bool} → y ≡ formed t → y ≡ matches name t
     unfolding matches
-    own_name m e = rw (← name_is, ← ex, not-false x m, ← e) (go _)
+    own_name m e = rw (← name_is, ← ex, m, ← e) (go _)
       where
         go : (y : Bool) → y ≡ y && true
         go true = refl
@@ -140,11 +137,7 @@ module _ (published own name : List ℕ) {x : Bool} (e : x ≡ is_own name) wher
   unfolding find_line
   in_published h g = g ∙ rw (← e, h)
 
-pub no_mark : (name : List ℕ) → length name ≡ 0 → false ≡ is_own name
-no_mark [] e = refl
-no_mark (x ∷ t) e = absurd (omega arith)
-
-pub stands_for : (published own name : List ℕ) {l : List ℕ} → l ≡ find_line published own name → {n : Number} → n ≡ number_of l → n ≡ number_for published own name
+pub stands_for : (published own name : List ℕ) {l : List ℕ} → l ≡ find_line published own name → {n : Option ℕ} → n ≡ number_of l → n ≡ number_for published own name
 unfolding number_for
 stands_for published own name e g = rw e at g
 
@@ -157,15 +150,15 @@ pub check_begins : (list : List ℕ) → WrongOn list 0
 check_begins list = record { inside = omega arith; same_wrong = refl }
 
 module _ {list : List ℕ} {p : ℕ} (o : WrongOn list p) where
-  pub all_formed : length list ≤ p → Nowhere ≡ wrong_of (bad_from 0 (lines list))
+  pub all_formed : length list ≤ p → None ≡ wrong_of (bad_from 0 (lines list))
   all_formed h = sym (ap wrong_of o.same_wrong ∙ rw (beyond list p h))
 
   module _ (more : p < length list) {e : ℕ} (r : RunTo in_line list p e) where
-    pub wrong_unended : e ≡ length list → At p ≡ wrong_of (bad_from 0 (lines list))
+    pub wrong_unended : e ≡ length list → Some p ≡ wrong_of (bad_from 0 (lines list))
     wrong_unended g = sym (ap wrong_of o.same_wrong ∙ rw (line_is list p more r, beyond list e (omega arith)))
 
     module _ (n : e ≡ length list → ⊥) {x : Bool} (g : x ≡ formed (part list p e)) where
-      pub wrong_line : not x ≡ true → At p ≡ wrong_of (bad_from 0 (lines list))
+      pub wrong_line : not x ≡ true → Some p ≡ wrong_of (bad_from 0 (lines list))
       wrong_line h = sym (ap wrong_of o.same_wrong ∙ rw (ended_line list p more r n, ← g, not-true x h))
 
       pub right_line : not x ≡ false → WrongOn list (e + 1)
@@ -187,39 +180,33 @@ shift_bad n p (l ∷ ls) = go (well_formed l) (shift_bad n (p + (length l.text +
     go true ih = let z : n + p + (length l.text + 1) ≡ n + (p + (length l.text + 1)) = omega arith in rw z ih
     go false ih = refl
 
-was_at : (x : Place) {p : ℕ} → At p ≡ wrong_of x → x ≡ at p
+was_at : (x : Place) {p : ℕ} → Some p ≡ wrong_of x → x ≡ at p
 was_at none e = absurd (let z : ◌≡◌ {A = ℕ} 0 1 = cc in omega arith)
 was_at (at q) e = cc
 
-was_none : (x : Place) → Nowhere ≡ wrong_of x → x ≡ none
+was_none : (x : Place) → None ≡ wrong_of x → x ≡ none
 was_none none e = refl
 was_none (at q) e = absurd (let z : ◌≡◌ {A = ℕ} 0 1 = cc in omega arith)
 
-module _ (published own : List ℕ) {x : Wrong} (ex : x ≡ wrong_of (bad_from 0 (lines published))) where
-  pub published_wrong : {p : ℕ} → x ≡ At p → {n : ℕ} → n ≡ min (0 + p) 18446744073709551615 → Refused n ≡ check_names published own
+module _ (published own : List ℕ) {x : Option ℕ} (ex : x ≡ wrong_of (bad_from 0 (lines published))) where
+  pub published_wrong : {p : ℕ} → x ≡ Some p → p ≤ 18446744073709551615 → Refused p ≡ check_names published own
   unfolding check_names
-  published_wrong {p} g e = let z : 0 + p ≡ p = omega arith in rw (was_at (bad_from 0 (lines published)) (sym g ∙ ex), e, z)
+  published_wrong {p} g h = rw (was_at (bad_from 0 (lines published)) (sym g ∙ ex), min-eq_left h)
 
-  module _ (g : x ≡ Nowhere) {y : Wrong} (ey : y ≡ wrong_of (bad_from 0 (lines own))) where
+  module _ (g : x ≡ None) {y : Option ℕ} (ey : y ≡ wrong_of (bad_from 0 (lines own))) where
     own_bad : bad_from (length published) (lines own) ≡ shifted (length published) (bad_from 0 (lines own))
     own_bad = let z : length published + 0 ≡ length published = omega arith in rw z at (shift_bad (length published) 0 (lines own))
 
-    pub own_wrong : {p : ℕ} → y ≡ At p → {n : ℕ} → n ≡ min (length published + p) 18446744073709551615 → Refused n ≡ check_names published own
+    pub own_wrong : {p : ℕ} → y ≡ Some p → {n : ℕ} → n ≡ min (length published + p) 18446744073709551615 → Refused n ≡ check_names published own
     unfolding check_names
     own_wrong h e = rw (was_none (bad_from 0 (lines published)) (sym g ∙ ex), own_bad, was_at (bad_from 0 (lines own)) (sym h ∙ ey), e)
 
-    pub both_pass : y ≡ Nowhere → Passes ≡ check_names published own
+    pub both_pass : y ≡ None → Passes ≡ check_names published own
     unfolding check_names
     both_pass h = rw (was_none (bad_from 0 (lines published)) (sym g ∙ ex), own_bad, was_none (bad_from 0 (lines own)) (sym h ∙ ey))
 
-pub far_place : (a b : ℕ) → 18446744073709551615 - a < b → 18446744073709551615 ≡ min (a + b) 18446744073709551615
-far_place a b h = sym (min-eq_right (omega arith))
-
-pub near_place : (a b : ℕ) → b ≤ 18446744073709551615 - a → a ≤ 18446744073709551615 → a + b ≡ min (a + b) 18446744073709551615
-near_place a b h l = sym (min-eq_left (omega arith))
-
-pub ruleset check_ways = (check_begins, all_formed, wrong_unended, wrong_line, right_line, published_wrong, own_wrong, both_pass, far_place, near_place)
+pub ruleset check_ways = (check_begins, all_formed, wrong_unended, wrong_line, right_line, published_wrong, own_wrong, both_pass)
 
 pub ruleset line_ways = (no_number, number_is, ill_named, well_named, other_name, own_name)
 
-pub ruleset search_ways = (search_begins, search_ends, unended, line_found, next_line, in_own, in_published, no_mark, stands_for)
+pub ruleset search_ways = (search_begins, search_ends, unended, line_found, next_line, in_own, in_published, stands_for)

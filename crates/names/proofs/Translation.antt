@@ -11,8 +11,8 @@ use lib.Seq.{sets, sets-eq, drop_at, take_at, drop-drop}
 use borrow.Author.Tests.{le-leb, eq-eqb, ne_eqb}
 use Rattle.buffer.specs.Bytes.{be, load_at, store_at}
 use Rattle.buffer.specs.Runs.{past}
-use Rattle.buffer.specs.declared.Number.{Number}
-use Rattle.buffer.specs.declared.Number.TheVariants.{Value, Bad}
+use Rattle.std.specs.declared.option.Option.{Option}
+use Rattle.std.specs.declared.option.Option.TheVariants.{Some, None}
 use Rattle.buffer.proofs.ByteLaws.{length_be}
 use Rattle.buffer.proofs.DecimalLaws.{Most, signed_most}
 use Rattle.ari.specs.Signed.{word, signed}
@@ -56,9 +56,9 @@ module _ (published own : List ℕ) where
   stands_in_range relative h = h
   stands_in_range (name p n) h = go (number_for published own n) (number_most n)
     where
-      go : (v : Number) → Most v → InRange (numbered v (name p n))
-      go (Value w) m = signed_in_range w (omega arith)
-      go Bad m = tt
+      go : (v : Option ℕ) → Most v → InRange (numbered v (name p n))
+      go (Some w) m = signed_in_range w (omega arith)
+      go None m = tt
 
   -- as the code has it
   pub stands_code : (b : List ℕ) (x : Space) → NameStands b x → stands_by published own b (space_code x) ≡ space_code (stands_for published own x)
@@ -66,9 +66,9 @@ module _ (published own : List ℕ) where
   stands_code b relative h = refl
   stands_code b (name p n) h = rw h.1 (go (number_for published own n) (number_most n))
     where
-      go : (v : Number) → Most v → numbered_code v (space_code (name p n)) ≡ space_code (numbered v (name p n))
-      go (Value w) m = rw (word_signed w (omega arith))
-      go Bad m = refl
+      go : (v : Option ℕ) → Most v → numbered_code v (space_code (name p n)) ≡ space_code (numbered v (name p n))
+      go (Some w) m = rw (word_signed w (omega arith))
+      go None m = refl
 
 -- the ways of `stands_for`
 module _ (published own b : List ℕ) {x : Namespace} where
@@ -78,25 +78,25 @@ module _ (published own b : List ℕ) {x : Namespace} where
   pub for_relative : x ≡ code.Relative → code.Relative ≡ stands_by published own b x
   for_relative e = rw e
 
-  module _ {p l : ℕ} (e : x ≡ code.Name p l) {n : List ℕ} (h : n ≡ string_in b p) {v : Number} (f : v ≡ number_for published own n) where
-    pub for_known : {w : ℕ} → v ≡ Value w → code.Number w ≡ stands_by published own b x
+  module _ {p l : ℕ} (e : x ≡ code.Name p l) {n : List ℕ} (h : n ≡ string_in b p) {v : Option ℕ} (f : v ≡ number_for published own n) where
+    pub for_known : {w : ℕ} → v ≡ Some w → code.Number w ≡ stands_by published own b x
     for_known g = rw (e, ← h, ← f, g)
 
-    pub for_unknown : v ≡ Bad → code.Name p l ≡ stands_by published own b x
+    pub for_unknown : v ≡ None → code.Name p l ≡ stands_by published own b x
     for_unknown g = rw (e, ← h, ← f, g)
 
 pub ruleset stands = (for_number, for_relative, for_known, for_unknown)
 
 -- the ways of an entry's translation
-module _ (x : List ℕ) (at : ℕ) {v : Number} where
-  pub renumbered_known : {w : ℕ} → v ≡ Value w → {y : List ℕ} → y ≡ store_at 8 x (at + 8) 0 → {z : List ℕ} → z ≡ store_at 8 y (at + 16) w → z ≡ renumbered v x at
+module _ (x : List ℕ) (at : ℕ) {v : Option ℕ} where
+  pub renumbered_known : {w : ℕ} → v ≡ Some w → {y : List ℕ} → y ≡ store_at 8 x (at + 8) 0 → {z : List ℕ} → z ≡ store_at 8 y (at + 16) w → z ≡ renumbered v x at
   renumbered_known e f g = g ∙ rw (f, e)
 
-  pub renumbered_unknown : v ≡ Bad → x ≡ renumbered v x at
+  pub renumbered_unknown : v ≡ None → x ≡ renumbered v x at
   renumbered_unknown e = rw e
 
 module _ (published own b x : List ℕ) (at : ℕ) {k : ℕ} (e : k ≡ load_at 8 x (at + 8)) where
-  pub entry_named : k ≡ name_kind → {p : ℕ} → p ≡ load_at 8 x (at + 16) → {n : List ℕ} → n ≡ string_in b p → {v : Number} → v ≡ number_for published own n → {y : List ℕ} → y ≡ renumbered v x at
+  pub entry_named : k ≡ name_kind → {p : ℕ} → p ≡ load_at 8 x (at + 16) → {n : List ℕ} → n ≡ string_in b p → {v : Option ℕ} → v ≡ number_for published own n → {y : List ℕ} → y ≡ renumbered v x at
       → y ≡ entry_translated published own b x at
   unfolding entry_translated
   entry_named h f i g q = q ∙ rw (← e, eq-eqb k name_kind h, ← f, ← i, g)
@@ -167,9 +167,9 @@ module _ (published own b a : List ℕ) (e : Entry) (c : List ℕ) where
       (omega (arith, length-append (a ++ end_bytes e) (be 8 0), long, length_be 8 0)) (length_be 8 (word_of s))
       ∙ sym (apart (number (signed w)) ∙ apart_word (number (signed w)) 0 ∙ rw (word_signed w h))
 
-  by_number : (s : Space) (v : Number) → Most v → renumbered v (room_with s) (length a) ≡ room_with (numbered v s)
-  by_number s (Value w) m = stored s w (omega arith)
-  by_number s Bad m = refl
+  by_number : (s : Space) (v : Option ℕ) → Most v → renumbered v (room_with s) (length a) ≡ room_with (numbered v s)
+  by_number s (Some w) m = stored s w (omega arith)
+  by_number s None m = refl
 
   by_space : (s : Space) → NameStands b s → length b < 2 ^ 64 → entry_translated published own b (room_with s) (length a) ≡ room_with (stands_for published own s)
   unfolding entry_translated

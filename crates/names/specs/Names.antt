@@ -1,13 +1,11 @@
 -- Names beside numbers: R139 to R143. Interface: Line, lines, name_of, number_of, well_formed, found, find_line, number_for, bad_from, check_names. Private to src/: the others.
-use Rattle.std.specs.Prelude.{ℕ, ◌+◌, ◌-◌, ◌^◌, min, Bool, true, false, not, ◌&&◌, cond, List, [], ◌∷◌, length, drop, get_or, eqb}
+use Rattle.std.specs.Prelude.{ℕ, ◌+◌, ◌-◌, ◌^◌, min, Bool, true, false, not, ◌&&◌, cond, List, [], ◌∷◌, length, drop, get_or, eqb, Option, Some, None}
 use Prim.Native.Char.{code}
 use Rattle.buffer.specs.Runs.{front, past}
 use Rattle.buffer.specs.Decimal.{signed_of}
-use Rattle.buffer.specs.declared.Number.{Number}
-use Rattle.buffer.specs.declared.Number.TheVariants.{Value, Bad}
+use Rattle.std.specs.declared.option.Option.{Option}
+use Rattle.std.specs.declared.option.Option.TheVariants.{Some, None}
 use Rattle.ari.specs.Name.{namespace_name, same_name}
-use Rattle.names.specs.declared.Wrong.{Wrong}
-use Rattle.names.specs.declared.Wrong.TheVariants.{Nowhere, At}
 use Rattle.names.specs.declared.Names.{Names}
 use Rattle.names.specs.declared.Names.TheVariants.{Passes, Refused}
 
@@ -40,12 +38,12 @@ in_name = other_than (code "=")
 unfoldable pub name_of : List ℕ → List ℕ
 name_of t = front in_name t
 
-unfoldable pub number_of : List ℕ → Number
+unfoldable pub number_of : List ℕ → Option ℕ
 number_of t = signed_of (drop 1 (past in_name t))
 
-abbrev pub is_number : Number → Bool
-is_number (Value n) = true
-is_number Bad = false
+abbrev pub is_number : Option ℕ → Bool
+is_number (Some n) = true
+is_number None = false
 
 -- R140: a namespace name, "=" and a plain decimal number in the range of ns
 unfoldable pub formed : List ℕ → Bool
@@ -72,7 +70,7 @@ unfoldable pub find_line : List ℕ → List ℕ → List ℕ → List ℕ
 find_line published own name = cond (is_own name) (found name (lines own)) (found name (lines published))
 
 -- the number that a name stands for, as two's complement
-unfoldable pub number_for : List ℕ → List ℕ → List ℕ → Number
+unfoldable pub number_for : List ℕ → List ℕ → List ℕ → Option ℕ
 number_for published own name = number_of (find_line published own name)
 
 -- R143: the first byte of the first line that is not well-formed, of lines from a place on
@@ -84,9 +82,9 @@ abbrev pub bad_from : ℕ → List Line → Place
 bad_from p [] = none
 bad_from p (l ∷ ls) = cond (well_formed l) (bad_from (p + (length l.text + 1)) ls) (at p)
 
-abbrev pub wrong_of : Place → Wrong
-wrong_of none = Nowhere
-wrong_of (at p) = At p
+abbrev pub wrong_of : Place → Option ℕ
+wrong_of none = None
+wrong_of (at p) = Some p
 
 -- the second list's bytes are counted on from the end of the first, as far as 64 bits go
 abbrev pub refused_at : Place → Names → Names

@@ -1,8 +1,8 @@
 -- What a listed namespace stands for under two lists: R146. Interface: stands_for, translate, translated. Private to src/: the others.
 use Rattle.std.specs.Prelude.{ℕ, zero, suc, ◌+◌, ◌*◌, cond, List, map, eqb}
 use Rattle.buffer.specs.Bytes.{load_at, store_at}
-use Rattle.buffer.specs.declared.Number.{Number}
-use Rattle.buffer.specs.declared.Number.TheVariants.{Value, Bad}
+use Rattle.std.specs.declared.option.Option.{Option}
+use Rattle.std.specs.declared.option.Option.TheVariants.{Some, None}
 use Rattle.ari.specs.Signed.{signed}
 use Rattle.ari.specs.Listing.{Space, number, name, relative, Entry, listing}
 use Rattle.listing.specs.declared.Namespace.{Namespace}
@@ -11,9 +11,9 @@ use Rattle.listing.specs.Entries.{string_in}
 use Rattle.names.specs.Names.{number_for}
 
 -- R146: a number stands for itself, a name for the number of its line; a name that has none, and a relative namespace, for no number
-abbrev pub numbered : Number → Space → Space
-numbered (Value w) x = number (signed w)
-numbered Bad x = x
+abbrev pub numbered : Option ℕ → Space → Space
+numbered (Some w) x = number (signed w)
+numbered None x = x
 
 abbrev pub stands_for : List ℕ → List ℕ → Space → Space
 stands_for published own (number z) = number z
@@ -28,9 +28,9 @@ abbrev pub translated : List ℕ → List ℕ → List ℕ → List Entry
 translated published own b = map (translate published own) (listing b)
 
 -- a namespace as the code has it, its name in the message b
-abbrev pub numbered_code : Number → Namespace → Namespace
-numbered_code (Value w) n = code.Number w
-numbered_code Bad n = n
+abbrev pub numbered_code : Option ℕ → Namespace → Namespace
+numbered_code (Some w) n = code.Number w
+numbered_code None n = n
 
 abbrev pub stands_by : List ℕ → List ℕ → List ℕ → Namespace → Namespace
 stands_by published own b (code.Number w) = code.Number w
@@ -41,9 +41,9 @@ stands_by published own b code.Relative = code.Relative
 abbrev pub name_kind : ℕ
 name_kind = 1
 
-abbrev pub renumbered : Number → List ℕ → ℕ → List ℕ
-renumbered (Value w) x at = store_at 8 (store_at 8 x (at + 8) 0) (at + 16) w
-renumbered Bad x at = x
+abbrev pub renumbered : Option ℕ → List ℕ → ℕ → List ℕ
+renumbered (Some w) x at = store_at 8 (store_at 8 x (at + 8) 0) (at + 16) w
+renumbered None x at = x
 
 unfoldable pub entry_translated : List ℕ → List ℕ → List ℕ → List ℕ → ℕ → List ℕ
 entry_translated published own b x at = cond (eqb (load_at 8 x (at + 8)) name_kind) (renumbered (number_for published own (string_in b (load_at 8 x (at + 16)))) x at) x

@@ -16,79 +16,60 @@ pub enum Names {
     Refused { place: u64 },
 }
 
-// The first byte of the first line that is not well-formed.
-#[derive(Clone, Copy)]
-pub enum Wrong {
-    Nowhere,
-    At(usize),
-}
-
-fn is_other(x: u8, stop: u8) -> bool
-    ensures { result ≡ other_than stop x }
-{
-    x != stop
-}
-
 // The place of the next byte of a kind, or the end.
 fn up_to(t: &[u8], from: usize, stop: u8) -> usize
     requires { from ≤ length t.now }
     ensures { RunTo (other_than stop) t.now from result }
 {
-    let mut i = from;
-    while i < t.len() {
-        if is_other(t[i], stop) {
-            i += 1;
-        } else {
+    for i in from..t.len() {
+        if t[i] == stop {
             return i;
         }
     }
-    i
+    t.len()
 }
 
-// The number of a line; Bad where there is no "=" or no number behind it.
-pub fn number_of(line: &[u8]) -> buffer::Number
+// The number of a line; None where there is no "=" or no number behind it.
+pub fn number_of(line: &[u8]) -> Option<u64>
     ensures { result ≡ number_of line.now }
 {
     let q = up_to(line, 0, b'=');
     let end = line.len();
     if q == end {
-        return buffer::Number::Bad;
+        return None;
     }
     buffer::signed(&line[q + 1..end])
 }
 
-fn is_number(n: buffer::Number) -> bool
+fn is_number(n: Option<u64>) -> bool
     ensures { result ≡ is_number n }
 {
     match n {
-        buffer::Number::Value(_) => true,
-        buffer::Number::Bad => false,
+        Some(_) => true,
+        None => false,
     }
 }
 
 // A line without its line feed is well-formed.
+#[tactic(auto, using(crate::proofs::Lines::line_ways))]
 fn is_formed(line: &[u8]) -> bool
     ensures { result ≡ formed line.now }
 {
     let q = up_to(line, 0, b'=');
-    if !grammar::is_namespace_name(&line[0..q]) {
-        return false;
-    }
-    is_number(number_of(line))
+    grammar::is_namespace_name(&line[..q]) && is_number(number_of(line))
 }
 
 // The names are compared first: most lines have another.
+#[tactic(auto, using(crate::proofs::Lines::line_ways))]
 fn is_match(line: &[u8], name: &[u8]) -> bool
     ensures { result ≡ matches name.now line.now }
 {
     let q = up_to(line, 0, b'=');
-    if !name_case::same_name(&line[0..q], name) {
-        return false;
-    }
-    is_formed(line)
+    name_case::same_name(&line[..q], name) && is_formed(line)
 }
 
 // The first line of a list that matches a name, without its line feed; an empty part if none does.
+#[tactic(auto, using(crate::proofs::Lines::search_ways))]
 fn find_in<'a>(list: &'a [u8], name: &[u8]) -> &'a [u8]
     ensures { result.now ≡ found name.now (lines list.now) }
 {
@@ -109,61 +90,59 @@ fn find_in<'a>(list: &'a [u8], name: &[u8]) -> &'a [u8]
 fn is_own(name: &[u8]) -> bool
     ensures { result ≡ is_own name.now }
 {
-    if name.len() == 0 {
-        return false;
-    }
-    name[0] == b'!'
+    name.starts_with(b"!")
 }
 
 // The line that a name has, as a part of whichever list holds it.
+#[tactic(auto, using(crate::proofs::Lines::search_ways))]
 pub fn find_line<'a>(published: &'a [u8], own: &'a [u8], name: &[u8]) -> &'a [u8]
     ensures { result.now ≡ find_line published.now own.now name.now }
 {
     if is_own(name) {
-        return find_in(own, name);
+        find_in(own, name)
+    } else {
+        find_in(published, name)
     }
-    find_in(published, name)
 }
 
 // The number that a name stands for.
-pub fn number_for<'a>(published: &'a [u8], own: &'a [u8], name: &[u8]) -> buffer::Number
+pub fn number_for<'a>(published: &'a [u8], own: &'a [u8], name: &[u8]) -> Option<u64>
     ensures { result ≡ number_for published.now own.now name.now }
 {
     number_of(find_line(published, own, name))
 }
 
-// The first line of a list that is not well-formed.
-fn first_wrong(list: &[u8]) -> Wrong
+// The first byte of the first line of a list that is not well-formed.
+#[tactic(auto, using(crate::proofs::Lines::check_ways))]
+fn first_wrong(list: &[u8]) -> Option<usize>
     ensures { result ≡ wrong_of (bad_from 0 (lines list.now)) }
 {
     let mut p = 0;
     while p < list.len() {
         let e = up_to(list, p, b'\n');
-        if e == list.len() {
-            return Wrong::At(p);
-        }
-        if !is_formed(&list[p..e]) {
-            return Wrong::At(p);
+        if e == list.len() || !is_formed(&list[p..e]) {
+            return Some(p);
         }
         p = e + 1;
     }
-    Wrong::Nowhere
+    None
 }
 
 // Test 19: each line of the two lists is well-formed.
+#[tactic(auto, using(crate::proofs::Lines::check_ways))]
 pub fn check_names(published: &[u8], own: &[u8]) -> Names
     ensures { result ≡ check_names published.now own.now }
 {
-    match first_wrong(published) {
-        Wrong::At(p) => Names::Refused {
-            place: buffer::saturating_add(0, p as u64),
+    if let Some(place) = first_wrong(published) {
+        return Names::Refused {
+            place: place as u64,
+        };
+    }
+    match first_wrong(own) {
+        Some(place) => Names::Refused {
+            place: (published.len() as u64).saturating_add(place as u64),
         },
-        Wrong::Nowhere => match first_wrong(own) {
-            Wrong::At(p) => Names::Refused {
-                place: buffer::saturating_add(published.len() as u64, p as u64),
-            },
-            Wrong::Nowhere => Names::Passes,
-        },
+        None => Names::Passes,
     }
 }
 
@@ -180,8 +159,8 @@ pub fn stands_for<'a>(
         Namespace::Number(word) => Namespace::Number(word),
         Namespace::Name { place, length } => {
             match number_for(published, own, listing::string_at(message, place)) {
-                buffer::Number::Value(word) => Namespace::Number(word),
-                buffer::Number::Bad => Namespace::Name { place, length },
+                Some(word) => Namespace::Number(word),
+                None => Namespace::Name { place, length },
             }
         }
         Namespace::Relative => Namespace::Relative,
@@ -196,11 +175,11 @@ const NAME: u64 = 1;
 
 const NUMBER: u64 = 0;
 
-fn renumber(number: buffer::Number, room: &mut [u8], at: usize)
+fn renumber(number: Option<u64>, room: &mut [u8], at: usize)
     requires { at + 24 ≤ length room.old }
     ensures { room.new ≡ renumbered number room.old at }
 {
-    if let buffer::Number::Value(word) = number {
+    if let Some(word) = number {
         buffer::store8(room, at + 8, NUMBER);
         buffer::store8(room, at + 16, word);
     }
@@ -224,6 +203,7 @@ fn translate_entry<'a>(
 }
 
 // The first entries of a message's listing as bytes, each with what its namespace stands for in its place: so many, or as many as are there.
+#[tactic(auto, using(crate::proofs::Translation::translations))]
 pub fn translate_entries<'a>(
     published: &'a [u8],
     own: &'a [u8],
@@ -233,10 +213,7 @@ pub fn translate_entries<'a>(
 )
     ensures { room.new ≡ entries_translated published.now own.now message.now 0 (min many (length room.old / 24)) room.old }
 {
-    let n = buffer::least(many, room.len() / ENTRY);
-    let mut i = 0;
-    while i < n {
+    for i in 0..many.min(room.len() / ENTRY) {
         translate_entry(published, own, message, room, ENTRY * i);
-        i += 1;
     }
 }

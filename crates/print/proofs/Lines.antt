@@ -6,7 +6,8 @@ use native.Mathlib.Omega.{arith}
 use native.Mathlib.Numerals.{add-one}
 use lib.ListN.{length, get_or}
 use borrow.Author.Tests.{le-leb, lt-leb}
-use Rattle.reader.specs.declared.Answer.{Answer}
+use Rattle.std.specs.declared.result.Result.{Result}
+use Rattle.ari.specs.declared.Refusal.{Refusal}
 use Rattle.item_records.specs.declared.Record.{Record}
 use Rattle.item_records.specs.declared.Targets.{Targets}
 use Rattle.item_records.specs.Records.{record_from}
@@ -22,7 +23,7 @@ fresh_here at room e h = rw (le-leb 256 (room - at) (omega arith))
 pub fresh_anew : (at room : ℕ) {l : ℕ} → l ≡ room - at → l < 256 → 0 ≡ fresh_of at room
 fresh_anew at room e h = rw (lt-leb 256 (room - at) (omega arith))
 
-pub of_answer : {a b : Answer} {xs ys : List ℕ} {p q r : ℕ} → a ≡ b → p ≡ q → Put xs ys p r (answer_line b) → Put xs ys q r (answer_line a)
+pub of_answer : {a b : Result ℕ Refusal} {xs ys : List ℕ} {p q r : ℕ} → a ≡ b → p ≡ q → Put xs ys p r (answer_line b) → Put xs ys q r (answer_line a)
 of_answer e f h = rw (e, ← f) h
 
 pub of_item : (s : List ℕ) (t : Targets) (e k : ℕ) (indent : List ℕ) {x : Record} {p q r : ℕ} {xs ys : List ℕ} → x ≡ record_from s t e → p ≡ q

@@ -6,21 +6,22 @@ ghost use Rattle.std.specs.Prelude.{◌≡◌, ◌++◌, ◌-◌, min, max, leng
 ghost use Rattle.buffer.specs.Put.{Put};
 ghost use Rattle.buffer.specs.Decimal.{decimal};
 ghost use Rattle.print.specs.Texts.{repeated, hex_of, negative_of, simple_of, literal_of, container_of, kind_of, target_of, numbers_of, line_of, refused_of, accepted_of, field_of};
+ghost use Rattle.ari.specs.Refusals.{number_of};
 ghost use Rattle.item_records.specs.Records.{record_from};
 ghost use Rattle.print.specs.Items.{fresh_of, answer_line, Listed};
 ghost use Rattle.print.specs.Integers.{integer_of};
 ghost use Rattle.print.specs.Entries.{name_of, space_of, entry_line, entry_of};
 ghost use Rattle.cbor.specs.Answer.{head_at};
 
+use ari::Refusal;
+
 // A text, so many times.
 pub fn repeat(out: &mut [u8], at: usize, text: &[u8], times: usize) -> usize
     ensures { Put out.old out.new at result (repeated times text.now) }
 {
     let mut p = at;
-    let mut i = 0;
-    while i < times {
+    for _ in 0..times {
         p = buffer::put_all(out, p, text);
-        i += 1;
     }
     p
 }
@@ -124,24 +125,24 @@ pub fn field(out: &mut [u8], at: usize, n: u64) -> usize
 }
 
 // The number of a target or report, or a hyphen, and a space.
-fn target_number(out: &mut [u8], at: usize, t: &ari::Target) -> usize
-    ensures { Put out.old out.new at result (target_of t.now) }
+fn target_number(out: &mut [u8], at: usize, t: ari::Target) -> usize
+    ensures { Put out.old out.new at result (target_of t) }
 {
     match t {
         ari::Target::None => buffer::put_all(out, at, b"- "),
-        ari::Target::Number(n) => field(out, at, *n),
+        ari::Target::Number(n) => field(out, at, n),
     }
 }
 
 // The numbers of an item's line.
-fn numbers(out: &mut [u8], at: usize, k: usize, x: &item_records::Record) -> usize
-    ensures { Put out.old out.new at result (numbers_of k x.now) }
+fn numbers(out: &mut [u8], at: usize, k: usize, x: item_records::Record) -> usize
+    ensures { Put out.old out.new at result (numbers_of k x) }
 {
     let a = field(out, at, k as u64);
     let b = field(out, a, x.first as u64);
     let c = field(out, b, x.after as u64);
     let d = field(out, c, x.around as u64);
-    target_number(out, d, &x.target)
+    target_number(out, d, x.target)
 }
 
 // An item's line: its number, first byte, byte after, containers around, target or report, kind. The indent stands before the kind, once for each
@@ -149,20 +150,19 @@ fn numbers(out: &mut [u8], at: usize, k: usize, x: &item_records::Record) -> usi
 pub fn item(out: &mut [u8], at: usize, k: usize, x: item_records::Record, indent: &[u8]) -> usize
     ensures { Put out.old out.new at result (line_of k x indent.now) }
 {
-    let a = numbers(out, at, k, &x);
+    let a = numbers(out, at, k, x);
     let b = repeat(out, a, indent, x.around);
-    let g = x.kind;
-    let c = kind(out, b, g);
+    let c = kind(out, b, x.kind);
     buffer::put(out, c, b'\n')
 }
 
 // The line of a refusal.
-pub fn refused(out: &mut [u8], at: usize, number: u8, place: usize) -> usize
-    ensures { Put out.old out.new at result (refused_of number place) }
+pub fn refused(out: &mut [u8], at: usize, refusal: Refusal) -> usize
+    ensures { Put out.old out.new at result (refused_of (number_of refusal.fault) refusal.place) }
 {
     let a = buffer::put_all(out, at, b"refused ");
-    let b = field(out, a, number as u64);
-    let c = buffer::put_decimal(out, b, place as u64);
+    let b = field(out, a, refusal.fault.number() as u64);
+    let c = buffer::put_decimal(out, b, refusal.place as u64);
     buffer::put(out, c, b'\n')
 }
 
@@ -176,10 +176,7 @@ pub fn accepted(out: &mut [u8], at: usize, count: usize) -> usize
 
 // Writes the part of the buffer before a place to standard output.
 pub fn flush(out: &[u8], at: usize) -> bool {
-    if at < out.len() {
-        return io::write_all(1, &out[0..at]);
-    }
-    io::write_all(1, out)
+    io::write_all(1, &out[..at.min(out.len())])
 }
 
 // The room that is kept for a line: no line of an item or an answer is longer.
@@ -189,10 +186,7 @@ const LINE: usize = 256;
 fn left(out: &[u8], at: usize) -> usize
     ensures { result ≡ length out.now - at }
 {
-    if at < out.len() {
-        return out.len() - at;
-    }
-    0
+    out.len().saturating_sub(at)
 }
 
 // A place with room for a line: where too little is left, what stands there is written out first.
@@ -212,18 +206,14 @@ fn item_line(
     at: usize,
     s: &[u8],
     k: usize,
-    targets: &item_records::Targets,
+    targets: item_records::Targets,
     entry: u64,
     indent: &[u8],
 ) -> usize
-    ensures { Put out.old out.new (fresh_of at (length out.old)) result (line_of k (record_from s.now targets.now entry) indent.now) }
+    ensures { Put out.old out.new (fresh_of at (length out.old)) result (line_of k (record_from s.now targets entry) indent.now) }
 {
     let p = fresh_line(out, at);
-    let before = item_records::Targets {
-        count: targets.count,
-        end: targets.end,
-    };
-    let x = item_records::record_of(s, before, entry);
+    let x = item_records::record_of(s, targets, entry);
     item(out, p, k, x, indent)
 }
 
@@ -232,24 +222,22 @@ pub fn items(out: &mut [u8], at: usize, s: &[u8], entries: &[u64], indent: &[u8]
     ensures { Listed s.now entries.now indent.now out.old at (length entries.now) out.new result }
 {
     let mut p = at;
-    let mut k = 0;
     let mut targets = item_records::NO_TARGETS;
-    while k < entries.len() {
-        targets = item_records::pass(targets, entries[k]);
-        p = item_line(out, p, s, k, &targets, entries[k], indent);
-        k += 1;
+    for (k, &entry) in entries.iter().enumerate() {
+        targets = item_records::pass(targets, entry);
+        p = item_line(out, p, s, k, targets, entry, indent);
     }
     p
 }
 
 // The line of an answer.
-pub fn answer(out: &mut [u8], at: usize, a: reader::Answer) -> usize
+pub fn answer(out: &mut [u8], at: usize, a: Result<usize, Refusal>) -> usize
     ensures { Put out.old out.new (fresh_of at (length out.old)) result (answer_line a) }
 {
     let p = fresh_line(out, at);
     match a {
-        reader::Answer::Accepted(n) => accepted(out, p, n),
-        reader::Answer::Refused { number, place } => refused(out, p, number, place),
+        Ok(n) => accepted(out, p, n),
+        Err(refusal) => refused(out, p, refusal),
     }
 }
 
@@ -324,16 +312,9 @@ pub fn entry(out: &mut [u8], at: usize, s: &[u8], listing: &[u8], from: usize) -
 // The lines of a listing's first entries.
 fn entries(out: &mut [u8], at: usize, s: &[u8], listing: &[u8], listed: usize) -> usize {
     let mut p = at;
-    let mut k = 0;
-    let mut from = 0;
-    while k < listed {
-        if left(listing, from) < 24 {
-            return p;
-        }
+    for bytes in listing.chunks_exact(24).take(listed) {
         p = fresh_line(out, p);
-        p = entry(out, p, s, listing, from);
-        from += 24;
-        k += 1;
+        p = entry(out, p, s, bytes, 0);
     }
     p
 }
@@ -353,13 +334,13 @@ pub fn references(out: &mut [u8], s: &[u8], listing: &[u8], listed: usize, count
 }
 
 // Writes a refusal to standard output.
-pub fn refusal(out: &mut [u8], number: u8, place: usize) {
-    let p = refused(out, 0, number, place);
+pub fn refusal(out: &mut [u8], refusal: Refusal) {
+    let p = refused(out, 0, refusal);
     flush(out, p);
 }
 
 // The same for a program that lends no buffer.
-pub fn send_refusal(number: u8, place: usize) {
+pub fn send_refusal(refused: Refusal) {
     let mut out = io::buffer();
-    refusal(&mut out, number, place);
+    refusal(&mut out, refused);
 }

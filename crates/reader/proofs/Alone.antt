@@ -13,8 +13,6 @@ use mir.Syntax.{w64}
 use mir.Val.{Fits}
 use borrow.Author.Tests.{eqb-false, ltb-true, ltb-false, ne_eqb, eq-eqb}
 use Rattle.buffer.specs.Bytes.{all, is_byte, part}
-use Rattle.buffer.proofs.ByteLaws.{past}
-use Rattle.cbor.specs.Byte.{below}
 use Rattle.cbor.specs.Head.{text, Lead, size, lead_bytes, Got, bad, got, get_head, string_size, is_container, short_bytes, key_bytes, key_of}
 use Rattle.cbor.specs.declared.Head.{Head}
 use Rattle.cbor.specs.declared.Head.TheVariants.{Bad, Good}
@@ -26,19 +24,23 @@ use Rattle.ari.specs.Items as items
 use Rattle.ari.specs.Due.{Due}
 use Rattle.ari.specs.Reader.{wrong_version, not_greater, is_empty, judge, judge_content, judge_got, Dues, end, sets, frame, push, behind, refuse, take_step, visit, run}
 use Rattle.ari.specs.Reader as reader
-use Rattle.ari.proofs.Central.{Judged, judged}
+use Rattle.ari.proofs.Central.{judged}
 use Rattle.ari.proofs.Prefix.{taken_fits}
 use Rattle.grammar.specs.Code.{slot_of, IsSlot, fits_code}
 use Rattle.grammar.proofs.Right.{no_slot}
-use Rattle.reader.specs.declared.Step.{Step}
-use Rattle.reader.specs.declared.Step.TheVariants.{Taken, Refused}
-use Rattle.reader.specs.declared.Walk.{Walk}
-use Rattle.reader.specs.declared.Walk.TheVariants as walk
 use Rattle.reader.specs.Steps.{step_answer, step_at, Bounded}
-use Rattle.reader.specs.Walks.{head_walk, first_of, unwalked_of, Tables, Held, Walked, after_walk}
+use Rattle.reader.specs.Walks.{end_of_head, first_of, Tables, Held, Walked, after_walk}
 use Rattle.reader.proofs.Walking.{Took, took, stopped, runs_in}
 use Rattle.reader.proofs.Keys.{ordered_kind}
 use Rattle.reader.proofs.Loop.{key_part}
+use Rattle.std.specs.declared.result.Result.{Result}
+use Rattle.std.specs.declared.result.Result.TheVariants.{Ok, Err}
+use Rattle.ari.specs.declared.Refusal.{Refusal}
+use Rattle.ari.specs.Refusals.{refused}
+use Rattle.reader.specs.declared.Taken.{Taken}
+use Rattle.reader.specs.declared.Read.{Read}
+use Rattle.reader.specs.Steps.{taken}
+use Rattle.reader.specs.Results.{result_of}
 
 -- a key is greater than none
 key_greater : (o : ExtraTest) (l : Lead) (str : List ℕ) → not_greater o [] (key_bytes l str) ≡ false
@@ -85,21 +87,25 @@ judge_after left d s prev l r =
     go false false false false false false true x h = rw (h refl)
     go false false false false false false false x h = refl
 
-not_taken : {k a q r x : ℕ} → Taken k a q ≡ Refused r x → ⊥
+not_taken : {k a q : ℕ} {f : Refusal} → taken k a q ≡ Err f → ⊥
 not_taken e = let z : ◌≡◌ {A = ℕ} 0 1 = cc in omega arith
+
+-- a refusal's place
+place_is : {A : Type 0} {g f : Refusal} → ◌≡◌ {A = Result A Refusal} (Err g) (Err f) → f.place ≡ g.place
+place_is {A} {g} {f} e = let z : g ≡ f = cc in ap (λ (x : Refusal). x.place) (sym z)
 
 module _ (b : List ℕ) (p : ℕ) (s : Slot) (prev : List ℕ) (left d : ℕ) where
   -- a refusal is that after any key
-  pub refused_after : {r x : ℕ} → step_at b p s [] left d ≡ Refused r x → Refused r x ≡ step_at b p s prev left d
+  pub refused_after : {f : Refusal} → step_at b p s [] left d ≡ Err f → Err f ≡ step_at b p s prev left d
   unfolding step_at judge_got
-  refused_after {r} {x} e = go (get_head (drop p b)) refl e
+  refused_after {f} e = go (get_head (drop p b)) refl e
     where
-      go : (y : Got) → get_head (drop p b) ≡ y → step_answer p (judge_got left d s [] y (drop p b)) ≡ Refused r x → Refused r x ≡ step_answer p (judge_got left d s prev y (drop p b))
+      go : (y : Got) → get_head (drop p b) ≡ y → step_answer p (judge_got left d s [] y (drop p b)) ≡ Err f → Err f ≡ step_answer p (judge_got left d s prev y (drop p b))
       go (bad r') g e = sym e
       go (got l) g e = by (judge left d s [] l (drop (size l) (drop p b))) refl e
         where
-          by : (z : reader.Step) → judge left d s [] l (drop (size l) (drop p b)) ≡ z → step_answer p z ≡ Refused r x
-              → Refused r x ≡ step_answer p (judge left d s prev l (drop (size l) (drop p b)))
+          by : (z : reader.Step) → judge left d s [] l (drop (size l) (drop p b)) ≡ z → step_answer p z ≡ Err f
+              → Err f ≡ step_answer p (judge left d s prev l (drop (size l) (drop p b)))
           by (reader.no r') j e = rw (judge_after left d s prev l (drop (size l) (drop p b)), j) (sym e)
           by (reader.yes k str) j e = absurd (not_taken e)
 
@@ -125,15 +131,15 @@ module _ (b : List ℕ) (p : ℕ) (s : Slot) (prev : List ℕ) (left d : ℕ) wh
         go rising e = rw (key_own bs e)
         go filled e = refl
 
-    pub fallen : all is_byte b ≡ true → {x : Bool} → x ≡ not_greater (rule s).extra prev (key_of (part b p q)) → x ≡ true → Refused 11 p ≡ step_at b p s prev left d
+    pub fallen : all is_byte b ≡ true → {x : Bool} → x ≡ not_greater (rule s).extra prev (key_of (part b p q)) → x ≡ true → refused 11 p ≡ step_at b p s prev left d
     fallen bs e t = rw (after_is, same_order bs, sym e ∙ t)
 
-    pub risen : all is_byte b ≡ true → {x : Bool} → x ≡ not_greater (rule s).extra prev (key_of (part b p q)) → x ≡ false → Taken k a q ≡ step_at b p s prev left d
-    risen bs e t = rw (after_is, same_order bs, sym e ∙ t, tk.kind_is, tk.arg_is) (ap (Taken k a) (sym tk.after_is))
+    pub risen : all is_byte b ≡ true → {x : Bool} → x ≡ not_greater (rule s).extra prev (key_of (part b p q)) → x ≡ false → taken k a q ≡ step_at b p s prev left d
+    risen bs e t = rw (after_is, same_order bs, sym e ∙ t, tk.kind_is, tk.arg_is) (ap (taken k a) (sym tk.after_is))
 
 -- what a head that was taken has shown
 module _ (b : List ℕ) (p c items d i : ℕ) (prev : List ℕ) where
-  pub taken_bounded : {k a q : ℕ} → Took b p (items - c) d (slot_of i) prev k a q → k ≤ 9 → Bounded b p c items d i (Taken k a q)
+  pub taken_bounded : {k a q : ℕ} → Took b p (items - c) d (slot_of i) prev k a q → k ≤ 9 → Bounded b p c items d i (taken k a q)
   unfolding fits_code
   taken_bounded {k} {a} {q} tk kk =
       let n : items - c ≡ 0 → ⊥ = eqb-false (items - c) 0 tk.passed.spare in
@@ -148,20 +154,20 @@ module _ (b : List ℕ) (p c items d i : ℕ) (prev : List ℕ) where
       )
 
 -- The walk over the head alone, and the head looked at again.
-module _ (b : List ℕ) (p i count items d : ℕ) {w : Walk} (e : w ≡ head_walk (step_at b p (slot_of i) [] (items - count) d)) where
+module _ (b : List ℕ) (p i count items d : ℕ) {w : Result ℕ Refusal} (e : w ≡ end_of_head (step_at b p (slot_of i) [] (items - count) d)) where
   abbrev left : ℕ
   left = items - count
 
-  taken_at : {q n k a nx : ℕ} → w ≡ walk.Read q n → {h : Head} → h ≡ head_at b p → h ≡ Good k a nx → step_at b p (slot_of i) [] left d ≡ Taken k a q
+  taken_at : {q k a nx : ℕ} → w ≡ Ok q → {h : Head} → h ≡ head_at b p → h ≡ Good k a nx → step_at b p (slot_of i) [] left d ≡ taken k a q
   unfolding head_at step_at judge_got
-  taken_at {q} {n} {k} {a} {nx} g {h} eh gh = go (get_head (drop p b)) refl (sym gh ∙ eh) (sym e ∙ g)
+  taken_at {q} {k} {a} {nx} g {h} eh gh = go (get_head (drop p b)) refl (sym gh ∙ eh) (sym e ∙ g)
     where
-      go : (y : Got) → get_head (drop p b) ≡ y → Good k a nx ≡ answer p y → head_walk (step_answer p (judge_got left d (slot_of i) [] y (drop p b))) ≡ walk.Read q n
-          → step_answer p (judge_got left d (slot_of i) [] y (drop p b)) ≡ Taken k a q
+      go : (y : Got) → get_head (drop p b) ≡ y → Good k a nx ≡ answer p y → end_of_head (step_answer p (judge_got left d (slot_of i) [] y (drop p b))) ≡ Ok q
+          → step_answer p (judge_got left d (slot_of i) [] y (drop p b)) ≡ taken k a q
       go (bad r) gy u v = absurd (let z : ◌≡◌ {A = ℕ} 0 1 = cc in omega arith)
       go (got l) gy u v = by (judge left d (slot_of i) [] l (drop (size l) (drop p b))) refl v
         where
-          by : (z : reader.Step) → judge left d (slot_of i) [] l (drop (size l) (drop p b)) ≡ z → head_walk (step_answer p z) ≡ walk.Read q n → step_answer p z ≡ Taken k a q
+          by : (z : reader.Step) → judge left d (slot_of i) [] l (drop (size l) (drop p b)) ≡ z → end_of_head (step_answer p z) ≡ Ok q → step_answer p z ≡ taken k a q
           by (reader.no r) j v = absurd (let z : ◌≡◌ {A = ℕ} 0 1 = cc in omega arith)
           by (reader.yes m str) j v =
               let (x, _) = judged left d (slot_of i) [] l (drop (size l) (drop p b)) j in
@@ -170,49 +176,42 @@ module _ (b : List ℕ) (p i count items d : ℕ) {w : Walk} (e : w ≡ head_wal
               let eq : p + (size m + length str) ≡ q = cc in
               rw (ek, ea, x, ← eq)
 
-  pub no_read : {q n r : ℕ} → w ≡ walk.Read q n → {h : Head} → h ≡ head_at b p → h ≡ Bad r → ⊥
+  pub no_read : {q r : ℕ} → w ≡ Ok q → {h : Head} → h ≡ head_at b p → h ≡ Bad r → ⊥
   unfolding head_at step_at judge_got
-  no_read {q} {n} {r} g {h} eh gh = go (get_head (drop p b)) (sym gh ∙ eh) (sym e ∙ g)
+  no_read {q} {r} g {h} eh gh = go (get_head (drop p b)) (sym gh ∙ eh) (sym e ∙ g)
     where
-      go : (y : Got) → Bad r ≡ answer p y → head_walk (step_answer p (judge_got left d (slot_of i) [] y (drop p b))) ≡ walk.Read q n → ⊥
+      go : (y : Got) → Bad r ≡ answer p y → end_of_head (step_answer p (judge_got left d (slot_of i) [] y (drop p b))) ≡ Ok q → ⊥
       go (bad r') u v = let z : ◌≡◌ {A = ℕ} 0 1 = cc in omega arith
       go (got l) u v = let z : ◌≡◌ {A = ℕ} 0 1 = cc in omega arith
 
-  refused_at : {r x : ℕ} → w ≡ walk.Refused r x → step_at b p (slot_of i) [] left d ≡ Refused r x
-  refused_at {r} {x} g = go (step_at b p (slot_of i) [] left d) (sym e ∙ g)
+  refused_at : {f : Refusal} → w ≡ Err f → step_at b p (slot_of i) [] left d ≡ Err f
+  refused_at {f} g = go (step_at b p (slot_of i) [] left d) (sym e ∙ g)
     where
-      go : (y : Step) → head_walk y ≡ walk.Refused r x → y ≡ Refused r x
-      go (Taken k a q) v = absurd (let z : ◌≡◌ {A = ℕ} 0 1 = cc in omega arith)
-      go (Refused r' x') v = cc
+      go : (y : Result Taken Refusal) → end_of_head y ≡ Err f → y ≡ Err f
+      go (Ok t) v = absurd (let z : ◌≡◌ {A = ℕ} 0 1 = cc in omega arith)
+      go (Err f') v = cc
 
   module _ (prev : List ℕ) where
-    pub take_refused : {r x : ℕ} → w ≡ walk.Refused r x → {y : Step} → y ≡ unwalked_of w → y ≡ step_at b p (slot_of i) prev left d
-    take_refused g u = u ∙ rw g (refused_after b p (slot_of i) prev left d (refused_at g))
+    pub take_refused : {f : Refusal} → w ≡ Err f → Err f ≡ step_at b p (slot_of i) prev left d
+    take_refused g = refused_after b p (slot_of i) prev left d (refused_at g)
 
-    module _ {q n : ℕ} (g : w ≡ walk.Read q n) {h : Head} (eh : h ≡ head_at b p) where
-      pub take_none : {r : ℕ} → h ≡ Bad r → {y z : Step} → y ≡ z
+    module _ {q : ℕ} (g : w ≡ Ok q) {h : Head} (eh : h ≡ head_at b p) where
+      pub take_none : {r : ℕ} → h ≡ Bad r → {y z : Result Taken Refusal} → y ≡ z
       take_none gh = absurd (no_read g eh gh)
 
       module _ {k a nx : ℕ} (gh : h ≡ Good k a nx) (bs : all is_byte b ≡ true) {x : Bool} (ex : x ≡ not_greater (rule (slot_of i)).extra prev (key_of (part b p q))) where
         abbrev tk : Took b p left d (slot_of i) [] k a q
         tk = took b p left d (slot_of i) [] k a q (taken_at g eh gh)
 
-        pub take_falls : x ≡ true → Refused 11 p ≡ step_at b p (slot_of i) prev left d
+        pub take_falls : x ≡ true → refused 11 p ≡ step_at b p (slot_of i) prev left d
         take_falls t = fallen b p (slot_of i) prev left d tk bs ex t
 
-        pub take_rises : x ≡ false → Taken k a q ≡ step_at b p (slot_of i) prev left d
+        pub take_rises : x ≡ false → taken k a q ≡ step_at b p (slot_of i) prev left d
         take_rises t = risen b p (slot_of i) prev left d tk bs ex t
 
-  unread : (y : Walk) {r x : ℕ} → y ≡ walk.Refused r x → Bounded b p count items d i (unwalked_of y)
-  unread (walk.Refused r' x') g = tt
-  unread (walk.Read q n) g = tt
-
-  pub refused_bounded : {r x : ℕ} → w ≡ walk.Refused r x → {y : Step} → y ≡ unwalked_of w → Bounded b p count items d i y
-  refused_bounded g u = rw u (unread w g)
-
-  module _ {q n : ℕ} (g : w ≡ walk.Read q n) {h : Head} (eh : h ≡ head_at b p) where
+  module _ {q : ℕ} (g : w ≡ Ok q) {h : Head} (eh : h ≡ head_at b p) where
     module _ {k a nx : ℕ} (gh : h ≡ Good k a nx) where
-      pub alone_bounded : k ≤ 9 → Bounded b p count items d i (Taken k a q)
+      pub alone_bounded : k ≤ 9 → Bounded b p count items d i (taken k a q)
       alone_bounded kk = taken_bounded b p count items d i [] (took b p left d (slot_of i) [] k a q (taken_at g eh gh)) kk
 
       shown : k ≤ 9 → (p < q) × (q ≤ length b)
@@ -224,11 +223,11 @@ module _ (b : List ℕ) (p i count items d : ℕ) {w : Walk} (e : w ≡ head_wal
       pub ends_in : k ≤ 9 → q ≤ length b
       ends_in kk = (shown kk).1
 
-pub ruleset alone_ways = (take_refused, take_none, take_falls, take_rises, refused_bounded, alone_bounded)
+pub ruleset alone_ways = (take_refused, take_none, take_falls, take_rises, alone_bounded)
 
 -- the walk's own answer, where it is asked for one head
 module _ (b : List ℕ) (p i count items d : ℕ) where
-  pub past_end : length b < p → walk.Refused 2 p ≡ head_walk (step_at b p (slot_of i) [] (items - count) d)
+  pub past_end : length b < p → refused 2 p ≡ end_of_head (step_at b p (slot_of i) [] (items - count) d)
   unfolding step_at judge_got get_head
   past_end h = rw (nothing b p (omega arith))
     where
@@ -239,18 +238,18 @@ module _ (b : List ℕ) (p i count items d : ℕ) where
       nothing (x ∷ b) (suc p) h = nothing b p (omega arith)
 
 -- A walk that may take no head more stops where it is.
-no_more : (s : Slot) (n : ℕ) (prev : List ℕ) (d : ℕ) (ds : Dues) (q : ℕ) (b : List ℕ) (g : Got) → get_head b ≡ g → (z : reader.Step) → judge_got 0 d s prev g b ≡ z → {r y : ℕ}
-    → take_step (λ _ p _. refuse 5 p) s n prev d ds q b z ≡ refuse r y → y ≡ q
+no_more : (s : Slot) (n : ℕ) (prev : List ℕ) (d : ℕ) (ds : Dues) (q : ℕ) (b : List ℕ) (g : Got) → get_head b ≡ g → (z : reader.Step) → judge_got 0 d s prev g b ≡ z → {f : Refusal}
+    → result_of (take_step (λ _ p _. refuse 5 p) s n prev d ds q b z) ≡ Err f → f.place ≡ q
 unfolding take_step judge_got
-no_more s n prev d ds q b g e (reader.no r') j f = cc
+no_more s n prev d ds q b g e (reader.no r') j f = place_is f
 no_more s n prev d ds q b (bad r') e (reader.yes l str) j f = absurd (let z : ◌≡◌ {A = ℕ} 0 1 = cc in omega arith)
 no_more s n prev d ds q b (got m) e (reader.yes l str) j f =
     absurd (true≢false (judged 0 d s prev m (drop (size m) b) j).1.spare)
 
-stays : (ds : Dues) (q : ℕ) (b : List ℕ) {r y : ℕ} → run 0 ds q b ≡ refuse r y → y ≡ q
+stays : (ds : Dues) (q : ℕ) (b : List ℕ) {f : Refusal} → result_of (run 0 ds q b) ≡ Err f → f.place ≡ q
 unfolding run visit
 stays end q [] e = absurd (let z : ◌≡◌ {A = ℕ} 0 1 = cc in omega arith)
-stays end q (x ∷ b) e = cc
+stays end q (x ∷ b) e = place_is e
 stays (sets d) q [] e = absurd (let z : ◌≡◌ {A = ℕ} 0 1 = cc in omega arith)
 stays (sets d) q (x ∷ b) e = no_more (ari message) 0 [] d (sets d) q (x ∷ b) (get_head (x ∷ b)) refl _ refl e
 stays (frame s n prev d ds) q b e = no_more s n prev d ds q b (get_head b) refl _ refl e
@@ -289,37 +288,37 @@ module _ (b : List ℕ) (bs : all is_byte b ≡ true) (p d : ℕ) (s : Slot) (c 
         let u : length (encode (item l str ms rs)) ≡ size l + length str = rw (em, er) (simp length-append (omega (arith, length_lead l))) in
         omega (arith, h, u, ls, ap string_size el, ap size el, lt, tk.after_is)
 
-    took_first : (w : Walk) {t t' : Tables} → Walked b most (due s 0) [] d 0 p c w t t' → first_of p w ≡ walk.Read q₀ 1
-    took_first (walk.Read q n) v = let h = v.held.0 in ap (λ (x : ℕ). walk.Read x 1) (same_end h.tree h.fit h.bytes h.place h.count v.held.2)
-    took_first (walk.Refused r x) v =
-        let e : run (most - suc c) (push (members s tk.lead) [] (pred d) (behind s tk.lead tk.str 0 [] d end)) q₀ (drop q₀ b) ≡ refuse r x
-        = sym (runs_in b bs most s 0 [] d 0 p c k a q₀ tk end) ∙ v.runs end in
-        let y : x ≡ q₀ = stays _ q₀ (drop q₀ b) (rw one_left at e) in
-        let n : x ≡ p → ⊥ = λ g. omega (arith, ahead) in
-        rw (ne_eqb x p n, y)
+    took_first : (w : Result Read Refusal) {t t' : Tables} → Walked b most (due s 0) [] d 0 p c w t t' → first_of p w ≡ Ok q₀
+    took_first (Ok x) v = let h = v.held.0 in ap (λ (y : ℕ). Ok y) (same_end h.tree h.fit h.bytes h.place h.count v.held.2)
+    took_first (Err f) v =
+        let e : result_of (run (most - suc c) (push (members s tk.lead) [] (pred d) (behind s tk.lead tk.str 0 [] d end)) q₀ (drop q₀ b)) ≡ Err f
+        = ap result_of (sym (runs_in b bs most s 0 [] d 0 p c k a q₀ tk end)) ∙ v.runs end in
+        let y : f.place ≡ q₀ = stays _ q₀ (drop q₀ b) (rw one_left at e) in
+        let n : f.place ≡ p → ⊥ = λ g. omega (arith, ahead) in
+        rw (ne_eqb f.place p n, y)
 
-  refused_first : (w : Walk) {t t' : Tables} → Walked b most (due s 0) [] d 0 p c w t t' → {r x : ℕ} → step_at b p s [] (most - c) d ≡ Refused r x → x ≡ p → first_of p w ≡ walk.Refused r x
-  refused_first w {t} {t'} v {r} {x} e ex = go w v (sym (v.runs end) ∙ (stopped b most s 0 [] d 0 p c r x t t' e).runs end)
+  refused_first : (w : Result Read Refusal) {t t' : Tables} → Walked b most (due s 0) [] d 0 p c w t t' → {f : Refusal} → step_at b p s [] (most - c) d ≡ Err f → f.place ≡ p → first_of p w ≡ Err f
+  refused_first w {t} {t'} v {f} e ex = go w v (sym (v.runs end) ∙ (stopped b most s 0 [] d 0 p c f t t' e).runs end)
     where
-      go : (w : Walk) {t t' : Tables} → Walked b most (due s 0) [] d 0 p c w t t' → after_walk b most w end ≡ refuse r x → first_of p w ≡ walk.Refused r x
-      go (walk.Refused r' x') v f = let er : r' ≡ r = cc in let e' : x' ≡ x = cc in rw (eq-eqb x' p (e' ∙ ex), er, e')
-      go (walk.Read q n) v f =
+      go : (w : Result Read Refusal) {t t' : Tables} → Walked b most (due s 0) [] d 0 p c w t t' → after_walk b most w end ≡ Err f → first_of p w ≡ Err f
+      go (Err f') v g = let z : f' ≡ f = cc in rw (z, eq-eqb f.place p ex)
+      go (Ok x) v g =
           let h = beyond v.held.0 in
-          let z : most - n ≡ 0 = omega (arith, h.1) in
-          let y : x ≡ q = stays end q (drop q b) (rw z at f) in
+          let z : most - x.count ≡ 0 = omega (arith, h.1) in
+          let y : f.place ≡ x.next = stays end x.next (drop x.next b) (rw z at g) in
           absurd (omega (arith, h.0))
 
-  pub first_head : {w : Walk} {t t' : Tables} → Walked b most (due s 0) [] d 0 p c w t t' → first_of p w ≡ head_walk (step_at b p s [] (most - c) d)
+  pub first_head : {w : Result Read Refusal} {t t' : Tables} → Walked b most (due s 0) [] d 0 p c w t t' → first_of p w ≡ end_of_head (step_at b p s [] (most - c) d)
   unfolding step_at
   first_head {w} v = go (step_at b p s [] (most - c) d) refl
     where
-      placed : (y : reader.Step) {r x : ℕ} → step_answer p y ≡ Refused r x → x ≡ p
-      placed (reader.no r') e = cc
+      placed : (y : reader.Step) {f : Refusal} → step_answer p y ≡ Err f → f.place ≡ p
+      placed (reader.no r') e = place_is e
       placed (reader.yes l str) e = absurd (let z : ◌≡◌ {A = ℕ} 0 1 = cc in omega arith)
 
-      go : (y : Step) → step_at b p s [] (most - c) d ≡ y → first_of p w ≡ head_walk y
-      go (Taken k a q₀) e = took_first (took b p (most - c) d s [] k a q₀ e) w v
-      go (Refused r x) e = refused_first w v e (placed (judge_got (most - c) d s [] (get_head (drop p b)) (drop p b)) e)
+      go : (y : Result Taken Refusal) → step_at b p s [] (most - c) d ≡ y → first_of p w ≡ end_of_head y
+      go (Ok t) e = took_first (took b p (most - c) d s [] t.kind t.arg t.after e) w v
+      go (Err f) e = refused_first w v e (placed (judge_got (most - c) d s [] (get_head (drop p b)) (drop p b)) e)
 
 -- test 5 asks only whether one more may come
 any_left : (b : List ℕ) (p : ℕ) (s : Slot) (d left left' : ℕ) → eqb left 0 ≡ eqb left' 0 → step_at b p s [] left d ≡ step_at b p s [] left' d
@@ -331,12 +330,12 @@ any_left b p s d left left' e = ap (step_answer p) (go (get_head (drop p b)))
     go (got l) = rw e
 
 pub one_head : (b : List ℕ) → all is_byte b ≡ true → (p i count items d j : ℕ) {c most : ℕ} → slot_of j ≡ slot_of i → c ≡ min count items → {more : ℕ} → more ≡ min (c + 1) 18446744073709551615
-    → most ≡ min items more → Fits w64 items → {w : Walk} {t t' : Tables} → Walked b most (due (slot_of j) 0) [] d 0 p c w t t' → {r : Walk} → r ≡ first_of p w
-    → r ≡ head_walk (step_at b p (slot_of i) [] (items - count) d)
+    → most ≡ min items more → Fits w64 items → {w : Result Read Refusal} {t t' : Tables} → Walked b most (due (slot_of j) 0) [] d 0 p c w t t' → {r : Result ℕ Refusal} → r ≡ first_of p w
+    → r ≡ end_of_head (step_at b p (slot_of i) [] (items - count) d)
 one_head b bs p i count items d j {c} {most} ej ec {more} em el fit v er =
     let few : most ≤ c + 1 = omega (arith, el, em, min-le_right items more, min-le_left (c + 1) 18446744073709551615) in
     let e : step_at b p (slot_of j) [] (most - c) d ≡ step_at b p (slot_of i) [] (items - count) d = rw ej (any_left b p (slot_of i) d (most - c) (items - count) same) in
-    er ∙ first_head b bs p d (slot_of j) c most few v ∙ ap head_walk e
+    er ∙ first_head b bs p d (slot_of j) c most few v ∙ ap end_of_head e
   where
     same : eqb (most - c) 0 ≡ eqb (items - count) 0
     same = go (ltb count items) refl
@@ -370,16 +369,16 @@ enough count items {c} {more} {most} e f g h = go (ltb items more) refl
         small false z = omega (arith, f ∙ min-eq_right (ltb-false (c + 1) 18446744073709551615 z))
 
 -- a walk's answer as the head's, way by way
-module _ (p : ℕ) {w : Walk} where
-  pub first_read : {q n : ℕ} → w ≡ walk.Read q n → walk.Read q 1 ≡ first_of p w
+module _ (p : ℕ) {w : Result Read Refusal} where
+  pub first_read : {x : Read} → w ≡ Ok x → Ok x.next ≡ first_of p w
   first_read e = rw e
 
-  module _ {r x : ℕ} (e : w ≡ walk.Refused r x) where
-    pub first_refused : x ≡ p → walk.Refused r x ≡ first_of p w
-    first_refused g = rw (e, eq-eqb x p g)
+  module _ {f : Refusal} (e : w ≡ Err f) where
+    pub first_refused : f.place ≡ p → Err f ≡ first_of p w
+    first_refused g = rw (e, eq-eqb f.place p g)
 
-    pub first_behind : (x ≡ p → ⊥) → walk.Read x 1 ≡ first_of p w
-    first_behind g = rw (e, ne_eqb x p g)
+    pub first_behind : (f.place ≡ p → ⊥) → Ok f.place ≡ first_of p w
+    first_behind g = rw (e, ne_eqb f.place p g)
 
 pub ruleset first_ways = (first_read, first_refused, first_behind)
 

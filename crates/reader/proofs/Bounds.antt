@@ -1,16 +1,15 @@
 -- What a head that was taken, and a walk that was read, have shown; what is due inside a head.
-use Prim.Native.Nat.{ℕ, zero, suc, pred, ◌+◌, ◌-◌, ◌*◌, ◌≤◌, ◌<◌, ◌^◌}
-use mathlib.Core.Path.{◌≡◌, refl, sym, ◌∙◌, ap}
-use mathlib.Core.Bool.{Bool, true, false, not, ◌&&◌, cond, true≢false}
-use mathlib.Core.List.{List, [], ◌∷◌}
+use Prim.Native.Nat.{ℕ, suc, pred, ◌+◌, ◌-◌, ◌*◌, ◌≤◌, ◌<◌, ◌^◌}
+use mathlib.Core.Path.{◌≡◌, refl, sym, ◌∙◌}
+use mathlib.Core.Bool.{true, false, ◌&&◌}
+use mathlib.Core.List.{List, []}
 use native.Mathlib.Omega.{arith}
 use native.Mathlib.Numerals.{add-one, sub-one}
 use lib.ListN.{length, length-append}
 use lib.Dec.{eqb}
 use mir.Syntax.{w64}
 use mir.Val.{Fits}
-use borrow.Author.Tests.{eqb-false, eqb-true}
-use Rattle.buffer.specs.Bytes.{within}
+use borrow.Author.Tests.{eqb-false}
 use Rattle.cbor.specs.Head.{is_container}
 use Rattle.ari.specs.Table.{Slot, ExtraTest, none, one, rising, filled, Level, due}
 use Rattle.cbor.proofs.HeadLaws.{length_lead}
@@ -22,18 +21,19 @@ use Rattle.grammar.specs.declared.Next.{Next}
 use Rattle.grammar.specs.declared.Next.TheVariants.{Done, Due}
 use Rattle.grammar.specs.Code.{slot_of, level_of, fits_code, inside_code}
 use Rattle.grammar.specs.Code.{IsSlot}
-use Rattle.grammar.proofs.Right.{Stands, inside_right, inside_container}
-use Rattle.reader.specs.declared.Step.{Step}
-use Rattle.reader.specs.declared.Step.TheVariants.{Taken}
-use Rattle.reader.specs.declared.Step.TheVariants as step
-use Rattle.reader.specs.declared.Walk.{Walk}
-use Rattle.reader.specs.declared.Walk.TheVariants.{Read, Refused}
-use Rattle.reader.specs.Steps.{Bounded, stopped_of, key_span}
+use Rattle.grammar.proofs.Right.{inside_right, inside_container}
+use Rattle.reader.specs.Steps.{Bounded, key_span}
 use Rattle.reader.specs.Walks.{inside_level, Tables, Walked, Opens}
 use Rattle.reader.proofs.Walking.{ended}
+use Rattle.std.specs.declared.result.Result.{Result}
+use Rattle.ari.specs.declared.Refusal.{Refusal}
+use Rattle.reader.specs.declared.Taken.{Taken}
+use Rattle.reader.specs.declared.Read.{Read}
+use Rattle.reader.specs.Steps.{taken}
+use Rattle.reader.specs.Walks.{read_to}
 
-module _ (b : List ℕ) (p c items d i : ℕ) {x : Step} (h : Bounded b p c items d i x) {k a q : ℕ} (e : x ≡ Taken k a q) where
-  abbrev shown : Bounded b p c items d i (Taken k a q)
+module _ (b : List ℕ) (p c items d i : ℕ) {x : Result Taken Refusal} (h : Bounded b p c items d i x) {k a q : ℕ} (e : x ≡ taken k a q) where
+  abbrev shown : Bounded b p c items d i (taken k a q)
   shown = rw e at h
 
   pub taken_on : p < q
@@ -60,13 +60,9 @@ module _ (b : List ℕ) (p c items d i : ℕ) {x : Step} (h : Bounded b p c item
   pub taken_fits : fits_code i k a ≡ true
   taken_fits = shown.5
 
--- a refusal, handed on
-pub handed : {x : Step} {r y : ℕ} → x ≡ step.Refused r y → Refused r y ≡ stopped_of x
-handed e = rw e
-
-module _ (b : List ℕ) (items : ℕ) (v : Level) (prev : List ℕ) (d around p c : ℕ) {w : Walk} {t t' : Tables} (h : Walked b items v prev d around p c w t t')
-    {q e : ℕ} (g : w ≡ Read q e) where
-  abbrev read : Walked b items v prev d around p c (Read q e) t t'
+module _ (b : List ℕ) (items : ℕ) (v : Level) (prev : List ℕ) (d around p c : ℕ) {w : Result Read Refusal} {t t' : Tables} (h : Walked b items v prev d around p c w t t')
+    {q e : ℕ} (g : w ≡ read_to q e) where
+  abbrev read : Walked b items v prev d around p c (read_to q e) t t'
   read = rw g at h
 
   pub read_in : q ≤ length b
@@ -84,8 +80,8 @@ due_long items.none s n prev d f = absurd f
 due_long (item l str ms rs) s n prev d f =
     simp length-append (omega (arith, length_lead l))
 
-pub read_past : (b : List ℕ) (items : ℕ) (s : Slot) (n : ℕ) (prev : List ℕ) (d around p c : ℕ) {w : Walk} {t t' : Tables}
-    → Walked b items (due s n) prev d around p c w t t' → {q e : ℕ} → w ≡ Read q e → p < q
+pub read_past : (b : List ℕ) (items : ℕ) (s : Slot) (n : ℕ) (prev : List ℕ) (d around p c : ℕ) {w : Result Read Refusal} {t t' : Tables}
+    → Walked b items (due s n) prev d around p c w t t' → {q e : ℕ} → w ≡ read_to q e → p < q
 read_past b items s n prev d around p c h g =
     let r = rw g at h in
     let k = r.held.0 in
@@ -109,14 +105,14 @@ module _ (i k a : ℕ) {x : Next} (e : x ≡ inside_code i k a) where
   level_is v = rw e (inside_right i (record { info = 0; kind = k; arg = a }) v).level
 
   module _ (b : List ℕ) (items d around at c : ℕ) {t : Tables} (v : IsSlot i) where
-    pub nothing_inside : x ≡ Done → at ≤ length b → c ≤ items → Walked b items (inside_level (slot_of i) k a) [] (pred d) (suc around) at c (Read at c) t t
+    pub nothing_inside : x ≡ Done → at ≤ length b → c ≤ items → Walked b items (inside_level (slot_of i) k a) [] (pred d) (suc around) at c (read_to at c) t t
     nothing_inside q h g = rw (← level_is v, q) (ended b items [] (pred d) (suc around) at c t h g)
 
-    pub opened : {j m : ℕ} → x ≡ Due j m → {w : Walk} {t' : Tables} → Walked b items (due (slot_of j) m) [] (d - 1) (around + 1) at c w t t'
+    pub opened : {j m : ℕ} → x ≡ Due j m → {w : Result Read Refusal} {t' : Tables} → Walked b items (due (slot_of j) m) [] (d - 1) (around + 1) at c w t t'
         → Walked b items (inside_level (slot_of i) k a) [] (pred d) (suc around) at c w t t'
     opened q {w} {t'} y = rw (← level_is v, q, ← sub-one d, ← add-one around) y
 
-    pub by_level : {w : Walk} {t' : Tables} → Walked b items (level_of x) [] (pred d) (suc around) at c w t t'
+    pub by_level : {w : Result Read Refusal} {t' : Tables} → Walked b items (level_of x) [] (pred d) (suc around) at c w t t'
         → Walked b items (inside_level (slot_of i) k a) [] (pred d) (suc around) at c w t t'
     by_level y = rw (← level_is v) y
 
@@ -135,10 +131,10 @@ inner_opens i k a {x} e v d s = go x refl
 
 -- the same, by what is due alone
 module _ {x : Next} (b : List ℕ) (items d around at c : ℕ) {t : Tables} where
-  pub none_due : x ≡ Done → at ≤ length b → c ≤ items → Walked b items (level_of x) [] (pred d) (suc around) at c (Read at c) t t
+  pub none_due : x ≡ Done → at ≤ length b → c ≤ items → Walked b items (level_of x) [] (pred d) (suc around) at c (read_to at c) t t
   none_due q h g = rw q (ended b items [] (pred d) (suc around) at c t h g)
 
-  pub level_due : {j m : ℕ} → x ≡ Due j m → {w : Walk} {t' : Tables} → Walked b items (due (slot_of j) m) [] (d - 1) (around + 1) at c w t t'
+  pub level_due : {j m : ℕ} → x ≡ Due j m → {w : Result Read Refusal} {t' : Tables} → Walked b items (due (slot_of j) m) [] (d - 1) (around + 1) at c w t t'
       → Walked b items (level_of x) [] (pred d) (suc around) at c w t t'
   level_due q y = rw (q, ← sub-one d, ← add-one around) y
 

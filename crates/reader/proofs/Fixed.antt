@@ -5,28 +5,31 @@ use mathlib.Core.Bool.{Bool, true, false, not, ◌&&◌}
 use mathlib.Core.List.{List, [], ◌∷◌}
 use native.Mathlib.Omega.{arith}
 use native.Mathlib.Numerals.{sub-one}
-use lib.ListN.{length, get_or, take, drop, set}
+use lib.ListN.{length, get_or, drop, set}
 use lib.Seq.{drop-cons}
 use lib.Dec.{eqb, ltb}
 use mir.Syntax.{w64}
 use mir.Val.{Fits}
 use borrow.Author.Tests.{lt-ltb, le-ltb, ne_eqb, ltb-true, eqb-true, eqb-false}
 use Rattle.buffer.specs.Bytes.{all, is_byte}
-use Rattle.cbor.specs.Head.{Lead, lead_bytes, shortest, major_of, width, got, get_head, key_of, Sound, counted, itself, string_size, is_container}
+use Rattle.cbor.specs.Head.{Lead, lead_bytes, shortest, major_of, width, got, get_head, key_of, counted, itself, string_size, is_container}
 use Rattle.cbor.proofs.HeadLaws.{get_head_back}
 use Rattle.buffer.proofs.ByteLaws.{and-true, not-false, not-true}
-use Rattle.ari.specs.Table.{message, Slot, version, ari, due, rule, members}
+use Rattle.ari.specs.Table.{message, version, ari, due, rule, members}
 use Rattle.ari.specs.Reader.{judge, judge_content, judge_got}
 use Rattle.ari.specs.Reader as reader
 use Rattle.grammar.specs.Code.{slot_of, fits_code, next_code}
 use Rattle.item_table.specs.Entries.{packed}
-use Rattle.reader.specs.declared.Step.TheVariants.{Taken}
-use Rattle.reader.specs.declared.Walk.{Walk}
-use Rattle.reader.specs.declared.Walk.TheVariants.{Read, Refused}
 use Rattle.reader.specs.Steps.{stands_at, step_answer, step_at}
 use Rattle.reader.specs.Walks.{Tables, both, Walked}
 use Rattle.reader.proofs.Walking.{ended}
 use Rattle.reader.proofs.Loop.{begins, breaks, ends}
+use Rattle.std.specs.declared.result.Result.{Result}
+use Rattle.std.specs.declared.result.Result.TheVariants.{Err}
+use Rattle.ari.specs.declared.Refusal.{Refusal}
+use Rattle.reader.specs.declared.Read.{Read}
+use Rattle.reader.specs.Steps.{taken}
+use Rattle.reader.specs.Walks.{read_to}
 
 module _ (b : List ℕ) (p x c items : ℕ) where
   pub stands_out : length b ≤ p → false ≡ stands_at b p x (items - c)
@@ -87,7 +90,7 @@ version_judged : (left d : ℕ) (r : List ℕ) → eqb left 0 ≡ false → judg
 unfolding judge_got judge judge_content string_size is_container rule width
 version_judged left d r e = rw (head_one r, e, le-ltb (length r) 0 zero-le)
 
-version_step : (b : List ℕ) (items d : ℕ) → Stood b 0 1 0 items → Taken 0 1 1 ≡ step_at b 0 version [] (items - 0) d
+version_step : (b : List ℕ) (items d : ℕ) → Stood b 0 1 0 items → taken 0 1 1 ≡ step_at b 0 version [] (items - 0) d
 unfolding step_at width
 version_step b items d h =
     rw h.bytes (ap (step_answer 0) (sym (version_judged (items - 0) d (drop 1 b) h.more)))
@@ -97,13 +100,13 @@ set_judged : (left d : ℕ) (r : List ℕ) → eqb left 0 ≡ false → eqb d 0 
 unfolding judge_got judge judge_content string_size is_container rule width
 set_judged left d r e g = rw (head_pair r, e, g, le-ltb (length r) 0 zero-le)
 
-set_step : (b : List ℕ) (p c items d : ℕ) → Stood b p 130 c items → (d ≡ 0 → ⊥) → Taken 4 2 (p + 1) ≡ step_at b p (ari message) [] (items - c) d
+set_step : (b : List ℕ) (p c items d : ℕ) → Stood b p 130 c items → (d ≡ 0 → ⊥) → taken 4 2 (p + 1) ≡ step_at b p (ari message) [] (items - c) d
 unfolding step_at width
 set_step b p c items d h g =
     rw h.bytes (ap (step_answer p) (sym (set_judged (items - c) d (drop (suc p) b) h.more (ne_eqb d 0 g))))
 
 pub version_read : (b : List ℕ) → all is_byte b ≡ true → (items d : ℕ) {r : Bool} → r ≡ stands_at b 0 1 (items - 0) → not r ≡ false
-    → (t u : List ℕ) {z : List ℕ} → z ≡ set t 0 (packed 0 1 0 0 0) → Walked b items (due (slot_of 0) 0) [] d 0 0 0 (Read 1 1) (both t u) (both z u)
+    → (t u : List ℕ) {z : List ℕ} → z ≡ set t 0 (packed 0 1 0 0 0) → Walked b items (due (slot_of 0) 0) [] d 0 0 0 (read_to 1 1) (both t u) (both z u)
 unfolding members rule fits_code next_code key_of get_head
 version_read b bs items d e u t refs {z} put =
     let h = stood b 0 1 0 items e u in
@@ -111,19 +114,19 @@ version_read b bs items d e u t refs {z} put =
     ends b bs items version 0 [] d 0 0 0 (both t refs) 0 0 0 0 d 0 0 0 (both t refs) 0 (omega arith) (begins b items version 0 d 0 0 0 (both t refs)) (version_step b items d h) refl inside refl {tab₂ = both z refs} refl refl put refl (omega arith) refl refl refl h.within h.spare refl
 
 module _ (b : List ℕ) (bs : all is_byte b ≡ true) (items d p c : ℕ) {r : Bool} (e : r ≡ stands_at b p 130 (items - c)) (u : not r ≡ false)
-    (g : d ≡ 0 → ⊥) (t u₀ : List ℕ) {w : Walk} {t₁ u₁ : List ℕ} (m : Walked b items (due (slot_of 6) 0) [] (d - 1) 1 (p + 1) (c + 1) w (both t u₀) (both t₁ u₁)) where
+    (g : d ≡ 0 → ⊥) (t u₀ : List ℕ) {w : Result Read Refusal} {t₁ u₁ : List ℕ} (m : Walked b items (due (slot_of 6) 0) [] (d - 1) 1 (p + 1) (c + 1) w (both t u₀) (both t₁ u₁)) where
   abbrev there : Stood b p 130 c items
   there = stood b p 130 c items e u
 
   abbrev inside : Walked b items (due (slot_of 6) 0) [] (pred d) 1 (p + 1) (c + 1) w (both t u₀) (both t₁ u₁)
   inside = rw (← sub-one d) m
 
-  pub set_stopped : {n x : ℕ} → w ≡ Refused n x → {z : Tables} → Walked b items (due (slot_of 2) 0) [] d 0 p c w (both t u₀) z
+  pub set_stopped : {f : Refusal} → w ≡ Err f → {z : Tables} → Walked b items (due (slot_of 2) 0) [] d 0 p c (Err f) (both t u₀) z
   unfolding members rule key_of get_head
   set_stopped v =
       breaks b bs items (ari message) 0 [] d 0 p c (both t u₀) 2 0 0 0 d 0 p c (both t u₀) 0 (omega arith) (begins b items (ari message) 0 d 0 p c (both t u₀)) (set_step b p c items d there g) refl inside v
 
-  pub set_read : {q f : ℕ} → w ≡ Read q f → {z : List ℕ} → z ≡ set t₁ c (packed p q 0 2 0) → Walked b items (due (slot_of 2) 0) [] d 0 p c (Read q f) (both t u₀) (both z u₁)
+  pub set_read : {q f : ℕ} → w ≡ read_to q f → {z : List ℕ} → z ≡ set t₁ c (packed p q 0 2 0) → Walked b items (due (slot_of 2) 0) [] d 0 p c (read_to q f) (both t u₀) (both z u₁)
   unfolding members rule fits_code next_code key_of get_head
   set_read v {z} put =
       let within = (rw v at inside).held in

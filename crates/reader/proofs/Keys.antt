@@ -1,5 +1,5 @@
 -- The key before, and the slots' own tests, as the code has them.
-use Prim.Native.Nat.{ℕ, zero, suc, ◌+◌, ◌-◌, ◌≤◌, ◌<◌}
+use Prim.Native.Nat.{ℕ, zero, suc, ◌+◌, ◌-◌, ◌≤◌}
 use mathlib.Core.Path.{◌≡◌, refl, sym, ◌∙◌, ap}
 use mathlib.Core.Bool.{Bool, true, false, not, ◌&&◌, ◌||◌, true≢false}
 use mathlib.Core.List.{List, [], ◌∷◌, ◌++◌, append_assoc}
@@ -7,19 +7,19 @@ use mathlib.Core.Logic.{◌⊎◌, inl, inr}
 use native.Mathlib.Omega.{arith}
 use lib.ListN.{length, get_or, take, drop, length-append, take-append-drop}
 use lib.Seq.{take_at, drop_at, length-take-le}
-use lib.Dec.{eqb, leb}
-use borrow.Author.Tests.{eq-eqb, ne_eqb, eqb-true, leb-true}
+use lib.Dec.{eqb}
+use borrow.Author.Tests.{eqb-true}
 use Rattle.buffer.specs.Bytes.{all, is_byte, within}
 use Rattle.cbor.specs.Byte.{below}
 use Rattle.cbor.specs.Utf8.{utf8}
 use Rattle.ari.specs.Name.{identifier, namespace_name}
-use Rattle.cbor.specs.Head.{Lead, size, lead_bytes, short_bytes, is_container, Got, got, get_head, string_size, key_of}
-use Rattle.buffer.proofs.ByteLaws.{and-true, or-true, or_nil, all_take, all_drop}
+use Rattle.cbor.specs.Head.{Lead, size, lead_bytes, short_bytes, got, get_head, string_size, key_of}
+use Rattle.buffer.proofs.ByteLaws.{and-true, or-true, or_nil, all_drop}
 use Rattle.cbor.proofs.HeadLaws.{length_lead, get_head_back, get_head_forth}
 use Rattle.cbor.proofs.OrderWays.{key_got}
-use Rattle.ari.specs.Table.{Place, Slot, version, ari, type, value, namespace, object_namespace, object_type, object_id, params, key, entry, nonce, set_time, target, report, report_time, report_source, ExtraTest, none, one, rising, filled, Rule, rule, fits, max64, max63}
+use Rattle.ari.specs.Table.{Place, Slot, version, ari, type, value, namespace, object_namespace, object_type, object_id, params, key, entry, nonce, set_time, target, report, report_time, report_source, ExtraTest, none, one, rising, filled, rule, fits, max64, max63}
 use Rattle.cbor.specs.Head.{key_bytes}
-use Rattle.ari.specs.Reader.{key_after, wrong_version, not_greater, is_empty}
+use Rattle.ari.specs.Reader.{wrong_version, not_greater, is_empty}
 use Rattle.grammar.specs.Code.{slot_of, extra_of, spelled_as}
 use Rattle.grammar.proofs.Right.{extra_right}
 use Rattle.grammar.proofs.Hits.{Rest, miss}

@@ -6,8 +6,8 @@ pub mod Bounds
 pub mod Heads
 pub mod Whole
 pub mod Fixed
-pub mod Kept
 pub mod Alone
 pub mod Plain
 pub mod Quick
 pub mod Last
+pub mod Results

@@ -1,41 +1,40 @@
 -- The walk's loop: one law for each way that a turn ends; the premises are the facts that the code leaves.
-use Prim.Native.Nat.{ℕ, zero, suc, pred, ◌+◌, ◌-◌, ◌*◌, ◌≤◌, ◌<◌}
+use Prim.Native.Nat.{ℕ, suc, pred, ◌+◌, ◌-◌, ◌≤◌}
 use mathlib.Core.Path.{◌≡◌, refl, sym, ◌∙◌, ap}
-use mathlib.Core.Bool.{Bool, true, false, not, ◌&&◌, cond}
-use mathlib.Core.List.{List, [], ◌∷◌, ◌++◌, append_assoc}
+use mathlib.Core.Bool.{true}
+use mathlib.Core.List.{List, []}
 use native.Mathlib.Omega.{arith}
-use native.Mathlib.Numerals.{add-one, sub-one}
-use lib.ListN.{length, get_or, take, drop, set, length-append}
+use native.Mathlib.Numerals.{add-one}
+use lib.ListN.{length, drop, set}
 use lib.Seq.{length-take-le}
-use lib.Dec.{eqb}
-use borrow.Author.Tests.{eqb-false, ne_eqb, eqb-true}
 use Rattle.buffer.specs.Bytes.{all, is_byte}
 use Rattle.cbor.specs.Head.{Lead, size, string_size, get_head, key_of}
-use Rattle.buffer.proofs.ByteLaws.{and-true}
-use Rattle.ari.specs.Table.{Slot, ExtraTest, none, one, rising, filled, Level, done, due, rule, members}
+use Rattle.ari.specs.Table.{Slot, ExtraTest, none, one, rising, filled, due, rule, members}
 use Rattle.cbor.specs.Head.{key_bytes}
 use Rattle.ari.specs.Reader.{key_after}
 use Rattle.ari.proofs.Due.{prev_after}
 use Rattle.grammar.specs.declared.Next.{Next}
 use Rattle.grammar.specs.declared.Next.TheVariants.{Done, Due}
-use Rattle.grammar.specs.Code.{slots, slot_of, slot_number, level_of, fits_code, next_code, inside_code}
+use Rattle.grammar.specs.Code.{slot_of, slot_number, level_of, fits_code, next_code}
 use Rattle.grammar.specs.Code.{IsSlot}
-use Rattle.grammar.proofs.Right.{number_slot, Slotted, Stands, next_right, inside_right}
+use Rattle.grammar.proofs.Right.{number_slot, next_right}
 use Rattle.ari.specs.Table.{is_reference}
 use Rattle.item_table.specs.Entries.{packed, head_by, reference_head, reference_by}
 use Rattle.item_table.specs.References.{place_for, reserved_for}
 use Rattle.item_table.specs.References as references
 use Rattle.item_table.proofs.Entries.{reference_head_lem}
-use Rattle.reader.specs.declared.Step.{Step}
-use Rattle.reader.specs.declared.Step.TheVariants.{Taken}
-use Rattle.reader.specs.declared.Step.TheVariants as step
-use Rattle.reader.specs.declared.Walk.{Walk}
-use Rattle.reader.specs.declared.Walk.TheVariants.{Read, Refused}
 use Rattle.buffer.specs.Bytes.{part}
-use Rattle.reader.specs.Steps.{step_at, stopped_of, Bounded, key_span}
+use Rattle.reader.specs.Steps.{step_at, key_span}
 use Rattle.reader.specs.Walks.{inside_level, Tables, both, Walked}
 use Rattle.reader.proofs.Walking.{Took, took, ended, stopped, broken, onward}
 use Rattle.reader.proofs.Keys.{ordered_kind, key_bytes_lem}
+use Rattle.std.specs.declared.result.Result.{Result}
+use Rattle.std.specs.declared.result.Result.TheVariants.{Ok, Err}
+use Rattle.ari.specs.declared.Refusal.{Refusal}
+use Rattle.reader.specs.declared.Taken.{Taken}
+use Rattle.reader.specs.declared.Read.{Read}
+use Rattle.reader.specs.Steps.{taken}
+use Rattle.reader.specs.Walks.{read_to}
 
 -- the members' level, by kind and argument
 inside_is : (s : Slot) (l : Lead) → inside_level s l.kind l.arg ≡ members s l
@@ -48,23 +47,23 @@ unfolding is_reference
 reference_by_lem i k a l ek ea = rw (← ek, ← ea)
 
 -- The tables when the references that wait have their end.
-abbrev pub settled : ℕ → Walk → Tables → Tables
-settled k (Read q c) z = both z.items (references.ended z.references k q)
-settled k (Refused r x) z = z
+abbrev pub settled : ℕ → Result Read Refusal → Tables → Tables
+settled k (Ok x) z = both z.items (references.ended z.references k x.next)
+settled k (Err f) z = z
 
 -- What is due at p after the key before leads on: whatever ends it from here ends the whole from where the level began.
 pub record Leads (b : List ℕ) (items : ℕ) (s₀ : Slot) (n₀ : ℕ) (prev₀ : List ℕ) (d₀ around₀ p₀ c₀ : ℕ) (t₀ : Tables) (s : Slot) (n : ℕ) (prev : List ℕ)
     (d around p c : ℕ) (t : Tables) (pend : ℕ) : Type 0 where
-  pub then : {v : Walk} {z : Tables} → Walked b items (due s n) prev d around p c v t z → Walked b items (due s₀ n₀) prev₀ d₀ around₀ p₀ c₀ v t₀ (settled pend v z)
+  pub then : {v : Result Read Refusal} {z : Tables} → Walked b items (due s n) prev d around p c v t z → Walked b items (due s₀ n₀) prev₀ d₀ around₀ p₀ c₀ v t₀ (settled pend v z)
 
 -- where a level begins there is no key before
 pub begins : (b : List ℕ) (items : ℕ) (s : Slot) (n d around p c : ℕ) (t : Tables) → Leads b items s n [] d around p c t s n (key_of (part b 0 0)) d around p c t 0
 unfolding key_of get_head
 begins b items s n d around p c t = record { then = λ {v} w. go v w }
   where
-    go : (v : Walk) {z : Tables} → Walked b items (due s n) [] d around p c v t z → Walked b items (due s n) [] d around p c v t (settled 0 v z)
-    go (Read q e) w = w
-    go (Refused r x) w = w
+    go : (v : Result Read Refusal) {z : Tables} → Walked b items (due s n) [] d around p c v t z → Walked b items (due s n) [] d around p c v t (settled 0 v z)
+    go (Ok q) w = w
+    go (Err f) w = w
 
 -- the bytes of a key are its head's and its string's
 pub key_part : (b : List ℕ) → all is_byte b ≡ true → (left : ℕ) (s : Slot) (prev : List ℕ) (d p k a q : ℕ) (h : Took b p left d s prev k a q)
@@ -86,13 +85,12 @@ key_span_lem b filled f t p q kb e = refl
 module _ (b : List ℕ) (bs : all is_byte b ≡ true) (items : ℕ) (s₀ : Slot) (n₀ : ℕ) (prev₀ : List ℕ) (d₀ around₀ p₀ c₀ : ℕ) (t₀ : Tables)
     (i n f t d around p c : ℕ) (tab : Tables) (pend : ℕ) (v : IsSlot i)
     (lead : Leads b items s₀ n₀ prev₀ d₀ around₀ p₀ c₀ t₀ (slot_of i) n (key_of (part b f t)) d around p c tab pend)
-    {x : Step} (e : x ≡ step_at b p (slot_of i) (key_of (part b f t)) (items - c) d) where
+    {x : Result Taken Refusal} (e : x ≡ step_at b p (slot_of i) (key_of (part b f t)) (items - c) d) where
   -- the head is refused
-  pub halts : {r y : ℕ} → x ≡ step.Refused r y → {w : Walk} → w ≡ stopped_of x → {z : Tables} → Walked b items (due s₀ n₀) prev₀ d₀ around₀ p₀ c₀ w t₀ z
-  halts {r} {y} q {w} g {z} =
-      rw (g, q) (lead.then (stopped b items (slot_of i) n (key_of (part b f t)) d around p c r y tab z (sym e ∙ q)))
+  pub halts : {y : Refusal} → x ≡ Err y → {z : Tables} → Walked b items (due s₀ n₀) prev₀ d₀ around₀ p₀ c₀ (Err y) t₀ z
+  halts {y} q {z} = lead.then (stopped b items (slot_of i) n (key_of (part b f t)) d around p c y tab z (sym e ∙ q))
 
-  module _ {k a q₀ : ℕ} (q : x ≡ Taken k a q₀) {w : Walk} {res : List ℕ} {tab₁ : Tables}
+  module _ {k a q₀ : ℕ} (q : x ≡ taken k a q₀) {w : Result Read Refusal} {res : List ℕ} {tab₁ : Tables}
       (m : Walked b items (inside_level (slot_of i) k a) [] (pred d) (suc around) q₀ (c + 1) w (both tab.items res) tab₁) where
     abbrev tk : Took b p (items - c) d (slot_of i) (key_of (part b f t)) k a q₀
     tk = took b p (items - c) d (slot_of i) (key_of (part b f t)) k a q₀ (sym e ∙ q)
@@ -107,22 +105,22 @@ module _ (b : List ℕ) (bs : all is_byte b ≡ true) (items : ℕ) (s₀ : Slot
         omega (arith, ap length tk.passed.string, length-take-le (string_size tk.lead) r tk.passed.there, tk.after_is))
 
     -- a member is refused
-    pub breaks : {r y : ℕ} → w ≡ Refused r y → {z : Tables} → Walked b items (due s₀ n₀) prev₀ d₀ around₀ p₀ c₀ w t₀ z
-    breaks {r} {y} g {z} =
-        rw g (lead.then (broken b bs items (slot_of i) n (key_of (part b f t)) d around p c k a q₀ tk (rw g at walked)))
+    pub breaks : {y : Refusal} → w ≡ Err y → {z : Tables} → Walked b items (due s₀ n₀) prev₀ d₀ around₀ p₀ c₀ (Err y) t₀ z
+    breaks g {z} =
+        (lead.then (broken b bs items (slot_of i) n (key_of (part b f t)) d around p c k a q₀ tk (rw g at walked)))
 
     -- whether it is one
     reference_is : is_reference (slot_of i) tk.lead ≡ reference_by i k a
     reference_is = reference_by_lem i k a tk.lead tk.kind_is tk.arg_is
 
-    module _ {q₁ e₁ : ℕ} (g : w ≡ Read q₁ e₁) {pl : ℕ} {tab₂ : Tables} (taken : res ≡ reserved_for i k a tab.references) (at : pl ≡ place_for i k a tab.references)
+    module _ {q₁ e₁ : ℕ} (g : w ≡ read_to q₁ e₁) {pl : ℕ} {tab₂ : Tables} (taken : res ≡ reserved_for i k a tab.references) (at : pl ≡ place_for i k a tab.references)
         (put : tab₂.items ≡ set tab₁.items c (packed p q₁ around i (head_by i k a (q₀ - p))))
         (fill : tab₂.references ≡ references.filled tab₁.references pl (packed p q₁ around i (q₀ - p))) where
       own : reference_by i k a ≡ true → packed p q₁ around i (q₀ - p) ≡ packed p q₁ around (slot_number (slot_of i)) (reference_head (slot_of i) tk.lead)
       own y = rw (number_slot i v, ← head_is, y)
 
       -- what follows the item ends the level
-      item : {u : Walk} {z : Tables} → Walked b items ((rule (slot_of i)).next tk.lead.arg n) (prev_after (slot_of i) (key_of (part b f t)) tk.lead tk.str) d around q₁ e₁ u tab₂ z
+      item : {u : Result Read Refusal} {z : Tables} → Walked b items ((rule (slot_of i)).next tk.lead.arg n) (prev_after (slot_of i) (key_of (part b f t)) tk.lead tk.str) d around q₁ e₁ u tab₂ z
           → Walked b items (due s₀ n₀) prev₀ d₀ around₀ p₀ c₀ u t₀ (settled pend u z)
       item y =
           lead.then (onward b bs items (slot_of i) n (key_of (part b f t)) d around p c k a q₀ tk i reference_is taken at (rw g at walked) (put ∙ rw (number_slot i v, head_is)) fill own y)
@@ -132,7 +130,7 @@ module _ (b : List ℕ) (bs : all is_byte b ≡ true) (items : ℕ) (s₀ : Slot
         next_is = rw (nn, tk.arg_is) (next_right i k a n v kk fit).level
 
         pub ends : nx ≡ Done → q₁ ≤ length b → e₁ ≤ items → {refs : List ℕ} → refs ≡ references.ended tab₂.references pend q₁
-            → Walked b items (due s₀ n₀) prev₀ d₀ around₀ p₀ c₀ (Read q₁ e₁) t₀ (both tab₂.items refs)
+            → Walked b items (due s₀ n₀) prev₀ d₀ around₀ p₀ c₀ (read_to q₁ e₁) t₀ (both tab₂.items refs)
         ends z h h' all =
             rw all (item (rw (← next_is, z) (ended b items _ d around q₁ e₁ tab₂ h h')))
 

@@ -19,13 +19,15 @@ use Rattle.grammar.proofs.TableWays.{below_containers}
 use Rattle.item_table.specs.Entries.{packed, head_by, reference_by}
 use Rattle.item_table.specs.References.{place_for, reserved_for, ended}
 use Rattle.item_table.proofs.Entries.{leaf_head, not_array}
-use Rattle.reader.specs.declared.Step.{Step}
-use Rattle.reader.specs.declared.Step.TheVariants.{Taken}
-use Rattle.reader.specs.declared.Walk.TheVariants.{Read}
 use Rattle.reader.specs.Steps.{step_at, Bounded, key_span}
 use Rattle.reader.specs.Walks.{inside_level, Tables, both, Walked}
 use Rattle.reader.proofs.Bounds.{nothing_inside, taken_in, taken_more, taken_kind, taken_fits}
 use Rattle.reader.proofs.Loop.{Leads, ends, again, next_slotted}
+use Rattle.std.specs.declared.result.Result.{Result}
+use Rattle.ari.specs.declared.Refusal.{Refusal}
+use Rattle.reader.specs.declared.Taken.{Taken}
+use Rattle.reader.specs.Steps.{taken}
+use Rattle.reader.specs.Walks.{read_to}
 
 module _ (i k : ℕ) where
   pub plain_below : k < 4 → {x : ℕ} → x ≡ extra_of i → eqb x 0 ≡ (ltb k 4 && eqb (extra_of i) 0)
@@ -45,7 +47,7 @@ module _ (i k : ℕ) where
     plain_test = extra_right i ∙ rw plain.1
 
     pub plain_inside : (a : ℕ) (b : List ℕ) (items d around at c : ℕ) {t : Tables} → IsSlot i → at ≤ length b → c ≤ items
-        → Walked b items (inside_level (slot_of i) k a) [] (pred d) (suc around) at c (Read at c) t t
+        → Walked b items (inside_level (slot_of i) k a) [] (pred d) (suc around) at c (read_to at c) t t
     plain_inside a b items d around at c v h g = nothing_inside i k a (below_containers i k a plain.0) b items d around at c v refl h g
 
     pub plain_span : (f p : ℕ) → f ≡ key_span (rule (slot_of i)).extra f p
@@ -57,10 +59,10 @@ pub ruleset plain_ways = (plain_below, plain_above)
 module _ (b : List ℕ) (bs : all is_byte b ≡ true) (items : ℕ) (s₀ : Slot) (n₀ : ℕ) (prev₀ : List ℕ) (d₀ around₀ p₀ c₀ : ℕ) (t₀ : Tables)
     (i n f t d around p c : ℕ) (tab refs : List ℕ) (pend : ℕ) (v : IsSlot i)
     (lead : Leads b items s₀ n₀ prev₀ d₀ around₀ p₀ c₀ t₀ (slot_of i) n (key_of (part b f t)) d around p c (both tab refs) pend)
-    {x : Step} (e : x ≡ step_at b p (slot_of i) (key_of (part b f t)) (items - c) d) (h : Bounded b p c items d i x) {k a q₀ : ℕ} (q : x ≡ Taken k a q₀)
+    {x : Result Taken Refusal} (e : x ≡ step_at b p (slot_of i) (key_of (part b f t)) (items - c) d) (h : Bounded b p c items d i x) {k a q₀ : ℕ} (q : x ≡ taken k a q₀)
     {r : Bool} (y : r ≡ (ltb k 4 && eqb (extra_of i) 0)) (u : r ≡ true) {tab₂ : List ℕ} (put : tab₂ ≡ set tab c (packed p q₀ around i 0))
     {nx : Next} (nn : nx ≡ next_code i a n) where
-  nothing : Walked b items (inside_level (slot_of i) k a) [] (pred d) (suc around) q₀ (c + 1) (Read q₀ (c + 1)) (both tab refs) (both tab refs)
+  nothing : Walked b items (inside_level (slot_of i) k a) [] (pred d) (suc around) q₀ (c + 1) (read_to q₀ (c + 1)) (both tab refs) (both tab refs)
   nothing = plain_inside i k y u a b items d around q₀ (c + 1) v (taken_in b p c items d i h q) (taken_more b p c items d i h q)
 
   kept : tab₂ ≡ set tab c (packed p q₀ around i (head_by i k a (q₀ - p)))
@@ -76,7 +78,7 @@ module _ (b : List ℕ) (bs : all is_byte b ≡ true) (items : ℕ) (s₀ : Slot
   no_place : 0 ≡ place_for i k a refs
   no_place = rw (← no_reference)
 
-  pub plain_ends : nx ≡ Done → {refs₂ : List ℕ} → refs₂ ≡ ended refs pend q₀ → Walked b items (due s₀ n₀) prev₀ d₀ around₀ p₀ c₀ (Read q₀ (c + 1)) t₀ (both tab₂ refs₂)
+  pub plain_ends : nx ≡ Done → {refs₂ : List ℕ} → refs₂ ≡ ended refs pend q₀ → Walked b items (due s₀ n₀) prev₀ d₀ around₀ p₀ c₀ (read_to q₀ (c + 1)) t₀ (both tab₂ refs₂)
   plain_ends z all =
       ends b bs items s₀ n₀ prev₀ d₀ around₀ p₀ c₀ t₀ i n f t d around p c (both tab refs) pend v lead e q nothing refl {tab₂ = both tab₂ refs} as_it_was no_place kept refl (taken_kind b p c items d i h q) (taken_fits b p c items d i h q) nn z (taken_in b p c items d i h q) (taken_more b p c items d i h q) all
 

@@ -1,12 +1,12 @@
 -- A number of one byte that a slot with no test of its own takes: what the reader's step is there, and that the head is a plain one.
-use Prim.Native.Nat.{ℕ, ◌+◌, ◌-◌, ◌/◌, ◌%◌, ◌≤◌, ◌<◌}
-use mathlib.Core.Path.{◌≡◌, refl, sym, ◌∙◌}
-use mathlib.Core.Bool.{Bool, true, false, not, ◌&&◌}
+use Prim.Native.Nat.{ℕ, ◌+◌, ◌-◌, ◌/◌, ◌%◌, ◌<◌}
+use mathlib.Core.Path.{◌≡◌, refl, sym}
+use mathlib.Core.Bool.{true, false, ◌&&◌}
 use mathlib.Core.List.{List}
 use native.Mathlib.Omega.{arith}
-use lib.ListN.{length, get_or}
+use lib.ListN.{get_or}
 use lib.Dec.{ltb, eqb}
-use borrow.Author.Tests.{ltb-true, eqb-true, lt-ltb, eq-eqb}
+use borrow.Author.Tests.{ltb-true, eqb-true, lt-ltb}
 use Rattle.buffer.specs.Bytes.{all, is_byte, part}
 use Rattle.buffer.proofs.ByteLaws.{and-true}
 use Rattle.cbor.specs.Head.{is_container}
@@ -16,9 +16,9 @@ use Rattle.cbor.proofs.HeadWays.{by_small, small_count}
 use Rattle.ari.specs.Table.{rule}
 use Rattle.grammar.specs.Code.{slot_of, extra_of, fits_code}
 use Rattle.grammar.specs.Words.{takes_number}
-use Rattle.reader.specs.declared.Step.TheVariants.{Taken}
 use Rattle.reader.specs.Steps.{step_at, Bounded, Quick}
 use Rattle.reader.proofs.Heads.{of_none, no_text, below_array, fits_slot, is_plain, goes_on}
+use Rattle.reader.specs.Steps.{taken}
 
 -- what such a byte has shown
 record Number (i x : ℕ) : Type 0 where
@@ -48,7 +48,7 @@ module _ (b : List ℕ) (bs : all is_byte b ≡ true) (p i c items : ℕ) (h : Q
   leaf : (d : ℕ) → false ≡ (is_container (x / 32) && eqb d 0)
   leaf d = below_array (x / 32) d (let l = kind in omega arith)
 
-  pub number_step : (prev : List ℕ) (d : ℕ) → Taken (x / 32) (x % 32) (p + 1) ≡ step_at b p (slot_of i) prev (items - c) d
+  pub number_step : (prev : List ℕ) (d : ℕ) → taken (x / 32) (x % 32) (p + 1) ≡ step_at b p (slot_of i) prev (items - c) d
   number_step prev d =
       let l = kind in
       let own : 0 ≡ extra_of i = sym n.own in
@@ -56,7 +56,7 @@ module _ (b : List ℕ) (bs : all is_byte b ≡ true) (p i c items : ℕ) (h : Q
       (is_plain b p i prev (sym head) (let t = h.there in omega arith) (of_none b (x % 32) (p + 1) (x / 32) (λ q. omega arith) (λ q. omega arith)) refl
       (no_text (x / 32) ((rule (slot_of i)).spelling (part b (p + 1) (p + 1))) (λ q. omega arith)) refl bs (fits_slot i (x / 32) (x % 32) n.fit) own refl)
 
-  pub number_shown : (d : ℕ) → Bounded b p c items d i (Taken (x / 32) (x % 32) (p + 1))
+  pub number_shown : (d : ℕ) → Bounded b p c items d i (taken (x / 32) (x % 32) (p + 1))
   number_shown d = (omega arith, (let t = h.there in omega arith), h.few, sym (leaf d), (let l = kind in omega arith), n.fit)
 
   pub number_plain : true ≡ (ltb (x / 32) 4 && eqb (extra_of i) 0)

@@ -1,6 +1,6 @@
 -- Runs of entries in the table.
-use Prim.Native.Nat.{ℕ, zero, suc, pred, ◌+◌, ◌<◌}
-use mathlib.Core.Path.{◌≡◌, refl, sym, ◌∙◌, ap}
+use Prim.Native.Nat.{ℕ, suc, pred, ◌+◌, ◌<◌}
+use mathlib.Core.Path.{◌≡◌, refl, ◌∙◌}
 use mathlib.Core.Logic.{◌≢◌}
 use mathlib.Core.Bool.{true, false}
 use mathlib.Core.List.{List, [], ◌∷◌, ◌++◌, map, map-append}
@@ -10,13 +10,12 @@ use lib.Seq.{sets, set_comm}
 use Rattle.buffer.proofs.Putting.{sets_append}
 use Rattle.ari.specs.Table.{Level, done, due, rule, members}
 use Rattle.ari.specs.Reader.{end, push}
-use Rattle.ari.specs.Items.{Items, none, item, encode, heads, Spot, spots, inside_at, spot_at}
+use Rattle.ari.specs.Items.{Items, none, item, encode, heads, Spot, spots, inside_at}
 use Rattle.ari.specs.Due.{Due}
 use Rattle.ari.proofs.Due.{prev_after}
 use Rattle.ari.specs.Table.{is_reference}
-use Rattle.ari.specs.Listing.{referring}
 use Rattle.item_table.specs.Entries.{entry_of, reference_by}
-use Rattle.item_table.specs.References.{filled, noted, place_for, reserved_for}
+use Rattle.item_table.specs.References.{filled, place_for, reserved_for}
 use Rattle.item_table.proofs.References.{item_noted}
 use Rattle.reader.specs.Walks.{Tables, both, kept_in}
 

@@ -1,36 +1,39 @@
 -- The laws of the walk: a head that is refused, an item with its members, the end of a level.
 use Prim.Native.Nat.{ℕ, zero, suc, pred, ◌+◌, ◌-◌, ◌≤◌, ◌<◌}
 use mathlib.Core.Path.{◌≡◌, refl, sym, ◌∙◌, ap}
-use mathlib.Core.Bool.{Bool, true, false, not, ◌&&◌}
-use mathlib.Core.List.{List, [], ◌∷◌, ◌++◌, append_assoc}
+use mathlib.Core.Bool.{true, false}
+use mathlib.Core.List.{List, [], ◌++◌, append_assoc}
 use native.Mathlib.Omega.{arith}
-use lib.ListN.{length, take, drop, set, length-append, take-append-drop}
-use lib.Seq.{sets, drop-drop, length-take-le, length-sets}
-use lib.Dec.{eqb}
-use borrow.Author.Tests.{eqb-false, ne_eqb}
+use lib.ListN.{length, drop, set, length-append, take-append-drop}
+use lib.Seq.{drop-drop, length-take-le}
+use borrow.Author.Tests.{eqb-false}
 use Rattle.buffer.specs.Bytes.{all, is_byte}
-use Rattle.cbor.specs.Head.{Lead, size, lead_bytes, Got, bad, got, get_head, string_size, is_container}
+use Rattle.cbor.specs.Head.{Lead, size, lead_bytes, Got, bad, got, get_head, string_size}
 use Rattle.buffer.proofs.ByteLaws.{all_drop}
-use Rattle.cbor.proofs.HeadLaws.{get_head_forth, length_lead, head_fits}
+use Rattle.cbor.proofs.HeadLaws.{get_head_forth, length_lead}
 use Rattle.ari.specs.Table.{Slot, Level, done, due, rule, members}
-use Rattle.cbor.specs.Head.{key_bytes}
 use Rattle.ari.specs.Reader.{Dues, end, frame, push, behind, key_after, judge, judge_got, Answer, refuse, take_step, visit, run}
 use Rattle.ari.specs.Reader as reader
-use Rattle.ari.specs.Items.{Items, none, item, encode, heads, Spot, spots, inside_at}
-use Rattle.ari.specs.Due.{Due, Good}
+use Rattle.ari.specs.Items.{none, item, encode, heads, Spot, spots, inside_at}
+use Rattle.ari.specs.Due.{Good}
 use Rattle.ari.proofs.Due.{prev_after}
 use Rattle.ari.proofs.Central.{Judged, judged}
 use Rattle.grammar.specs.Code.{slot_number}
 use Rattle.ari.specs.Table.{is_reference}
 use Rattle.item_table.specs.Entries.{packed, reference_head, entry_of, reference_by}
 use Rattle.item_table.specs.References.{filled, place_for, reserved_for}
-use Rattle.reader.specs.declared.Step.TheVariants.{Taken}
-use Rattle.reader.specs.declared.Step.TheVariants as step
-use Rattle.reader.specs.declared.Walk.{Walk}
-use Rattle.reader.specs.declared.Walk.TheVariants.{Read, Refused}
 use Rattle.reader.specs.Steps.{step_answer, step_at}
-use Rattle.reader.specs.Walks.{Tables, both, kept_in, after_walk, Held, OnRead, Walked}
+use Rattle.reader.specs.Walks.{Tables, both, Held, Walked}
 use Rattle.reader.proofs.Tables.{spots_heads, item_kept}
+use Rattle.std.specs.declared.result.Result.{Result}
+use Rattle.std.specs.declared.result.Result.TheVariants.{Ok, Err}
+use Rattle.ari.specs.declared.Refusal.{Refusal}
+use Rattle.ari.specs.Refusals.{refusal_of}
+use Rattle.reader.specs.declared.Read.{Read}
+use Rattle.reader.specs.declared.Taken.{Taken}
+use Rattle.reader.specs.Steps.{taken}
+use Rattle.reader.specs.Walks.{read_to}
+use Rattle.reader.specs.Results.{result_of}
 
 -- a head that was taken
 pub record Took (b : List ℕ) (p left d : ℕ) (s : Slot) (prev : List ℕ) (k a q : ℕ) : Type 0 where
@@ -43,26 +46,33 @@ pub record Took (b : List ℕ) (p left d : ℕ) (s : Slot) (prev : List ℕ) (k 
   pub arg_is : lead.arg ≡ a
   pub after_is : inside_at p lead str ≡ q
 
+-- what was taken, part by part
+pub taken_same : {k a q k' a' q' : ℕ} → taken k a q ≡ taken k' a' q' → (k ≡ k') × (a ≡ a') × (q ≡ q')
+taken_same {k} {a} {q} {k'} {a'} {q'} e =
+    let z : ◌≡◌ {A = Taken} (record { kind = k; arg = a; after = q }) (record { kind = k'; arg = a'; after = q' }) = cc in
+    (ap (λ (x : Taken). x.kind) z, ap (λ (x : Taken). x.arg) z, ap (λ (x : Taken). x.after) z)
+
 module _ (b : List ℕ) (p left d : ℕ) (s : Slot) (prev : List ℕ) (k a q : ℕ) where
-  took_got : (x : Got) → get_head (drop p b) ≡ x → (y : reader.Step) → judge_got left d s prev x (drop p b) ≡ y → step_answer p y ≡ Taken k a q → Took b p left d s prev k a q
+  took_got : (x : Got) → get_head (drop p b) ≡ x → (y : reader.Step) → judge_got left d s prev x (drop p b) ≡ y → step_answer p y ≡ taken k a q → Took b p left d s prev k a q
   unfolding judge_got
   took_got (bad r) g (reader.no r') j e = absurd (let z : ◌≡◌ {A = ℕ} 0 1 = cc in omega arith)
   took_got (bad r) g (reader.yes l str) j e = absurd (let z : ◌≡◌ {A = ℕ} 0 1 = cc in omega arith)
   took_got (got l) g (reader.no r') j e = absurd (let z : ◌≡◌ {A = ℕ} 0 1 = cc in omega arith)
   took_got (got l) g (reader.yes m str) j e =
       let (w, y) = judged left d s prev l (drop (size l) (drop p b)) j in
+      let (ek, ea, eq) = taken_same e in
       record {
         lead = l;
         str = str;
         head = g;
         judge_is = rw (g, w) (rw w at j);
         passed = y;
-        kind_is = rw w (cc);
-        arg_is = rw w (cc);
-        after_is = rw w (cc);
+        kind_is = rw w ek;
+        arg_is = rw w ea;
+        after_is = rw w eq;
       }
 
-  pub took : step_at b p s prev left d ≡ Taken k a q → Took b p left d s prev k a q
+  pub took : step_at b p s prev left d ≡ taken k a q → Took b p left d s prev k a q
   unfolding step_at
   took e = took_got (get_head (drop p b)) refl (judge_got left d s prev (get_head (drop p b)) (drop p b)) refl e
 
@@ -82,24 +92,23 @@ run_taken left s n prev d ds p x l str e = rw e
 
 -- the level has ended
 pub ended : (b : List ℕ) (items : ℕ) (prev : List ℕ) (d around p c : ℕ) (t : Tables) → p ≤ length b → c ≤ items
-    → Walked b items done prev d around p c (Read p c) t t
+    → Walked b items done prev d around p c (read_to p c) t t
 ended b items prev d around p c t h g = record {
   runs = λ ds. refl;
   held = (record { tree = none; fit = tt; bytes = refl; place = omega arith; count = omega arith; table = refl }, h, g);
 }
 
 -- a head is refused
-pub stopped : (b : List ℕ) (items : ℕ) (s : Slot) (n : ℕ) (prev : List ℕ) (d around p c r x : ℕ) (t t' : Tables)
-    → step_at b p s prev (items - c) d ≡ step.Refused r x → Walked b items (due s n) prev d around p c (Refused r x) t t'
+pub stopped : (b : List ℕ) (items : ℕ) (s : Slot) (n : ℕ) (prev : List ℕ) (d around p c : ℕ) (f : Refusal) (t t' : Tables)
+    → step_at b p s prev (items - c) d ≡ Err f → Walked b items (due s n) prev d around p c (Err f) t t'
 unfolding step_at
-stopped b items s n prev d around p c r x t t' e = go (judge_got (items - c) d s prev (get_head (drop p b)) (drop p b)) refl e
+stopped b items s n prev d around p c f t t' e = go (judge_got (items - c) d s prev (get_head (drop p b)) (drop p b)) refl e
   where
-    go : (y : reader.Step) → judge_got (items - c) d s prev (get_head (drop p b)) (drop p b) ≡ y → step_answer p y ≡ step.Refused r x
-        → Walked b items (due s n) prev d around p c (Refused r x) t t'
+    go : (y : reader.Step) → judge_got (items - c) d s prev (get_head (drop p b)) (drop p b) ≡ y → step_answer p y ≡ Err f
+        → Walked b items (due s n) prev d around p c (Err f) t t'
     go (reader.no r') j e =
-        let er : r' ≡ r = cc in
-        let ex : p ≡ x = cc in
-        record { runs = λ ds. run_frame (items - c) s n prev d ds p r' (drop p b) j ∙ (cc); held = tt }
+        let z : refusal_of r' p ≡ f = cc in
+        record { runs = λ ds. ap result_of (run_frame (items - c) s n prev d ds p r' (drop p b) j) ∙ ap Err z; held = tt }
     go (reader.yes l str) j e = absurd (let z : ◌≡◌ {A = ℕ} 0 1 = cc in omega arith)
 
 -- An item: its head was taken, and its members were walked.
@@ -120,9 +129,9 @@ module _ (b : List ℕ) (bs : all is_byte b ≡ true) (items : ℕ) (s : Slot) (
       rw (left_is, run_taken (items - suc c) s n prev d ds p (drop p b) h.lead h.str e, drop-drop (size h.lead + length h.str) p b, f)
 
   -- a member is refused
-  pub broken : {r x : ℕ} {t tᵣ t₁ t' : Tables} → Walked b items (members s h.lead) [] (pred d) (suc around) q₀ (suc c) (Refused r x) tᵣ t₁
-      → Walked b items (due s n) prev d around p c (Refused r x) t t'
-  broken w = record { runs = λ ds. runs_in ds ∙ w.runs (behind s h.lead h.str n prev d ds); held = tt }
+  pub broken : {f : Refusal} {t tᵣ t₁ t' : Tables} → Walked b items (members s h.lead) [] (pred d) (suc around) q₀ (suc c) (Err f) tᵣ t₁
+      → Walked b items (due s n) prev d around p c (Err f) t t'
+  broken w = record { runs = λ ds. ap result_of (runs_in ds) ∙ w.runs (behind s h.lead h.str n prev d ds); held = tt }
 
   pub good : Good s prev h.lead h.str
   good = record {
@@ -156,7 +165,7 @@ module _ (b : List ℕ) (bs : all is_byte b ≡ true) (items : ℕ) (s : Slot) (
   -- what follows the item finishes the whole
   module _ (i : ℕ) {q e : ℕ} {t t₁ t₂ : Tables} {v pl : ℕ} {res : List ℕ} (is : is_reference s h.lead ≡ reference_by i k a) (taken : res ≡ reserved_for i k a t.references)
       (at : pl ≡ place_for i k a t.references)
-      (w : Walked b items (members s h.lead) [] (pred d) (suc around) q₀ (suc c) (Read q e) (both t.items res) t₁)
+      (w : Walked b items (members s h.lead) [] (pred d) (suc around) q₀ (suc c) (read_to q e) (both t.items res) t₁)
       (put : t₂.items ≡ set t₁.items c (packed p q around (slot_number s) (reference_head s h.lead)))
       (fill : t₂.references ≡ filled t₁.references pl v)
       (own : reference_by i k a ≡ true → v ≡ packed p q around (slot_number s) (reference_head s h.lead)) where
@@ -185,13 +194,13 @@ module _ (b : List ℕ) (bs : all is_byte b ≡ true) (items : ℕ) (s : Slot) (
               (item_kept t c (heads ms) i k a y xs (spots rs false next q around) hx m.count is taken at m.table put fill own);
         }
 
-    onward_of : (u : Walk) {z : Tables} → Walked b items next after d around q e u t₂ z → Walked b items (due s n) prev d around p c u t z
-    onward_of (Read q' e') y = record {
-      runs = λ ds. runs_in ds ∙ w.runs (behind s h.lead h.str n prev d ds) ∙ y.runs ds;
+    onward_of : (u : Result Read Refusal) {z : Tables} → Walked b items next after d around q e u t₂ z → Walked b items (due s n) prev d around p c u t z
+    onward_of (Ok q') y = record {
+      runs = λ ds. ap result_of (runs_in ds) ∙ w.runs (behind s h.lead h.str n prev d ds) ∙ y.runs ds;
       held = (together y.held.0, y.held.1, y.held.2);
     }
-    onward_of (Refused r x) y =
-        record { runs = λ ds. runs_in ds ∙ w.runs (behind s h.lead h.str n prev d ds) ∙ y.runs ds; held = tt }
+    onward_of (Err f) y =
+        record { runs = λ ds. ap result_of (runs_in ds) ∙ w.runs (behind s h.lead h.str n prev d ds) ∙ y.runs ds; held = tt }
 
-    pub onward : {u : Walk} {z : Tables} → Walked b items next after d around q e u t₂ z → Walked b items (due s n) prev d around p c u t z
+    pub onward : {u : Result Read Refusal} {z : Tables} → Walked b items next after d around q e u t₂ z → Walked b items (due s n) prev d around p c u t z
     onward {u} y = onward_of u y

@@ -1,17 +1,13 @@
 -- Whole inputs: the sets of a message, the end of a single ARI, and the table of an accepted input.
 use Prim.Native.Nat.{ℕ, zero, suc, ◌+◌, ◌-◌, ◌≤◌, ◌<◌}
 use mathlib.Core.Path.{◌≡◌, refl, sym, ◌∙◌, ap}
-use mathlib.Core.Bool.{Bool, true, false, cond}
+use mathlib.Core.Bool.{true, false}
 use mathlib.Core.List.{List, [], ◌∷◌, ◌++◌, map, map-append, append-nil, append_assoc}
 use native.Mathlib.Omega.{arith}
 use native.Mathlib.Nat.{sub-zero}
-use lib.ListN.{length, get_or, drop, length-append, length-map, length-drop, drop_of_length-le}
-use lib.Seq.{sets as stored, drop-cons, drop-length}
-use lib.Dec.{ltb}
-use mir.Syntax.{w8}
-use mir.Val.{Fits}
+use lib.ListN.{length, get_or, drop, length-append, length-map, drop_of_length-le}
+use lib.Seq.{drop-cons}
 use borrow.Author.Tests.{lt-ltb, le-ltb}
-use Rattle.buffer.specs.Bytes.{all, is_byte}
 use Rattle.buffer.proofs.Putting.{sets_append}
 use Rattle.ari.specs.Table.{message, alone, Slot, version, ari, Level, done, due, rule, members}
 use Rattle.ari.specs.declared.Limits.{Limits}
@@ -26,20 +22,19 @@ use Rattle.ari.proofs.Due.{due_sets, prev_after}
 use Rattle.ari.proofs.Join.{encode_join, heads_join}
 use Rattle.ari.proofs.Central.{paste}
 use Rattle.ari.proofs.Weight.{decodes}
-use Rattle.grammar.specs.Code.{slot_of}
 use Rattle.ari.specs.Listing.{referring}
 use Rattle.ari.proofs.Referring.{referring_append}
 use Rattle.item_table.specs.Entries.{entry_of}
-use Rattle.item_table.specs.References.{noted}
 use Rattle.item_table.proofs.References.{noted_append}
-use Rattle.reader.specs.declared.Walk.{Walk}
-use Rattle.reader.specs.declared.Walk.TheVariants.{Read, Refused}
-use Rattle.reader.specs.declared.Answer.{Answer as OutAnswer}
-use Rattle.reader.specs.declared.Answer.TheVariants.{Accepted}
-use Rattle.reader.specs.declared.Answer.TheVariants as answers
-use Rattle.reader.specs.Walks.{Tables, both, kept_in, Held, Walked, SetsHeld, SetsWalked, after_walk, after_sets}
-use Rattle.reader.specs.Answers.{answer_of, refusal_of, Kept, Noted}
+use Rattle.reader.specs.Walks.{Tables, both, kept_in, Walked, SetsHeld, SetsWalked, after_walk, after_sets}
 use Rattle.reader.proofs.Tables.{spots_heads, both_are}
+use Rattle.std.specs.declared.result.Result.{Result}
+use Rattle.std.specs.declared.result.Result.TheVariants.{Ok, Err}
+use Rattle.ari.specs.declared.Refusal.{Refusal}
+use Rattle.ari.specs.Refusals.{refused}
+use Rattle.reader.specs.declared.Read.{Read}
+use Rattle.reader.specs.Walks.{read_to}
+use Rattle.reader.specs.Results.{result_of, Keeps, Notes}
 
 -- a level and the sets behind it
 spots_join : (g h : Items) (v : Level) (prev : List ℕ) (d p around : ℕ) → Due g (push v prev d end)
@@ -97,22 +92,22 @@ module _ (b : List ℕ) (items d p c : ℕ) where
   at_set : p < length b → (left : ℕ) → run left (sets d) p (drop p b) ≡ run left (frame (ari message) 0 [] d (sets d)) p (drop p b)
   at_set h left = rw (drop-cons b p 0 h) (run_sets left d p (get_or b p 0) (drop (suc p) b))
 
-  pub sets_ended : {t : Tables} → length b ≤ p → p ≤ length b → c ≤ items → SetsWalked b items d p c (Read p c) t t
+  pub sets_ended : {t : Tables} → length b ≤ p → p ≤ length b → c ≤ items → SetsWalked b items d p c (read_to p c) t t
   sets_ended h g n =
       let e : drop p b ≡ [] = drop_of_length-le b h in
       record {
-        runs = rw e (run_none (items - c) d p);
+        runs = rw e (ap result_of (run_none (items - c) d p));
         held = (record { tree = none; fit = tt; bytes = e; count = omega arith; table = refl }, n);
       }
 
-  module _ (h : p < length b) {w : Walk} {t t₁ : Tables} (v : Walked b items (due (ari message) 0) [] d 0 p c w t t₁) where
-    pub sets_stopped : {r x : ℕ} → w ≡ Refused r x → {z : Tables} → SetsWalked b items d p c w t z
-    sets_stopped {r} {x} g {z} =
+  module _ (h : p < length b) {w : Result Read Refusal} {t t₁ : Tables} (v : Walked b items (due (ari message) 0) [] d 0 p c w t t₁) where
+    pub sets_stopped : {f : Refusal} → w ≡ Err f → {z : Tables} → SetsWalked b items d p c (Err f) t z
+    sets_stopped g =
         let y = rw g at v in
-        rw g (record { runs = at_set h (items - c) ∙ y.runs (sets d); held = tt })
+        record { runs = ap result_of (at_set h (items - c)) ∙ y.runs (sets d); held = tt }
 
-    module _ {q e : ℕ} (g : w ≡ Read q e) where
-      abbrev y : Walked b items (due (ari message) 0) [] d 0 p c (Read q e) t t₁
+    module _ {q e : ℕ} (g : w ≡ read_to q e) where
+      abbrev y : Walked b items (due (ari message) 0) [] d 0 p c (read_to q e) t t₁
       y = rw g at v
 
       one_set : {e' : ℕ} {z : Tables} → SetsHeld b d q e e' t₁ z → SetsHeld b d p c e' t z
@@ -129,32 +124,41 @@ module _ (b : List ℕ) (items d p c : ℕ) where
                 ∙ ap (λ (x : List Spot). kept_in t c x) (sym (one_more (join m.tree u.tree) d p 0 f));
           }
 
-      pub sets_on : {u : Walk} {z : Tables} → SetsWalked b items d q e u t₁ z → SetsWalked b items d p c u t z
+      pub sets_on : {u : Result Read Refusal} {z : Tables} → SetsWalked b items d q e u t₁ z → SetsWalked b items d p c u t z
       sets_on {u} x = sets_of u x
         where
-          sets_of : (u : Walk) {z : Tables} → SetsWalked b items d q e u t₁ z → SetsWalked b items d p c u t z
-          sets_of (Read q' e') x = record { runs = at_set h (items - c) ∙ y.runs (sets d) ∙ x.runs; held = (one_set x.held.0, x.held.1) }
-          sets_of (Refused r x') x = record { runs = at_set h (items - c) ∙ y.runs (sets d) ∙ x.runs; held = tt }
+          sets_of : (u : Result Read Refusal) {z : Tables} → SetsWalked b items d q e u t₁ z → SetsWalked b items d p c u t z
+          sets_of (Ok z') x = record { runs = ap result_of (at_set h (items - c)) ∙ y.runs (sets d) ∙ x.runs; held = (one_set x.held.0, x.held.1) }
+          sets_of (Err f) x = record { runs = ap result_of (at_set h (items - c)) ∙ y.runs (sets d) ∙ x.runs; held = tt }
 
 -- The loop over the sets: what ends the rest ends the whole.
 pub record SetsLead (b : List ℕ) (items d p₀ c₀ : ℕ) (t₀ : Tables) (p c : ℕ) (t : Tables) : Type 0 where
-  pub then : {w : Walk} {z : Tables} → SetsWalked b items d p c w t z → SetsWalked b items d p₀ c₀ w t₀ z
+  pub then : {w : Result Read Refusal} {z : Tables} → SetsWalked b items d p c w t z → SetsWalked b items d p₀ c₀ w t₀ z
 
 pub sets_begin : (b : List ℕ) (items d p c : ℕ) (t : Tables) → SetsLead b items d p c t p c t
 sets_begin b items d p c t = record { then = λ w. w }
 
 pub sets_again : (b : List ℕ) (items d p₀ c₀ : ℕ) (t₀ : Tables) (p c : ℕ) (t : Tables) → SetsLead b items d p₀ c₀ t₀ p c t → p < length b
-    → {w : Walk} {t₁ : Tables} → Walked b items (due (ari message) 0) [] d 0 p c w t t₁ → {q e : ℕ} → w ≡ Read q e → SetsLead b items d p₀ c₀ t₀ q e t₁
+    → {w : Result Read Refusal} {t₁ : Tables} → Walked b items (due (ari message) 0) [] d 0 p c w t t₁ → {q e : ℕ} → w ≡ read_to q e → SetsLead b items d p₀ c₀ t₀ q e t₁
 sets_again b items d p₀ c₀ t₀ p c t i h v g = record { then = λ y. i.then (sets_on b items d p c h v g y) }
 
 pub sets_halt : (b : List ℕ) (items d p₀ c₀ : ℕ) (t₀ : Tables) (p c : ℕ) (t : Tables) → SetsLead b items d p₀ c₀ t₀ p c t → p < length b
-    → {w : Walk} {t₁ : Tables} → Walked b items (due (ari message) 0) [] d 0 p c w t t₁ → {r x : ℕ} → w ≡ Refused r x → {z : Tables}
-    → SetsWalked b items d p₀ c₀ w t₀ z
+    → {w : Result Read Refusal} {t₁ : Tables} → Walked b items (due (ari message) 0) [] d 0 p c w t t₁ → {f : Refusal} → w ≡ Err f → {z : Tables}
+    → SetsWalked b items d p₀ c₀ (Err f) t₀ z
 sets_halt b items d p₀ c₀ t₀ p c t i h v g = i.then (sets_stopped b items d p c h v g)
 
 pub sets_done : (b : List ℕ) (items d p₀ c₀ : ℕ) (t₀ : Tables) (p c : ℕ) (t : Tables) → SetsLead b items d p₀ c₀ t₀ p c t → length b ≤ p → p ≤ length b → c ≤ items
-    → SetsWalked b items d p₀ c₀ (Read p c) t₀ t
+    → SetsWalked b items d p₀ c₀ (read_to p c) t₀ t
 sets_done b items d p₀ c₀ t₀ p c t i h g n = i.then (sets_ended b items d p c h g n)
+
+-- items that were read, for items to spare
+abbrev counted_of : ℕ → Result ℕ Refusal → Result ℕ Refusal
+counted_of n (Ok left) = Ok (n - left)
+counted_of n (Err e) = Err e
+
+counted_is : (n : ℕ) (x : Answer) → result_of (counted n x) ≡ counted_of n (result_of x)
+counted_is n (refuse r p) = refl
+counted_is n (accept left) = refl
 
 -- The answers.
 module _ (b : List ℕ) (m : Limits) where
@@ -168,47 +172,46 @@ module _ (b : List ℕ) (m : Limits) where
   d = m.containers
 
   -- test 1
-  pub too_long : (i : Input) → bytes < length b → answers.Refused 1 0 ≡ answer_of (read m i b)
+  pub too_long : (i : Input) → bytes < length b → refused 1 0 ≡ result_of (read m i b)
   unfolding read
   too_long i h = rw (lt-ltb bytes (length b) h)
 
   module _ (h : length b ≤ bytes) where
-    read_is : (i : Input) {x : Answer} → run items (frame (first_slot i) 0 [] d (bottom i d)) 0 b ≡ x → read m i b ≡ counted items x
+    read_is : (i : Input) {r : Result ℕ Refusal} → result_of (run items (frame (first_slot i) 0 [] d (bottom i d)) 0 b) ≡ r → result_of (read m i b) ≡ counted_of items r
     unfolding read
-    read_is i e = rw (le-ltb bytes (length b) h, e)
+    read_is i e = rw (le-ltb bytes (length b) h) (counted_is items (run items (frame (first_slot i) 0 [] d (bottom i d)) 0 b) ∙ ap (counted_of items) e)
 
-    refuses : (i : Input) {r x : ℕ} → run items (frame (first_slot i) 0 [] d (bottom i d)) 0 b ≡ refuse r x → {w : Walk} → w ≡ Refused r x
-        → {z : OutAnswer} → z ≡ refusal_of w → z ≡ answer_of (read m i b)
-    refuses i e g q = rw (q, g, read_is i e)
+    refuses : (i : Input) {f : Refusal} → result_of (run items (frame (first_slot i) 0 [] d (bottom i d)) 0 b) ≡ Err f → Err f ≡ result_of (read m i b)
+    refuses i e = sym (read_is i e)
 
-    accepts : (i : Input) {c : ℕ} → run items (frame (first_slot i) 0 [] d (bottom i d)) 0 b ≡ accept (items - c) → c ≤ items → Accepted c ≡ answer_of (read m i b)
+    accepts : (i : Input) {c : ℕ} → result_of (run items (frame (first_slot i) 0 [] d (bottom i d)) 0 b) ≡ Ok (items - c) → c ≤ items → Ok c ≡ result_of (read m i b)
     accepts i {c} e n = let k : items - (items - c) ≡ c = omega arith in rw (read_is i e, k)
 
     -- what was walked from the start of the input
-    from_start : (s : Slot) {w : Walk} {t t₁ : Tables} → Walked b items (due s 0) [] d 0 0 0 w t t₁ → (ds : Dues)
-        → run items (frame s 0 [] d ds) 0 b ≡ after_walk b items w ds
+    from_start : (s : Slot) {w : Result Read Refusal} {t t₁ : Tables} → Walked b items (due s 0) [] d 0 0 0 w t t₁ → (ds : Dues)
+        → result_of (run items (frame s 0 [] d ds) 0 b) ≡ after_walk b items w ds
     from_start s v ds = rw (sub-zero items) at (v.runs ds)
 
-    module _ {w : Walk} {t u t₁ u₁ : List ℕ} (v : Walked b items (due (ari alone) 0) [] d 0 0 0 w (both t u) (both t₁ u₁)) where
-      pub single_refused : {r x : ℕ} → w ≡ Refused r x → {z : OutAnswer} → z ≡ refusal_of w → z ≡ answer_of (read m Single b)
-      single_refused g q = refuses Single (rw g at (from_start (ari alone) v end)) g q
+    module _ {w : Result Read Refusal} {t u t₁ u₁ : List ℕ} (v : Walked b items (due (ari alone) 0) [] d 0 0 0 w (both t u) (both t₁ u₁)) where
+      pub single_refused : {f : Refusal} → w ≡ Err f → Err f ≡ result_of (read m Single b)
+      single_refused g = refuses Single (rw g at (from_start (ari alone) v end))
 
-      module _ {q c : ℕ} (g : w ≡ Read q c) where
-        abbrev one : Walked b items (due (ari alone) 0) [] d 0 0 0 (Read q c) (both t u) (both t₁ u₁)
+      module _ {q c : ℕ} (g : w ≡ read_to q c) where
+        abbrev one : Walked b items (due (ari alone) 0) [] d 0 0 0 (read_to q c) (both t u) (both t₁ u₁)
         one = rw g at v
 
-        pub single_more : q < length b → answers.Refused 13 q ≡ answer_of (read m Single b)
+        pub single_more : q < length b → refused 13 q ≡ result_of (read m Single b)
         single_more n =
-            let e : run items (frame (ari alone) 0 [] d end) 0 b ≡ refuse 13 q
-            = from_start (ari alone) one end ∙ rw (drop-cons b q 0 n) (run_more (items - c) q (get_or b q 0) (drop (suc q) b)) in
-            rw (read_is Single e)
+            let e : result_of (run items (frame (ari alone) 0 [] d end) 0 b) ≡ refused 13 q
+            = from_start (ari alone) one end ∙ rw (drop-cons b q 0 n) (ap result_of (run_more (items - c) q (get_or b q 0) (drop (suc q) b))) in
+            refuses Single e
 
         none_left : length b ≤ q → drop q b ≡ []
         none_left n = drop_of_length-le b n
 
-        pub single_accepted : length b ≤ q → Accepted c ≡ answer_of (read m Single b)
+        pub single_accepted : length b ≤ q → Ok c ≡ result_of (read m Single b)
         single_accepted n =
-            accepts Single (from_start (ari alone) one end ∙ rw (none_left n) (run_end (items - c) q)) one.held.2
+            accepts Single (from_start (ari alone) one end ∙ rw (none_left n) (ap result_of (run_end (items - c) q))) one.held.2
 
         single_table : length b ≤ q → both t₁ u₁ ≡ kept_in (both t u) 0 (spots_of Single (decode b))
         single_table n =
@@ -217,31 +220,31 @@ module _ (b : List ℕ) (m : Limits) where
             let f : decode b ≡ k.tree = ap decode (sym e) ∙ decodes k.tree (frame (ari alone) 0 [] d end) k.fit in
             k.table ∙ ap (λ (x : Items). kept_in (both t u) 0 (spots_of Single x)) (sym f)
 
-        pub single_kept : length b ≤ q → Kept Single b (Accepted c) t t₁
+        pub single_kept : length b ≤ q → Keeps Single b (Ok c) t t₁
         single_kept n = record { kept = ap (λ (x : Tables). x.items) (single_table n) }
 
-        pub single_noted : length b ≤ q → Noted Single b (Accepted c) u u₁
+        pub single_noted : length b ≤ q → Notes Single b (Ok c) u u₁
         single_noted n = record { noted = ap (λ (x : Tables). x.references) (single_table n) }
 
-    module _ {w : Walk} {t u t₁ u₁ : List ℕ} (v : Walked b items (due version 0) [] d 0 0 0 w (both t u) (both t₁ u₁)) where
-      pub message_refused : {r x : ℕ} → w ≡ Refused r x → {z : OutAnswer} → z ≡ refusal_of w → z ≡ answer_of (read m Message b)
-      message_refused g q = refuses Message (rw g at (from_start version v (sets d))) g q
+    module _ {w : Result Read Refusal} {t u t₁ u₁ : List ℕ} (v : Walked b items (due version 0) [] d 0 0 0 w (both t u) (both t₁ u₁)) where
+      pub message_refused : {f : Refusal} → w ≡ Err f → Err f ≡ result_of (read m Message b)
+      message_refused g = refuses Message (rw g at (from_start version v (sets d)))
 
-      module _ {q c : ℕ} (g : w ≡ Read q c) {y : Walk} {t₂ u₂ : List ℕ} (x : SetsWalked b items d q c y (both t₁ u₁) (both t₂ u₂)) where
-        abbrev ver : Walked b items (due version 0) [] d 0 0 0 (Read q c) (both t u) (both t₁ u₁)
+      module _ {q c : ℕ} (g : w ≡ read_to q c) {y : Result Read Refusal} {t₂ u₂ : List ℕ} (x : SetsWalked b items d q c y (both t₁ u₁) (both t₂ u₂)) where
+        abbrev ver : Walked b items (due version 0) [] d 0 0 0 (read_to q c) (both t u) (both t₁ u₁)
         ver = rw g at v
 
-        message_runs : run items (frame version 0 [] d (sets d)) 0 b ≡ after_sets items y
+        message_runs : result_of (run items (frame version 0 [] d (sets d)) 0 b) ≡ after_sets items y
         message_runs = from_start version ver (sets d) ∙ x.runs
 
-        pub message_stopped : {r k : ℕ} → y ≡ Refused r k → {z : OutAnswer} → z ≡ refusal_of y → z ≡ answer_of (read m Message b)
-        message_stopped f z = refuses Message (rw f at message_runs) f z
+        pub message_stopped : {f : Refusal} → y ≡ Err f → Err f ≡ result_of (read m Message b)
+        message_stopped f = refuses Message (rw f at message_runs)
 
-        module _ {q' e : ℕ} (f : y ≡ Read q' e) where
-          abbrev x' : SetsWalked b items d q c (Read q' e) (both t₁ u₁) (both t₂ u₂)
+        module _ {q' e : ℕ} (f : y ≡ read_to q' e) where
+          abbrev x' : SetsWalked b items d q c (read_to q' e) (both t₁ u₁) (both t₂ u₂)
           x' = rw f at x
 
-          pub message_accepted : Accepted e ≡ answer_of (read m Message b)
+          pub message_accepted : Ok e ≡ result_of (read m Message b)
           message_accepted = accepts Message (rw f at message_runs) x'.held.1
 
           message_table : both t₂ u₂ ≡ kept_in (both t u) 0 (spots_of Message (decode b))
@@ -255,53 +258,41 @@ module _ (b : List ℕ) (m : Limits) where
               join_table (due version 0) k.tree l.tree d 0 0 q c (both t u) k.fit k.place k.count k.table l.table
               ∙ ap (λ (z : Items). kept_in (both t u) 0 (spots_of Message z)) (sym r)
 
-          pub message_kept : Kept Message b (Accepted e) t t₂
+          pub message_kept : Keeps Message b (Ok e) t t₂
           message_kept = record { kept = ap (λ (z : Tables). z.items) message_table }
 
-          pub message_noted : Noted Message b (Accepted e) u u₂
+          pub message_noted : Notes Message b (Ok e) u u₂
           message_noted = record { noted = ap (λ (z : Tables). z.references) message_table }
 
--- a refusal, handed on
-pub refused : {w : Walk} {r x : ℕ} → w ≡ Refused r x → answers.Refused r x ≡ refusal_of w
-refused e = rw e
-
 -- of a refused input no table is asked
-pub unkept : (i : Input) (b : List ℕ) (r x : ℕ) (t t' : List ℕ) → length t' ≡ length t → Kept i b (answers.Refused r x) t t'
-unkept i b r x t t' l = record { kept = l }
+pub unkept : (i : Input) (b : List ℕ) {f : Refusal} (t t' : List ℕ) → length t' ≡ length t → Keeps i b (Err f) t t'
+unkept i b t t' l = record { kept = l }
 
-pub unkept_walk : (i : Input) (b : List ℕ) {w : Walk} {r x : ℕ} → w ≡ Refused r x → {z : OutAnswer} → z ≡ refusal_of w → (t t' : List ℕ) → length t' ≡ length t → Kept i b z t t'
-unkept_walk i b g e t t' l = rw (e, g) (record { kept = l })
-
-pub unkept_later : (i : Input) (b : List ℕ) {w : Walk} {r x : ℕ} → w ≡ Refused r x → {z : OutAnswer} → z ≡ refusal_of w → (t t₁ t' : List ℕ) → length t₁ ≡ length t → length t' ≡ length t₁
-    → Kept i b z t t'
-unkept_later i b g e t t₁ t' l l₁ = unkept_walk i b g e t t' (l₁ ∙ l)
+pub unkept_later : (i : Input) (b : List ℕ) {f : Refusal} (t t₁ t' : List ℕ) → length t₁ ≡ length t → length t' ≡ length t₁ → Keeps i b (Err f) t t'
+unkept_later i b t t₁ t' l l₁ = record { kept = l₁ ∙ l }
 
 -- nor one of references
-pub unnoted : (i : Input) (b : List ℕ) (r x : ℕ) (t t' : List ℕ) → length t' ≡ length t → Noted i b (answers.Refused r x) t t'
-unnoted i b r x t t' l = record { noted = l }
+pub unnoted : (i : Input) (b : List ℕ) {f : Refusal} (t t' : List ℕ) → length t' ≡ length t → Notes i b (Err f) t t'
+unnoted i b t t' l = record { noted = l }
 
-pub unnoted_walk : (i : Input) (b : List ℕ) {w : Walk} {r x : ℕ} → w ≡ Refused r x → {z : OutAnswer} → z ≡ refusal_of w → (t t' : List ℕ) → length t' ≡ length t → Noted i b z t t'
-unnoted_walk i b g e t t' l = rw (e, g) (record { noted = l })
+pub unnoted_later : (i : Input) (b : List ℕ) {f : Refusal} (t t₁ t' : List ℕ) → length t₁ ≡ length t → length t' ≡ length t₁ → Notes i b (Err f) t t'
+unnoted_later i b t t₁ t' l l₁ = record { noted = l₁ ∙ l }
 
-pub unnoted_later : (i : Input) (b : List ℕ) {w : Walk} {r x : ℕ} → w ≡ Refused r x → {z : OutAnswer} → z ≡ refusal_of w → (t t₁ t' : List ℕ) → length t₁ ≡ length t → length t' ≡ length t₁
-    → Noted i b z t t'
-unnoted_later i b g e t t₁ t' l l₁ = unnoted_walk i b g e t t' (l₁ ∙ l)
-
-pub noted_from : (i : Input) (b : List ℕ) {a : OutAnswer} {t t₁ t' : List ℕ} → t₁ ≡ t → Noted i b a t₁ t' → Noted i b a t t'
+pub noted_from : (i : Input) (b : List ℕ) {a : Result ℕ Refusal} {t t₁ t' : List ℕ} → t₁ ≡ t → Notes i b a t₁ t' → Notes i b a t t'
 noted_from i b e k = rw e at k
 
-pub ruleset single_ways = (too_long, single_refused, single_more, single_accepted, single_kept, single_noted, unkept, unkept_walk, unnoted, unnoted_walk)
+pub ruleset single_ways = (too_long, single_refused, single_more, single_accepted, single_kept, single_noted, unkept, unnoted)
 
-pub ruleset message_ways = (too_long, message_refused, message_stopped, message_accepted, message_kept, message_noted, unkept, unkept_walk, unkept_later, unnoted, unnoted_walk, unnoted_later)
+pub ruleset message_ways = (too_long, message_refused, message_stopped, message_accepted, message_kept, message_noted, unkept, unkept_later, unnoted, unnoted_later)
 
 -- the answer for one input is the answer for that input
-pub input_read : (m : Limits) (b : List ℕ) {i j : Input} → i ≡ j → {a : OutAnswer} → a ≡ answer_of (read m j b) → a ≡ answer_of (read m i b)
+pub input_read : (m : Limits) (b : List ℕ) {i j : Input} → i ≡ j → {a : Result ℕ Refusal} → a ≡ result_of (read m j b) → a ≡ result_of (read m i b)
 input_read m b e g = rw e g
 
-pub input_kept : (b : List ℕ) {a : OutAnswer} {t t' : List ℕ} {i j : Input} → i ≡ j → Kept j b a t t' → Kept i b a t t'
+pub input_kept : (b : List ℕ) {a : Result ℕ Refusal} {t t' : List ℕ} {i j : Input} → i ≡ j → Keeps j b a t t' → Keeps i b a t t'
 input_kept b e k = rw e k
 
-pub input_noted : (b : List ℕ) {a : OutAnswer} {t t' : List ℕ} {i j : Input} → i ≡ j → Noted j b a t t' → Noted i b a t t'
+pub input_noted : (b : List ℕ) {a : Result ℕ Refusal} {t t' : List ℕ} {i j : Input} → i ≡ j → Notes j b a t t' → Notes i b a t t'
 input_noted b e k = rw e k
 
 pub ruleset of_input = (input_read, input_kept, input_noted)

@@ -1,3 +1,3 @@
 pub mod Steps
 pub mod Walks
-pub mod Answers
+pub mod Results

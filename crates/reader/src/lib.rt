@@ -13,14 +13,14 @@ ghost use Rattle.grammar.specs.Code.{slot_of};
 ghost use Rattle.grammar.specs.Code.{IsSlot, level_of, spelled_as, next_code};
 ghost use Rattle.grammar.specs.Words.{WordOf};
 ghost use Rattle.buffer.specs.Bytes.{part};
-ghost use Rattle.reader.specs.Steps.{stands_at, string_end, key_at, step_at, content_at, ContentShown, no_head, stopped_of, Bounded, key_span, Quick};
-ghost use Rattle.reader.specs.Walks.{both, Walked, head_walk, first_of, unwalked_of, SetsWalked, Opens, LastShown};
+ghost use Rattle.reader.specs.Steps.{stands_at, string_end, key_at, step_at, content_at, ContentShown, no_head, Bounded, key_span, Quick};
+ghost use Rattle.reader.specs.Walks.{both, Walked, end_of_head, first_of, SetsWalked, Opens, LastShown};
 ghost use Rattle.ari.specs.declared.Input.TheVariants.{Single, Message};
 ghost use Rattle.ari.specs.Reader.{read};
 ghost use Rattle.ari.specs.Limits.{gate_limits};
-ghost use Rattle.reader.specs.Answers.{answer_of, refusal_of, Kept, Noted};
+ghost use Rattle.reader.specs.Results.{result_of, Keeps, Notes};
 
-use ari::{Input, Limits};
+use ari::{Fault, Input, Limits, Refusal};
 
 // The place of a map key.
 #[derive(Clone, Copy)]
@@ -29,25 +29,19 @@ pub struct Span {
     pub to: usize,
 }
 
-// What one head gives: it is taken, with the first byte behind its string; or the input is refused.
+// A head that was taken, with the first byte behind its string.
 #[derive(Clone, Copy)]
-pub enum Step {
-    Taken { kind: u8, arg: u64, after: usize },
-    Refused { number: u8, place: usize },
+pub struct Taken {
+    pub kind: u8,
+    pub arg: u64,
+    pub after: usize,
 }
 
-// The end of a string, if the input has it.
+// The items of a level that were read: up to a place, and so many in all.
 #[derive(Clone, Copy)]
-pub enum End {
-    At(usize),
-    Short,
-}
-
-// What a walk over the items of a level gives: they are read up to a place, and so many items in all; or the input is refused.
-#[derive(Clone, Copy)]
-pub enum Walk {
-    Read { next: usize, count: usize },
-    Refused { number: u8, place: usize },
+pub struct Read {
+    pub next: usize,
+    pub count: usize,
 }
 
 // What a slot's word says: test 7, the slot's own test, how a text string is spelled, what is due beside a head.
@@ -100,18 +94,18 @@ fn left(s: &[u8], at: usize) -> usize
     s.len() - at
 }
 
-fn end_of(s: &[u8], arg: u64, next: usize) -> End
+fn end_of(s: &[u8], arg: u64, next: usize) -> Option<usize>
     ensures { result ≡ string_end s.now 2 arg next }
 {
     let size = arg as usize;
     if left(s, next) < size {
-        return End::Short;
+        return None;
     }
-    End::At(next + size)
+    Some(next + size)
 }
 
-// Test 9: where the string behind a head ends. What is no string has none.
-pub fn string_end(s: &[u8], kind: u8, arg: u64, next: usize) -> End
+// Test 9: where the string behind a head ends, if the input has it all. What is no string ends where its head does.
+pub fn string_end(s: &[u8], kind: u8, arg: u64, next: usize) -> Option<usize>
     ensures { result ≡ string_end s.now kind arg next }
 {
     if kind == cbor::BYTES {
@@ -120,7 +114,7 @@ pub fn string_end(s: &[u8], kind: u8, arg: u64, next: usize) -> End
     if kind == cbor::TEXT {
         return end_of(s, arg, next);
     }
-    End::At(next)
+    Some(next)
 }
 
 fn is_spelled(slot: u64, word: u64, t: &[u8]) -> bool
@@ -193,55 +187,54 @@ fn judge_content(
     kind: u8,
     arg: u64,
     next: usize,
-) -> Step
+) -> Result<Taken, Refusal>
     requires word_of { WordOf slot word × (all is_byte s.now ≡ true) × (extra ≡ extra_of slot) × (prev.from ≤ prev.to) × (prev.to ≤ length s.now) }
     requires at_value { (head_at s.now at ≡ Good kind arg next) × (at < next) × (next ≤ length s.now) × (fits_code slot kind arg ≡ true) × (kind ≤ 9) }
     ensures value { result ≡ content_at s.now at (slot_of slot) (key_of (part s.now prev.from prev.to)) }
     ensures content_shown { ContentShown s.now kind arg next result }
 {
-    let e = string_end(s, kind, arg, next);
-    let End::At(end) = e else {
-        return Step::Refused {
-            number: 9,
+    let Some(end) = string_end(s, kind, arg, next) else {
+        return Err(Refusal {
+            fault: Fault::StringCut,
             place: at,
-        };
+        });
     };
     if is_misspelt(s, slot, word, kind, next, end) {
-        return Step::Refused {
-            number: 10,
+        return Err(Refusal {
+            fault: Fault::Misspelt,
             place: at,
-        };
+        });
     }
     if extra == 0 {
-        return Step::Taken {
+        return Ok(Taken {
             kind,
             arg,
             after: end,
-        };
+        });
     }
     if wrong_version(slot, extra, arg) {
-        return Step::Refused {
-            number: 8,
+        return Err(Refusal {
+            fault: Fault::WrongVersion,
             place: at,
-        };
+        });
     }
     if is_unordered(s, slot, extra, prev, at, end) {
-        return Step::Refused {
-            number: 11,
+        return Err(Refusal {
+            fault: Fault::KeyOrder,
             place: at,
-        };
+        });
     }
     if is_empty(slot, extra, arg) {
-        return Step::Refused {
-            number: 12,
+        return Err(Refusal {
+            fault: Fault::NoParameters,
             place: at,
-        };
+        });
     }
-    Step::Taken {
+    Ok(Taken {
         kind,
         arg,
         after: end,
-    }
+    })
 }
 
 // A container that may not be opened.
@@ -258,19 +251,15 @@ pub fn is_too_deep(kind: u8, depth: usize) -> bool
 }
 
 // A head that is no head is refused.
-fn no_head(h: cbor::Head, at: usize) -> Step
+fn no_head(h: cbor::Head, at: usize) -> Result<Taken, Refusal>
     ensures { result ≡ no_head h at }
 {
     match h {
-        cbor::Head::Bad(number) => Step::Refused { number, place: at },
-        cbor::Head::Good {
-            kind: _,
-            arg: _,
-            next: _,
-        } => Step::Refused {
-            number: 0,
+        cbor::Head::Bad(number) => Err(ari::refusal_by(number, at)),
+        cbor::Head::Good { .. } => Err(Refusal {
+            fault: Fault::TooLong,
             place: 0,
-        },
+        }),
     }
 }
 
@@ -284,7 +273,7 @@ fn take_head(
     count: usize,
     items: usize,
     depth: usize,
-) -> Step
+) -> Result<Taken, Refusal>
     requires { WordOf slot word × (all is_byte s.now ≡ true) × (prev.from ≤ prev.to) × (prev.to ≤ length s.now) }
     ensures value { result ≡ step_at s.now at (slot_of slot) (key_of (part s.now prev.from prev.to)) (items - count) depth }
     ensures bounded { Bounded s.now at count items depth slot result }
@@ -294,22 +283,22 @@ fn take_head(
         return no_head(h, at);
     };
     if items <= count {
-        return Step::Refused {
-            number: 5,
+        return Err(Refusal {
+            fault: Fault::TooManyItems,
             place: at,
-        };
+        });
     }
     if is_too_deep(kind, depth) {
-        return Step::Refused {
-            number: 6,
+        return Err(Refusal {
+            fault: Fault::TooDeep,
             place: at,
-        };
+        });
     }
     if !fits_at(slot, word, kind, arg) {
-        return Step::Refused {
-            number: 7,
+        return Err(Refusal {
+            fault: Fault::Misplaced,
             place: at,
-        };
+        });
     }
     let extra = extra_at(slot, word);
     judge_content(s, at, slot, word, extra, prev, kind, arg, next)
@@ -331,33 +320,6 @@ pub fn key_after(slot: u64, prev: Span, from: usize, to: usize) -> Span
     ensures { (result.from ≡ key_span (rule (slot_of slot)).extra prev.from from) × (result.to ≡ key_span (rule (slot_of slot)).extra prev.to to) }
 {
     key_by(slot, grammar::extra_test(slot), prev, from, to)
-}
-
-// A refusal is handed on.
-fn stopped(t: Step) -> Walk
-    ensures { result ≡ stopped_of t }
-{
-    match t {
-        Step::Refused { number, place } => Walk::Refused { number, place },
-        Step::Taken {
-            kind: _,
-            arg: _,
-            after: _,
-        } => Walk::Refused {
-            number: 0,
-            place: 0,
-        },
-    }
-}
-
-// A walk's answer, taken apart and made anew: only what a refusal has is copied where it is one.
-fn same_walk(w: Walk) -> Walk
-    ensures { result ≡ w }
-{
-    match w {
-        Walk::Refused { number, place } => Walk::Refused { number, place },
-        Walk::Read { next, count } => Walk::Read { next, count },
-    }
 }
 
 // A number or a string at a slot with no test of its own: nothing is inside it, and it is no key.
@@ -433,12 +395,12 @@ fn walk_inside(
     inner: grammar::Next,
     entries: &mut [u64],
     references: &mut [u64],
-) -> Walk
+) -> Result<Read, Refusal>
     requires { (all is_byte s.now ≡ true) × (depth + around < 2 ^ 64) × Opens inner depth × (at ≤ length s.now) × (count ≤ items) }
     ensures { Walked s.now items (level_of inner) [] (pred depth) (suc around) at count result (both entries.old references.old) (both entries.new references.new) }
 {
     match inner {
-        grammar::Next::Done => Walk::Read { next: at, count },
+        grammar::Next::Done => Ok(Read { next: at, count }),
         grammar::Next::Due { slot, more } => {
             walk_level(
                 s,
@@ -470,7 +432,7 @@ fn walk_level(
     more: u64,
     entries: &mut [u64],
     references: &mut [u64],
-) -> Walk
+) -> Result<Read, Refusal>
     requires { (all is_byte s.now ≡ true) × (depth + around < 2 ^ 64) × IsSlot slot × (at ≤ length s.now) × (count ≤ items) }
     ensures { Walked s.now items (due (slot_of slot) more) [] depth around at count result (both entries.old references.old) (both entries.new references.new) }
 {
@@ -489,10 +451,10 @@ fn walk_level(
             let n = next_at(place, word, wide(s[p]) % 32, left);
             let grammar::Next::Due { slot: a, more: b } = n else {
                 item_table::end_all(references, pending, p + 1);
-                return Walk::Read {
+                return Ok(Read {
                     next: p + 1,
                     count: c + 1,
-                };
+                });
             };
             p = p + 1;
             c = c + 1;
@@ -500,19 +462,16 @@ fn walk_level(
             left = b;
             continue;
         }
-        let t = take_head(s, p, place, word, prev, c, items, allowed);
-        let Step::Taken { kind, arg, after } = t else {
-            return stopped(t);
-        };
+        let Taken { kind, arg, after } = take_head(s, p, place, word, prev, c, items, allowed)?;
         if is_plain(place, word, kind) {
             item_table::put_plain(entries, c, p, after, opened, place);
             let n = next_at(place, word, arg, left);
             let grammar::Next::Due { slot: a, more: b } = n else {
                 item_table::end_all(references, pending, after);
-                return Walk::Read {
+                return Ok(Read {
                     next: after,
                     count: c + 1,
-                };
+                });
             };
             p = after;
             c = c + 1;
@@ -534,7 +493,7 @@ fn walk_level(
             opened = opened + 1;
             continue;
         }
-        let r = walk_inside(
+        let Read { next: q, count: e } = walk_inside(
             s,
             after,
             c + 1,
@@ -544,10 +503,7 @@ fn walk_level(
             inner,
             entries,
             references,
-        );
-        let Walk::Read { next: q, count: e } = r else {
-            return same_walk(r);
-        };
+        )?;
         let head = after - p;
         item_table::put(entries, c, p, q, opened, place, kind, arg, head);
         item_table::fill(references, taken, p, q, opened, place, head);
@@ -555,7 +511,7 @@ fn walk_level(
         let n = next_at(place, word, arg, left);
         let grammar::Next::Due { slot: a, more: b } = n else {
             item_table::end_all(references, pending, q);
-            return Walk::Read { next: q, count: e };
+            return Ok(Read { next: q, count: e });
         };
         p = q;
         c = e;
@@ -575,32 +531,36 @@ fn slot_known(slot: u64) -> u64
 }
 
 // What a walk gives that could take one head: a refusal elsewhere is that of the next.
-fn first_of(w: Walk, at: usize) -> Walk
+fn first_of(w: Result<Read, Refusal>, at: usize) -> Result<usize, Refusal>
     ensures { result ≡ first_of at w }
 {
     match w {
-        Walk::Read { next, count: _ } => Walk::Read { next, count: 1 },
-        Walk::Refused { number, place } => {
-            if place == at {
-                return Walk::Refused { number, place };
+        Ok(read) => Ok(read.next),
+        Err(refusal) => {
+            if refusal.place == at {
+                return Err(refusal);
             }
-            Walk::Read {
-                next: place,
-                count: 1,
-            }
+            Ok(refusal.place)
         }
     }
 }
 
-// One head, with no key before it.
-fn first_head(s: &[u8], at: usize, slot: u64, count: usize, items: usize, depth: usize) -> Walk
-    ensures { result ≡ head_walk (step_at s.now at (slot_of slot) [] (items - count) depth) }
+// Where one head ends with its string, with no key before it.
+fn first_head(
+    s: &[u8],
+    at: usize,
+    slot: u64,
+    count: usize,
+    items: usize,
+    depth: usize,
+) -> Result<usize, Refusal>
+    ensures { result ≡ end_of_head (step_at s.now at (slot_of slot) [] (items - count) depth) }
 {
     if s.len() < at {
-        return Walk::Refused {
-            number: 2,
+        return Err(Refusal {
+            fault: Fault::Truncated,
             place: at,
-        };
+        });
     }
     let known = slot_known(slot);
     let c = buffer::least(count, items);
@@ -645,19 +605,6 @@ fn falls(s: &[u8], slot: u64, prev: Span, at: usize, end: usize) -> bool
     is_not_greater(s, slot, extra, key, at, end)
 }
 
-// A walk's refusal is the head's.
-fn unwalked(w: Walk) -> Step
-    ensures { result ≡ unwalked_of w }
-{
-    match w {
-        Walk::Refused { number, place } => Step::Refused { number, place },
-        Walk::Read { next: _, count: _ } => Step::Refused {
-            number: 0,
-            place: 0,
-        },
-    }
-}
-
 // One head, for those who take them one by one: the tests 2 to 12. It is the walk that takes it, so that its loop has them to itself; the head is then
 // looked at once more. A key before that does not lie in the input stands for none.
 pub fn take(
@@ -668,68 +615,46 @@ pub fn take(
     count: usize,
     items: usize,
     depth: usize,
-) -> Step
+) -> Result<Taken, Refusal>
     ensures value { result ≡ step_at s.now at (slot_of slot) (key_of (key_at s.now prev.from prev.to)) (items - count) depth }
     ensures bounded { Bounded s.now at count items depth slot result }
 {
-    let w = first_head(s, at, slot, count, items, depth);
-    let Walk::Read {
-        next: end,
-        count: _,
-    } = w
-    else {
-        return unwalked(w);
-    };
+    let end = first_head(s, at, slot, count, items, depth)?;
     let h = cbor::head_again(s, at);
     let cbor::Head::Good { kind, arg, next: _ } = h else {
         return no_head(h, at);
     };
     if falls(s, slot, prev, at, end) {
-        return Step::Refused {
-            number: 11,
+        return Err(Refusal {
+            fault: Fault::KeyOrder,
             place: at,
-        };
+        });
     }
-    Step::Taken {
+    Ok(Taken {
         kind,
         arg,
         after: end,
-    }
-}
-
-// An input is accepted with its item count, or refused.
-#[derive(Clone, Copy)]
-pub enum Answer {
-    Accepted(usize),
-    Refused { number: u8, place: usize },
-}
-
-// A walk's refusal is the input's.
-fn refusal(w: Walk) -> Answer
-    ensures { result ≡ refusal_of w }
-{
-    match w {
-        Walk::Refused { number, place } => Answer::Refused { number, place },
-        Walk::Read { next: _, count: _ } => Answer::Refused {
-            number: 0,
-            place: 0,
-        },
-    }
+    })
 }
 
 // A single ARI within these limits.
-fn read_single(s: &[u8], limits: Limits, entries: &mut [u64], references: &mut [u64]) -> Answer
-    ensures value { result ≡ answer_of (read limits Single s.now) }
-    ensures kept { Kept Single s.now result entries.old entries.new }
-    ensures noted { Noted Single s.now result references.old references.new }
+fn read_single(
+    s: &[u8],
+    limits: Limits,
+    entries: &mut [u64],
+    references: &mut [u64],
+) -> Result<usize, Refusal>
+    ensures value { result ≡ result_of (read limits Single s.now) }
+    ensures kept { Keeps Single s.now result entries.old entries.new }
+    ensures noted { Notes Single s.now result references.old references.new }
 {
     if limits.bytes < s.len() {
-        return Answer::Refused {
-            number: 1,
+        return Err(Refusal {
+            fault: Fault::TooLong,
             place: 0,
-        };
+        });
     }
-    let w = walk_level(
+    let Read { next, count } = walk_level(
         s,
         0,
         0,
@@ -740,17 +665,14 @@ fn read_single(s: &[u8], limits: Limits, entries: &mut [u64], references: &mut [
         0,
         entries,
         references,
-    );
-    let Walk::Read { next, count } = w else {
-        return refusal(w);
-    };
+    )?;
     if next < s.len() {
-        return Answer::Refused {
-            number: 13,
+        return Err(Refusal {
+            fault: Fault::BytesBehind,
             place: next,
-        };
+        });
     }
-    Answer::Accepted(count)
+    Ok(count)
 }
 
 // A byte stands at a place, and one more item may come.
@@ -773,7 +695,7 @@ fn walk_version(
     containers: usize,
     entries: &mut [u64],
     references: &mut [u64],
-) -> Walk
+) -> Result<Read, Refusal>
     requires { all is_byte s.now ≡ true }
     ensures { Walked s.now items (due (slot_of 0) 0) [] containers 0 0 0 result (both entries.old references.old) (both entries.new references.new) }
 {
@@ -792,7 +714,7 @@ fn walk_version(
         );
     }
     item_table::put_plain(entries, 0, 0, 1, 0, grammar::VERSION);
-    Walk::Read { next: 1, count: 1 }
+    Ok(Read { next: 1, count: 1 })
 }
 
 // One set of a message. Its head is the byte 82, and what it holds is walked at once; any other head is left to the walk as well.
@@ -804,7 +726,7 @@ fn walk_set(
     containers: usize,
     entries: &mut [u64],
     references: &mut [u64],
-) -> Walk
+) -> Result<Read, Refusal>
     requires { (all is_byte s.now ≡ true) × (at ≤ length s.now) × (count ≤ items) }
     ensures { Walked s.now items (due (slot_of 2) 0) [] containers 0 at count result (both entries.old references.old) (both entries.new references.new) }
 {
@@ -836,7 +758,7 @@ fn walk_set(
             references,
         );
     }
-    let w = walk_level(
+    let Read { next, count: e } = walk_level(
         s,
         at + 1,
         count + 1,
@@ -847,12 +769,9 @@ fn walk_set(
         0,
         entries,
         references,
-    );
-    let Walk::Read { next, count: e } = w else {
-        return w;
-    };
+    )?;
     item_table::put_plain(entries, count, at, next, 0, grammar::ARI_MESSAGE);
-    Walk::Read { next, count: e }
+    Ok(Read { next, count: e })
 }
 
 // The sets of a message, from the place behind its version.
@@ -864,40 +783,45 @@ fn walk_sets(
     containers: usize,
     entries: &mut [u64],
     references: &mut [u64],
-) -> Walk
+) -> Result<Read, Refusal>
     requires { (all is_byte s.now ≡ true) × (at ≤ length s.now) × (count ≤ items) }
     ensures { SetsWalked s.now items containers at count result (both entries.old references.old) (both entries.new references.new) }
 {
     let mut p = at;
     let mut c = count;
     while p < s.len() {
-        let w = walk_set(s, p, c, items, containers, entries, references);
-        let Walk::Read { next, count: e } = w else {
-            return w;
-        };
+        let Read { next, count: e } = walk_set(s, p, c, items, containers, entries, references)?;
         p = next;
         c = e;
     }
-    Walk::Read { next: p, count: c }
+    Ok(Read { next: p, count: c })
 }
 
 // A message within these limits.
-fn read_message(s: &[u8], limits: Limits, entries: &mut [u64], references: &mut [u64]) -> Answer
-    ensures value { result ≡ answer_of (read limits Message s.now) }
-    ensures kept { Kept Message s.now result entries.old entries.new }
-    ensures noted { Noted Message s.now result references.old references.new }
+fn read_message(
+    s: &[u8],
+    limits: Limits,
+    entries: &mut [u64],
+    references: &mut [u64],
+) -> Result<usize, Refusal>
+    ensures value { result ≡ result_of (read limits Message s.now) }
+    ensures kept { Keeps Message s.now result entries.old entries.new }
+    ensures noted { Notes Message s.now result references.old references.new }
 {
     if limits.bytes < s.len() {
-        return Answer::Refused {
-            number: 1,
+        return Err(Refusal {
+            fault: Fault::TooLong,
             place: 0,
-        };
+        });
     }
-    let v = walk_version(s, limits.items, limits.containers, entries, references);
-    let Walk::Read { next, count } = v else {
-        return refusal(v);
-    };
-    let w = walk_sets(
+    let Read { next, count } = walk_version(
+        s,
+        limits.items,
+        limits.containers,
+        entries,
+        references,
+    )?;
+    let sets = walk_sets(
         s,
         next,
         count,
@@ -905,11 +829,8 @@ fn read_message(s: &[u8], limits: Limits, entries: &mut [u64], references: &mut 
         limits.containers,
         entries,
         references,
-    );
-    let Walk::Read { next: _, count: e } = w else {
-        return refusal(w);
-    };
-    Answer::Accepted(e)
+    )?;
+    Ok(sets.count)
 }
 
 // An input is checked, and its items and its references go into the lent tables, as many as they have room for. The tables are working memory: of a
@@ -920,10 +841,10 @@ fn keep_both(
     s: &[u8],
     entries: &mut [u64],
     references: &mut [u64],
-) -> Answer
-    ensures value { result ≡ answer_of (read limits input s.now) }
-    ensures kept { Kept input s.now result entries.old entries.new }
-    ensures noted { Noted input s.now result references.old references.new }
+) -> Result<usize, Refusal>
+    ensures value { result ≡ result_of (read limits input s.now) }
+    ensures kept { Keeps input s.now result entries.old entries.new }
+    ensures noted { Notes input s.now result references.old references.new }
 {
     match input {
         Input::Single => read_single(s, limits, entries, references),
@@ -932,18 +853,23 @@ fn keep_both(
 }
 
 // The table of items alone.
-pub fn keep(input: Input, limits: Limits, s: &[u8], entries: &mut [u64]) -> Answer
-    ensures value { result ≡ answer_of (read limits input s.now) }
-    ensures kept { Kept input s.now result entries.old entries.new }
+pub fn keep(input: Input, limits: Limits, s: &[u8], entries: &mut [u64]) -> Result<usize, Refusal>
+    ensures value { result ≡ result_of (read limits input s.now) }
+    ensures kept { Keeps input s.now result entries.old entries.new }
 {
     let mut none = [0u64; 1];
     keep_both(input, limits, s, entries, &mut none[0..0])
 }
 
 // The table of references alone, from its start.
-pub fn keep_references(input: Input, limits: Limits, s: &[u8], references: &mut [u64]) -> Answer
-    ensures value { result ≡ answer_of (read limits input s.now) }
-    ensures noted { Noted input s.now result (set references.old 0 0) references.new }
+pub fn keep_references(
+    input: Input,
+    limits: Limits,
+    s: &[u8],
+    references: &mut [u64],
+) -> Result<usize, Refusal>
+    ensures value { result ≡ result_of (read limits input s.now) }
+    ensures noted { Notes input s.now result (set references.old 0 0) references.new }
 {
     item_table::clear(references);
     let mut none = [0u64; 1];
@@ -951,8 +877,8 @@ pub fn keep_references(input: Input, limits: Limits, s: &[u8], references: &mut 
 }
 
 // An input is checked.
-pub fn check(input: Input, limits: Limits, s: &[u8]) -> Answer
-    ensures { result ≡ answer_of (read limits input s.now) }
+pub fn check(input: Input, limits: Limits, s: &[u8]) -> Result<usize, Refusal>
+    ensures { result ≡ result_of (read limits input s.now) }
 {
     let mut entries = [0u64; 1];
     let mut references = [0u64; 1];
@@ -960,14 +886,14 @@ pub fn check(input: Input, limits: Limits, s: &[u8]) -> Answer
 }
 
 // A single ARI in binary form, and a message, within the gate's own limits.
-pub fn check_single(s: &[u8]) -> Answer
-    ensures { result ≡ answer_of (read gate_limits Single s.now) }
+pub fn check_single(s: &[u8]) -> Result<usize, Refusal>
+    ensures { result ≡ result_of (read gate_limits Single s.now) }
 {
     check(Input::Single, ari::LIMITS, s)
 }
 
-pub fn check_message(s: &[u8]) -> Answer
-    ensures { result ≡ answer_of (read gate_limits Message s.now) }
+pub fn check_message(s: &[u8]) -> Result<usize, Refusal>
+    ensures { result ≡ result_of (read gate_limits Message s.now) }
 {
     check(Input::Message, ari::LIMITS, s)
 }

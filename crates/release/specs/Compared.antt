@@ -5,9 +5,13 @@ use Rattle.names.specs.Translated.{translated}
 use Rattle.grants.specs.Grants.{Grant, holds, granted}
 use Rattle.ari.specs.declared.Limits.{Limits}
 use Rattle.grants.specs.Bytes.{rows}
+use Rattle.std.specs.declared.result.Result.{Result}
+use Rattle.std.specs.declared.result.Result.TheVariants.{Ok, Err}
+use Rattle.ari.specs.declared.Refusal.{Refusal}
+use Rattle.ari.specs.Refusals as refusals
 use Rattle.release.specs.Release.{Release, refused, yes, no, judge_from, release_rows, release_bytes}
 use Rattle.release.specs.declared.Released.{Released}
-use Rattle.release.specs.declared.Released.TheVariants as released
+use Rattle.release.specs.declared.Released.TheVariants.{Yes, No}
 
 -- R150: the rows from the front up to and including the first that is as asked, or all rows
 abbrev pub rows_up_to : (Grant → Bool) → List Grant → ℕ
@@ -33,24 +37,24 @@ unfoldable pub compared : List Grant → List ℕ → List ℕ → List ℕ → 
 compared t b published own s = within64 (compared_over t s (translated published own b))
 
 -- R153: yes and no have the count, a refusal has none
-abbrev pub counted : Release → ℕ → Released
-counted yes c = released.Yes c
-counted (no k) c = released.No k c
-counted (refused r p) c = released.Refused r p
+abbrev pub counted : Release → ℕ → Result Released Refusal
+counted yes c = Ok (Yes c)
+counted (no k) c = Ok (No k c)
+counted (refused r p) c = refusals.refused r p
 
 -- a lent number after a release: the count, and as it was where there is none
-abbrev pub count_after : Released → ℕ → ℕ
-count_after (released.Yes c) was = c
-count_after (released.No k c) was = c
-count_after (released.Refused r p) was = was
+abbrev pub count_after : Result Released Refusal → ℕ → ℕ
+count_after (Ok (Yes c)) was = c
+count_after (Ok (No k c)) was = c
+count_after (Err e) was = was
 
 -- release with its count, by rows and by a table as bytes
-unfoldable pub counted_rows : Limits → List ℕ → List Grant → List ℕ → List ℕ → ℕ → Released
+unfoldable pub counted_rows : Limits → List ℕ → List Grant → List ℕ → List ℕ → ℕ → Result Released Refusal
 counted_rows m b t published own s = counted (release_rows m b t published own s) (compared t b published own s)
 
-unfoldable pub counted_bytes : Limits → List ℕ → List ℕ → List ℕ → List ℕ → ℕ → Released
+unfoldable pub counted_bytes : Limits → List ℕ → List ℕ → List ℕ → List ℕ → ℕ → Result Released Refusal
 counted_bytes m b t published own s = counted (release_bytes m b t published own s) (compared (rows t) b published own s)
 
 -- what entries give, with the rows compared
-abbrev pub judged_over : List Grant → ℕ → List Entry → Released
+abbrev pub judged_over : List Grant → ℕ → List Entry → Result Released Refusal
 judged_over t s es = counted (judge_from (granted t s) 0 es) (within64 (compared_over t s es))

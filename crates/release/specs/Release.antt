@@ -10,8 +10,12 @@ use Rattle.names.specs.Names.{check_names}
 use Rattle.names.specs.Translated.{translated}
 use Rattle.grants.specs.Grants.{Grant, granted}
 use Rattle.grants.specs.Bytes.{rows, ragged}
+use Rattle.std.specs.declared.result.Result.{Result}
+use Rattle.std.specs.declared.result.Result.TheVariants.{Ok, Err}
+use Rattle.ari.specs.declared.Refusal.{Refusal}
+use Rattle.ari.specs.Refusals.{number_of}
 use Rattle.release.specs.declared.Released.{Released}
-use Rattle.release.specs.declared.Released.TheVariants as released
+use Rattle.release.specs.declared.Released.TheVariants.{Yes, No}
 
 -- R86: the message's refusal, yes, or no with an entry, counted from 0
 pub data Release : Type 0 where
@@ -49,7 +53,7 @@ release_bytes m b t published own s =
     after_lists (read m Message b) (check_names published own) (cond (ragged t) (refused 18 (length t / 16)) (release m b (rows t) published own s))
 
 -- the code's answer in these terms, without its count
-abbrev pub answer_of : Released → Release
-answer_of (released.Yes c) = yes
-answer_of (released.No k c) = no k
-answer_of (released.Refused r p) = refused r p
+abbrev pub answer_of : Result Released Refusal → Release
+answer_of (Ok (Yes c)) = yes
+answer_of (Ok (No k c)) = no k
+answer_of (Err e) = refused (number_of e.fault) e.place

@@ -1,82 +1,69 @@
 // Release: whether a message may be handed on for a subscriber, by the grants that a table of bytes has for it and the numbers that two lists have for names.
 #![tactic(auto)]
 
-ghost use Rattle.std.specs.Prelude.{◌≡◌, ◌+◌, ◌<◌, ◌≤◌, min, length, eqb, true, cond};
+ghost use Rattle.std.specs.Prelude.{◌≡◌, ◌+◌, ◌<◌, ◌≤◌, min, length, true, IfSome, MatchOption};
+ghost use Rattle.std.specs.declared.result.Result.TheVariants.{Ok};
 ghost use Rattle.ari.specs.declared.Input.TheVariants as input;
 ghost use Rattle.ari.specs.Limits.{gate_limits, capped};
 ghost use Rattle.item_table.specs.Entries.{Tabled};
 ghost use Rattle.names.specs.Translated.{stands_by, translated};
 ghost use Rattle.grants.specs.Bytes.{rows};
 ghost use Rattle.release.specs.Compared.{judged_over, counted_bytes};
-ghost use Rattle.release.specs.Rows.{sought_by, Other, Others, last_rows};
+ghost use Rattle.release.specs.Rows.{sought_by, start_by, Other, Others, last_rows, Before, NoRow, RowAt};
 
-use ari::{Input, Limits};
+use ari::{Fault, Input, Limits, Refusal};
 use listing::{Namespace, Reference};
 use names::Names;
-use reader::Answer;
 
-// Yes; no with the number of the first listed entry that is not granted; each with the number of rows compared. Or the message's own refusal, 19 with the place
-// of a line, or 18 with the number of whole rows.
-#[derive(Clone, Copy)]
+// Yes; or no with the number of the first listed entry that is not granted; each with the number of rows compared.
+#[derive(Clone, Copy, PartialEq, Eq)]
 pub enum Released {
     Yes { compared: u64 },
     No { entry: usize, compared: u64 },
-    Refused { number: u8, place: usize },
 }
 
-// What a row must hold to grant what a namespace stands for: a number. A name that has none or a relative one no row grants.
+// The row that grants the entry found last.
 #[derive(Clone, Copy)]
-struct RowSought {
-    number: bool,
+struct LastRow {
     word: u64,
+    place: usize,
 }
 
-const NO_ROW: RowSought = RowSought {
-    number: false,
-    word: 0,
-};
-
-fn sought<'a>(published: &'a [u8], own: &'a [u8], s: &[u8], n: Namespace) -> RowSought
+// The number that a row must hold to grant what a namespace stands for. A name that has none or a relative one no row grants.
+fn sought<'a>(published: &'a [u8], own: &'a [u8], s: &[u8], n: Namespace) -> Option<u64>
     ensures { result ≡ sought_by (stands_by published.now own.now s.now n) }
 {
     match names::stands_for(published, own, s, n) {
-        Namespace::Number(word) => RowSought { number: true, word },
-        Namespace::Name { .. } => NO_ROW,
-        Namespace::Relative => NO_ROW,
+        Namespace::Number(word) => Some(word),
+        Namespace::Name { .. } | Namespace::Relative => None,
     }
 }
 
 // Where the search for a number's row starts: no row before the place of the number that was found last grants it, so for that one it is there already.
-fn start(word: u64, found: u64, place: usize) -> usize
-    ensures { result ≡ cond (eqb word found) place 0 }
+fn start(word: u64, last: Option<LastRow>) -> usize
+    ensures { result ≡ start_by word last }
 {
-    if word == found {
-        return place;
+    match last {
+        Some(row) if row.word == word => row.place,
+        _ => 0,
     }
-    0
 }
 
 // The rows compared, with those for the entry found last. They are settled an entry later, so that LLVM carries no row counter through the rows' loop.
-fn settled(compared: u64, entry: usize, place: usize) -> u64
-    ensures { result ≡ min (compared + last_rows entry place) 18446744073709551615 }
+fn settled(compared: u64, last: Option<LastRow>) -> u64
+    ensures { result ≡ min (compared + last_rows last) 18446744073709551615 }
 {
-    if entry == 0 {
-        return compared;
+    match last {
+        Some(row) => compared.saturating_add((row.place / 16 + 1) as u64),
+        None => compared,
     }
-    buffer::saturating_add(compared, (place / 16 + 1) as u64)
 }
 
 // A whole row stands at a place and is another subscriber's.
 fn is_other(grants: &[u8], at: usize, subscriber: u64) -> bool
     ensures { result ≡ true → Other grants.now at subscriber }
 {
-    if grants.len() < 16 {
-        return false;
-    }
-    if grants.len() - 16 < at {
-        return false;
-    }
-    buffer::load8(grants, at) != subscriber
+    16 <= grants.len() && at <= grants.len() - 16 && buffer::load8(grants, at) != subscriber
 }
 
 // The bytes of rows from a place on that are other subscribers': most are, and four of them take one turn of the search.
@@ -84,20 +71,36 @@ fn others_from(grants: &[u8], at: usize, subscriber: u64) -> usize
     requires { at ≤ length grants.now }
     ensures { Others grants.now at subscriber result }
 {
-    if is_other(grants, at, subscriber) {
-        if grants.len() - at < 64 {
-            return 16;
-        }
-        if is_other(grants, at + 16, subscriber) {
-            if is_other(grants, at + 32, subscriber) {
-                if is_other(grants, at + 48, subscriber) {
-                    return 64;
-                }
-            }
-        }
-        return 16;
+    if !is_other(grants, at, subscriber) {
+        return 0;
     }
-    0
+    if 64 <= grants.len() - at
+        && is_other(grants, at + 16, subscriber)
+        && is_other(grants, at + 32, subscriber)
+        && is_other(grants, at + 48, subscriber)
+    {
+        return 64;
+    }
+    16
+}
+
+// The place of the first row that grants a number to a subscriber, from a place on before which no row does.
+fn row_from(grants: &[u8], from: usize, subscriber: u64, word: u64) -> Option<usize>
+    requires { Before grants.now subscriber word from }
+    ensures { MatchOption result (NoRow grants.now subscriber word) (RowAt grants.now subscriber word) }
+{
+    let mut at = from;
+    while 16 <= grants.len() - at {
+        let others = others_from(grants, at, subscriber);
+        if 0 < others {
+            at += others;
+        } else if grants::holds_at(grants, at, subscriber, word) {
+            return Some(at);
+        } else {
+            at += 16;
+        }
+    }
+    None
 }
 
 // Entries by rows. The search is left at the first entry that no row grants: a number to the subscriber, an unknown name or a relative one to nobody.
@@ -112,52 +115,30 @@ fn release_table<'a>(
     subscriber: u64,
 ) -> Released
     requires { Tabled limits input.Message s.now count entries.now }
-    ensures { result ≡ judged_over (rows grants.now) subscriber (translated published.now own.now s.now) }
+    ensures { Ok result ≡ judged_over (rows grants.now) subscriber (translated published.now own.now s.now) }
 {
     let mut entry = 0;
     let mut compared = 0;
-    let mut found = 0;
-    let mut place = 0;
-    let mut k = 0;
-    'entries: while k < count {
-        let r = listing::reference_at(s, entries[k]);
-        match r {
-            Reference::Nothing => k += 1,
-            Reference::To { namespace, .. } => {
-                compared = settled(compared, entry, place);
-                let n = sought(published, own, s, namespace);
-                if !n.number {
-                    break 'entries;
-                }
-                let word = n.word;
-                let mut at = start(word, found, place);
-                'rows: loop {
-                    if grants.len() - at < 16 {
-                        compared = buffer::saturating_add(compared, (grants.len() / 16) as u64);
-                        break 'entries;
-                    }
-                    let others = others_from(grants, at, subscriber);
-                    if 0 < others {
-                        at += others;
-                        continue 'rows;
-                    }
-                    if grants::holds_at(grants, at, subscriber, word) {
-                        break 'rows;
-                    }
-                    at += 16;
-                }
-                found = word;
-                place = at;
-                entry += 1;
-                k += 1;
-            }
+    let mut last = None;
+    for item in &entries[..count] {
+        if let Reference::To { namespace, .. } = listing::reference_at(s, *item) {
+            compared = settled(compared, last);
+            let Some(word) = sought(published, own, s, namespace) else {
+                return Released::No { entry, compared };
+            };
+            let Some(place) = row_from(grants, start(word, last), subscriber, word) else {
+                let all = (grants.len() / 16) as u64;
+                return Released::No {
+                    entry,
+                    compared: compared.saturating_add(all),
+                };
+            };
+            last = Some(LastRow { word, place });
+            entry += 1;
         }
     }
-    if k < count {
-        return Released::No { entry, compared };
-    }
     Released::Yes {
-        compared: settled(compared, entry, place),
+        compared: settled(compared, last),
     }
 }
 
@@ -169,30 +150,26 @@ fn release_in<'a>(
     own: &'a [u8],
     subscriber: u64,
     entries: &mut [u64],
-) -> Released
+) -> Result<Released, Refusal>
     requires { (min limits.items (length s.now) ≤ length entries.old) × (limits.bytes < 65536) × (limits.containers < 256) }
     ensures { result ≡ counted_bytes limits s.now grants.now published.now own.now subscriber }
 {
-    match reader::keep(Input::Message, limits, s, entries) {
-        Answer::Refused { number, place } => Released::Refused { number, place },
-        Answer::Accepted(count) => match names::check_names(published, own) {
-            Names::Refused { place } => Released::Refused {
-                number: 19,
-                place: place as usize,
-            },
-            Names::Passes => {
-                if grants.len() % 16 != 0 {
-                    return Released::Refused {
-                        number: 18,
-                        place: grants.len() / 16,
-                    };
-                }
-                release_table(
-                    s, limits, count, entries, grants, published, own, subscriber,
-                )
-            }
-        },
+    let count = reader::keep(Input::Message, limits, s, entries)?;
+    if let Names::Refused { place } = names::check_names(published, own) {
+        return Err(Refusal {
+            fault: Fault::BadLine,
+            place: place as usize,
+        });
     }
+    if grants.len() % 16 != 0 {
+        return Err(Refusal {
+            fault: Fault::Clash,
+            place: grants.len() / 16,
+        });
+    }
+    Ok(release_table(
+        s, limits, count, entries, grants, published, own, subscriber,
+    ))
 }
 
 // Whether a message within these limits, none above the gate's own, is released to a subscriber under a grant table as bytes and two lists of names.
@@ -203,7 +180,7 @@ pub fn release_within<'a>(
     published: &'a [u8],
     own: &'a [u8],
     subscriber: u64,
-) -> Released
+) -> Result<Released, Refusal>
     ensures { result ≡ counted_bytes (capped limits) s.now grants.now published.now own.now subscriber }
 {
     let most = ari::cap(limits);
@@ -223,7 +200,7 @@ pub fn release_message<'a>(
     published: &'a [u8],
     own: &'a [u8],
     subscriber: u64,
-) -> Released
+) -> Result<Released, Refusal>
     ensures { result ≡ counted_bytes gate_limits s.now grants.now published.now own.now subscriber }
 {
     release_within(ari::LIMITS, s, grants, published, own, subscriber)

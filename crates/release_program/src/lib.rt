@@ -2,7 +2,7 @@
 // name.
 #![tactic(auto)]
 
-use input_file::Loaded;
+use ari::{Input, Refusal};
 use release::Released;
 use std::env::Env;
 use std::fs::Files;
@@ -25,24 +25,24 @@ fn show_no(s: &[u8], k: usize, compared: u64, room: &mut [u8], out: &mut [u8]) {
     let a = buffer::put_all(out, 0, b"no ");
     let b = print::field(out, a, k as u64);
     match listing::list_message(s, room) {
-        listing::Listed::Entries { .. } => {
+        Ok(_) => {
             if k < listing::ENTRIES {
                 let c = print::entry(out, b, s, room, k * 24);
                 show_compared(out, c, compared);
             }
         }
-        listing::Listed::Refused { number, place } => print::refusal(out, number, place),
+        Err(refusal) => print::refusal(out, refusal),
     }
 }
 
-fn show_released(s: &[u8], answer: Released, room: &mut [u8], out: &mut [u8]) {
+fn show_released(s: &[u8], answer: Result<Released, Refusal>, room: &mut [u8], out: &mut [u8]) {
     match answer {
-        Released::Yes { compared } => {
+        Ok(Released::Yes { compared }) => {
             let a = buffer::put_all(out, 0, b"yes\n");
             show_compared(out, a, compared);
         }
-        Released::No { entry, compared } => show_no(s, entry, compared, room, out),
-        Released::Refused { number, place } => print::refusal(out, number, place),
+        Ok(Released::No { entry, compared }) => show_no(s, entry, compared, room, out),
+        Err(e) => print::refusal(out, e),
     }
 }
 
@@ -67,12 +67,12 @@ fn put_reference(
         return put_ends(out, at, first, after);
     }
     match text_write::write_text(&s[first..after], text) {
-        text_write::Written::Bytes { length, .. } => {
+        Ok(text_write::Written { length, .. }) => {
             print::flush(out, at);
             print::flush(text, length);
             0
         }
-        text_write::Written::Refused { .. } => put_ends(out, at, first, after),
+        Err(_) => put_ends(out, at, first, after),
     }
 }
 
@@ -86,7 +86,7 @@ fn put_key(s: &[u8], key: u64, first: usize, text: &mut [u8], out: &mut [u8], at
         return at;
     }
     match text_write::write_text(&s[place..first], text) {
-        text_write::Written::Bytes { length, .. } => {
+        Ok(text_write::Written { length, .. }) => {
             if length < 4 {
                 return at;
             }
@@ -97,7 +97,7 @@ fn put_key(s: &[u8], key: u64, first: usize, text: &mut [u8], out: &mut [u8], at
             io::write_all(1, &text[4..length]);
             0
         }
-        text_write::Written::Refused { .. } => at,
+        Err(_) => at,
     }
 }
 
@@ -118,12 +118,12 @@ fn put_named<'a>(
     let a = buffer::put_all(out, at, b"namespace ");
     let b = buffer::put_all(out, a, name);
     match names::number_for(published, own, name) {
-        buffer::Number::Value(n) => {
+        Some(n) => {
             let c = buffer::put_all(out, b, b", number ");
             let d = print::integer(out, c, n);
             put_not_granted(out, d, b", is", subscriber)
         }
-        buffer::Number::Bad => {
+        None => {
             if 0 < name.len() && name[0] == b'!' {
                 return buffer::put_all(out, b, b" is not in the own list");
             }
@@ -166,28 +166,19 @@ struct Before {
 fn count_before(entries: &[u64], depth: usize, from: usize, first: usize) -> Before {
     let mut members: u64 = 0;
     let mut targets = item_records::NO_TARGETS;
-    let mut k = 0;
-    while k < entries.len() {
-        let x = item_table::item_of(entries[k]);
+    for word in entries {
+        let x = item_table::item_of(*word);
         if x.first <= first {
-            targets = item_records::pass(targets, entries[k]);
+            targets = item_records::pass(targets, *word);
         }
         if x.around == depth && from <= x.first && x.first < first {
-            members = buffer::saturating_add(members, 1);
+            members = members.saturating_add(1);
         }
-        k += 1;
     }
     Before {
         members,
         targets: targets.count,
     }
-}
-
-fn less(a: u64, b: u64) -> u64 {
-    if a < b {
-        return 0;
-    }
-    a - b
 }
 
 fn put_parameters(s: &[u8], first: usize, out: &mut [u8], at: usize) -> usize {
@@ -206,18 +197,18 @@ fn put_parameters(s: &[u8], first: usize, out: &mut [u8], at: usize) -> usize {
 fn put_meaning(s: &[u8], l: Link, b: Before, text: &mut [u8], out: &mut [u8], at: usize) -> usize {
     let meaning = l.meaning;
     match meaning {
-        0 => print::numbered(out, at, b"set ", less(b.members, 1)),
+        0 => print::numbered(out, at, b"set ", b.members.saturating_sub(1)),
         1 => buffer::put_all(out, at, b"typed value"),
-        2 => print::numbered(out, at, b"target ", less(b.targets, 1)),
+        2 => print::numbered(out, at, b"target ", b.targets.saturating_sub(1)),
         3 => put_parameters(s, l.first, out, at),
         4 => print::numbered(out, at, b"parameter ", b.members),
         5 => {
             let a = buffer::put_all(out, at, b"map value, key ");
             put_key(s, l.key, l.first, text, out, a)
         }
-        6 => print::numbered(out, at, b"report ", less(b.targets, 1)),
+        6 => print::numbered(out, at, b"report ", b.targets.saturating_sub(1)),
         7 => buffer::put_all(out, at, b"report source"),
-        8 => print::numbered(out, at, b"report item ", less(b.members, 2)),
+        8 => print::numbered(out, at, b"report item ", b.members.saturating_sub(2)),
         _ => print::numbered(out, at, b"collection member ", b.members),
     }
 }
@@ -244,21 +235,16 @@ fn put_line(
 fn put_links(
     s: &[u8],
     entries: &[u64],
-    links: [Link; ari::CONTAINERS],
-    count: usize,
+    links: &[Link],
     text: &mut [u8],
     out: &mut [u8],
     at: usize,
 ) -> usize {
-    let n = buffer::least(count, ari::CONTAINERS);
     let mut p = at;
     let mut from = 0;
-    let mut i = 0;
-    while i < n {
-        let l = links[i];
-        p = put_line(s, entries, i, from, l, text, out, p);
-        from = l.first;
-        i += 1;
+    for (i, link) in links.iter().enumerate() {
+        p = put_line(s, entries, i, from, *link, text, out, p);
+        from = link.first;
     }
     p
 }
@@ -280,59 +266,32 @@ fn put_held(
     buffer::put(out, e, b'\n')
 }
 
-fn last_link(links: [Link; ari::CONTAINERS], count: usize) -> Link {
-    let k = count % ari::CONTAINERS;
-    if k == 0 {
-        return links[ari::CONTAINERS - 1];
-    }
-    links[k - 1]
-}
-
-// The entry with its reason, and the chain down to it.
-fn show_chain(
-    s: &[u8],
-    entries: &[u64],
-    entry: usize,
-    links: [Link; ari::CONTAINERS],
-    count: usize,
-    reason: &[u8],
-    out: &mut [u8],
-) {
+// The entry with its reason, and the chain down to it. A held message is accepted: its items are there.
+fn show_held(s: &[u8], entry: usize, links: &[Link], reason: &[u8], out: &mut [u8]) {
+    let mut entries = [0u64; ari::ITEMS];
+    let Ok(items) = reader::keep(Input::Message, ari::LIMITS, s, &mut entries) else {
+        return;
+    };
+    let (Some(items), Some(last)) = (entries.get(..items), links.last()) else {
+        return;
+    };
     let mut text = [0u8; ari::TEXT];
-    let l = last_link(links, count);
-    let a = put_held(s, entry, l, reason, &mut text, out);
-    let b = put_links(s, entries, links, count, &mut text, out, a);
+    let a = put_held(s, entry, *last, reason, &mut text, out);
+    let b = put_links(s, items, links, &mut text, out, a);
     print::flush(out, b);
 }
 
-// A held message is accepted: its items are there.
-fn show_held(s: &[u8], entry: usize, w: Why, count: usize, reason: &[u8], out: &mut [u8]) {
-    let mut entries = [0u64; ari::ITEMS];
-    let r = reader::keep(ari::Input::Message, ari::LIMITS, s, &mut entries);
-    let reader::Answer::Accepted(items) = r else {
-        return;
-    };
-    if ari::ITEMS < items {
-        return;
-    }
-    let links = w.links;
-    show_chain(s, &entries[0..items], entry, links, count, reason, out);
-}
-
-// Why the entry is held, by the message's listing. What is not held has no reason.
+// Why the entry is held, by the message's listing.
 fn put_entry_reason<'a>(
     s: &[u8],
-    outcome: Outcome,
+    entry: usize,
     published: &'a [u8],
     own: &'a [u8],
     subscriber: u64,
     room: &mut [u8],
     words: &mut [u8],
 ) -> usize {
-    let Outcome::Held { entry, .. } = outcome else {
-        return 0;
-    };
-    listing::list_message(s, room);
+    let _ = listing::list_message(s, room);
     if listing::ENTRIES <= entry {
         return 0;
     }
@@ -341,17 +300,32 @@ fn put_entry_reason<'a>(
     put_reason(words, 0, s, kind, word, published, own, subscriber)
 }
 
-// The reason is the first bytes of its words, so many as they are, or as there was room for.
-fn show_why(s: &[u8], w: Why, words: &[u8], size: usize, out: &mut [u8]) {
-    let n = buffer::least(size, words.len());
-    let outcome = w.outcome;
-    match outcome {
-        Outcome::Released => {
-            let a = buffer::put_all(out, 0, b"released\n");
-            print::flush(out, a);
-        }
-        Outcome::Refused { number, place } => print::refusal(out, number, place),
-        Outcome::Held { entry, links, .. } => show_held(s, entry, w, links, &words[0..n], out),
+// What is not held has no reason.
+fn show_why<'a>(
+    s: &[u8],
+    answer: Result<Why, Refusal>,
+    published: &'a [u8],
+    own: &'a [u8],
+    subscriber: u64,
+    room: &mut [u8],
+    out: &mut [u8],
+) {
+    match answer {
+        Err(e) => print::refusal(out, e),
+        Ok(w) => match w.outcome {
+            Outcome::Released => {
+                let a = buffer::put_all(out, 0, b"released\n");
+                print::flush(out, a);
+            }
+            Outcome::Held { entry, links, .. } => {
+                let mut words = io::buffer();
+                let n = put_entry_reason(s, entry, published, own, subscriber, room, &mut words);
+                let n = n.min(words.len());
+                if let Some(links) = w.links.get(..links) {
+                    show_held(s, entry, links, &words[..n], out);
+                }
+            }
+        },
     }
 }
 
@@ -371,13 +345,8 @@ fn judge<'a>(
             show_released(s, answer, &mut room, &mut out);
         }
         Asked::Why => {
-            let w = why_held::why_message(s, grants, published, own, subscriber);
-            let outcome = w.outcome;
-            let mut words = io::buffer();
-            let n = put_entry_reason(
-                s, outcome, published, own, subscriber, &mut room, &mut words,
-            );
-            show_why(s, w, &words, n, &mut out);
+            let answer = why_held::why_message(s, grants, published, own, subscriber);
+            show_why(s, answer, published, own, subscriber, &mut room, &mut out);
         }
     }
 }
@@ -404,13 +373,8 @@ fn judge_own(
     subscriber: u64,
     text: &mut [u8],
 ) {
-    match list_file::load_argument(rt, 4, text) {
-        Loaded::Bytes(size) => {
-            if size <= text.len() {
-                judge_input(asked, grants, published, &text[0..size], subscriber);
-            }
-        }
-        Loaded::Nothing => {}
+    if let Some(size) = list_file::load_argument(rt, 4, text) {
+        judge_input(asked, grants, published, &text[0..size], subscriber);
     }
 }
 
@@ -422,13 +386,8 @@ fn judge_published(
     text: &mut [u8],
     own: &mut [u8],
 ) {
-    match list_file::load_argument(rt, 3, text) {
-        Loaded::Bytes(size) => {
-            if size <= text.len() {
-                judge_own(rt, asked, grants, &text[0..size], subscriber, own);
-            }
-        }
-        Loaded::Nothing => {}
+    if let Some(size) = list_file::load_argument(rt, 3, text) {
+        judge_own(rt, asked, grants, &text[0..size], subscriber, own);
     }
 }
 
@@ -456,9 +415,8 @@ fn judge_file(
     let Some(mut file) = input_file::open(rt, path) else {
         return;
     };
-    match grant_file::load(&mut file, path, room) {
-        grant_file::Held::Rows(n) => judge_rows(rt, asked, room, n, subscriber),
-        grant_file::Held::Nothing => {}
+    if let Some(rows) = grant_file::load(&mut file, path, room) {
+        judge_rows(rt, asked, room, rows, subscriber);
     }
 }
 
@@ -474,7 +432,7 @@ pub fn run(rt: &(impl Env + Files), asked: Asked, usage: &[u8]) {
         return;
     }
     match arguments::number(rt, 2) {
-        buffer::Number::Value(s) => {
+        Some(s) => {
             let mut path = io::buffer();
             match rt.arg(1, &mut path) {
                 Ok(n) => judge_under(rt, asked, &path[..n], s),
@@ -483,7 +441,7 @@ pub fn run(rt: &(impl Env + Files), asked: Asked, usage: &[u8]) {
                 }
             }
         }
-        buffer::Number::Bad => {
+        None => {
             io::write_all(
                 2,
                 b"SUBSCRIBER is no number from 0 to 18446744073709551615\n",

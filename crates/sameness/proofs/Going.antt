@@ -1,42 +1,28 @@
 -- Item by item through two tables, and the answer from there.
-use Prim.Native.Nat.{ℕ, suc, ◌+◌, ◌<◌, ◌≤◌, min}
-use mathlib.Core.Path.{◌≡◌, refl, sym, ◌∙◌, ap}
-use mathlib.Core.Bool.{Bool, true, false, not, true≢false}
-use mathlib.Core.List.{List, [], ◌∷◌, map}
-use native.Mathlib.Omega.{arith}
-use lib.ListN.{length, get_or, length-map, get_or-map}
-use lib.Dec.{eqb}
-use borrow.Author.Tests.{not-true, not-false, eqb-true, eqb-false}
-use mir.Syntax.{w8}
-use mir.Val.{Fits}
-use Rattle.buffer.proofs.ByteLaws.{all_bytes}
+use Rattle.std.proofs.Common.{ℕ, suc, ◌+◌, ◌<◌, ◌≤◌, ◌≡◌, refl, sym, ◌∙◌, ap, Bool, true, false, List, [], ◌∷◌, map, length, get_or, take, arith, Ok, Err, Result}
+use Rattle.std.specs.Cmp.{both_ways}
+use Rattle.std.specs.List.{list_all, zip}
+use Rattle.std.proofs.lemmas.List.{get_or-take, length-take-le}
+use Rattle.std.proofs.Math.ListN.{get_or-map, length-map}
+use Rattle.std.proofs.lemmas.List.Elements.{All-from_get_or}
+use Rattle.std.proofs.lemmas.List.Sums.{AllPass-from_list_all, list_all-from_AllPass}
+use Rattle.std.proofs.lemmas.Slice.Zip.{length-zip, get_or-zip}
 use Rattle.ari.specs.declared.Limits.{Limits}
 use Rattle.ari.specs.declared.Input.TheVariants.{Single}
+use Rattle.ari.specs.declared.Refusal.{Refusal}
 use Rattle.ari.specs.Reader.{accept, read}
 use Rattle.ari.specs.Items.{Spot, spots_of}
 use Rattle.ari.specs.Decode.{decode}
 use Rattle.ari.specs.Rules.{Is}
 use Rattle.ari.specs.Same.{is_same, Seen, seen}
-use Rattle.ari.proofs.Demand.{demand_two}
 use Rattle.ari.proofs.Spots.{spot_count}
 use Rattle.ari.proofs.Same.{same_items, items_same}
-use Rattle.item_table.specs.Entries.{no_spot, spot_number, Tabled}
-use Rattle.reader.specs.declared.Answer.{Answer as Answered}
-use Rattle.reader.specs.declared.Answer.TheVariants.{Accepted, Refused}
-use Rattle.reader.specs.Answers.{answer_of, Kept}
-use Rattle.reader.proofs.Kept.{accepted, refused, tabled}
-use Rattle.sameness.specs.declared.Sameness.{Sameness}
-use Rattle.sameness.specs.declared.Sameness.TheVariants as answers
+use Rattle.item_table.specs.Entries.{no_spot, Tabled}
+use Rattle.reader.specs.Results.{result_of}
+use Rattle.reader.proofs.Results.{is_accepted, is_refused}
 use Rattle.sameness.specs.Sameness.{sameness_by, sameness}
-use Rattle.sameness.specs.Code.{same_item_by}
+use Rattle.sameness.specs.Code.{same_item_by, all_same_by}
 use Rattle.sameness.proofs.Alike.{same_seen, seen_same}
-
--- the first k items are alike
-pub record SameTo (a b : List ℕ) (k : ℕ) : Type 0 where
-  pub items : (j : ℕ) → j < k → seen (spot_number Single a j) ≡ seen (spot_number Single b j)
-
-pub none_yet : (a b : List ℕ) → SameTo a b 0
-none_yet a b = record { items = λ j h. absurd (omega arith) }
 
 all_seen : (xs ys : List Spot) → length xs ≡ length ys → ((j : ℕ) → j < length xs → seen (get_or xs j no_spot) ≡ seen (get_or ys j no_spot)) → map seen xs ≡ map seen ys
 all_seen [] [] l f = refl
@@ -54,28 +40,42 @@ false_if : (x : Bool) → (x ≡ true → ⊥) → false ≡ x
 false_if true n = absurd (n refl)
 false_if false n = refl
 
+-- item by item through two tables
 module _ {m : Limits} {a b : List ℕ} {n : ℕ} {t t' : List ℕ} (c : Tabled m Single a n t) (c' : Tabled m Single b n t') where
-  pub all_same : {k : ℕ} → SameTo a b k → n ≤ k → true ≡ is_same a b
-  all_same s h =
-      let l : length (spots_of Single (decode a)) ≡ length (spots_of Single (decode b)) = spot_count c.is ∙ sym (spot_count c'.is) in
-      sym (items_same a b (all_seen (spots_of Single (decode a)) (spots_of Single (decode b)) l (λ j g. s.items j (omega (arith, spot_count c.is)))))
+  abbrev alike : ℕ × ℕ → Bool
+  alike p = same_item_by a p.0 b p.1
 
-  module _ (k : ℕ) (h : k < n) {x : Bool} (e : x ≡ same_item_by a (get_or t k 0) b (get_or t' k 0)) where
-    pub one_differs : not x ≡ true → false ≡ is_same a b
-    one_differs q =
-        false_if (is_same a b)
-        (λ i.
-        let s = at_item (spots_of Single (decode a)) (spots_of Single (decode b)) k (same_items c.is c'.is i) in
-        true≢false (sym (seen_same c c' k k h h s) ∙ (sym e ∙ not-true x q)))
+  abbrev pairs : List (ℕ × ℕ)
+  pairs = zip (take n t) (take n t')
 
-    pub one_more : SameTo a b k → not x ≡ false → SameTo a b (k + 1)
-    one_more s q = record { items = λ j g. go j g (eqb j k) refl }
-      where
-        go : (j : ℕ) → j < k + 1 → (z : Bool) → eqb j k ≡ z → seen (spot_number Single a j) ≡ seen (spot_number Single b j)
-        go j g true f = rw (eqb-true j k f) (same_seen c c' k k h h (sym e ∙ not-false x q))
-        go j g false f = let d : j ≡ k → ⊥ = eqb-false j k f in s.items j (omega arith)
+  long : length (take n t) ≡ n
+  long = length-take-le n t c.room
 
-pub ruleset goings = (none_yet, all_same, one_differs, one_more)
+  long' : length (take n t') ≡ n
+  long' = length-take-le n t' c'.room
+
+  pair : (k : ℕ) → k < n → get_or pairs k (0, 0) ≡ (get_or t k 0, get_or t' k 0)
+  pair k h = get_or-zip (take n t) (take n t') k (0, 0) (omega (arith, long)) (omega (arith, long')) ∙ rw (get_or-take n t k 0 h, get_or-take n t' k 0 h)
+
+  pub by_tables : all_same_by a b (take n t) (take n t') ≡ is_same a b
+  by_tables = both_ways _ _ so_same so_alike
+    where
+      so_same : list_all alike pairs ≡ true → is_same a b ≡ true
+      so_same e =
+          let l : length (spots_of Single (decode a)) ≡ length (spots_of Single (decode b)) = spot_count c.is ∙ sym (spot_count c'.is) in
+          items_same a b (all_seen (spots_of Single (decode a)) (spots_of Single (decode b)) l
+          (λ j g.
+          let h : j < n = omega (arith, spot_count c.is) in
+          let passes : alike (get_or pairs j (0, 0)) ≡ true = AllPass-from_list_all alike pairs e j (0, 0) (omega (arith, length-zip (take n t) (take n t'), long, long')) in
+          same_seen c c' j j h h (sym (ap alike (pair j h)) ∙ passes)))
+
+      so_alike : is_same a b ≡ true → list_all alike pairs ≡ true
+      so_alike e =
+          list_all-from_AllPass alike pairs
+          (All-from_get_or (λ p. alike p ≡ true) pairs (0, 0)
+          (λ k g.
+          let h : k < n = omega (arith, length-zip (take n t) (take n t'), long, long') in
+          ap alike (pair k h) ∙ (seen_same c c' k k h h (at_item (spots_of Single (decode a)) (spots_of Single (decode b)) k (same_items c.is c'.is e)))))
 
 -- the answers
 other_count : {m m' : Limits} {a b : List ℕ} {n n' : ℕ} → Is m Single a (decode a) n → Is m' Single b (decode b) n' → (n ≡ n' → ⊥) → false ≡ is_same a b
@@ -85,37 +85,23 @@ other_count {a = a} {b = b} c d f =
     let e = ap length (same_items c d i) in
     f (omega (arith, e, length-map (spots_of Single (decode a)) seen, length-map (spots_of Single (decode b)) seen, spot_count c, spot_count d)))
 
-module _ (m : Limits) (a b : List ℕ) where
-  module _ {y : Answered} (ey : y ≡ answer_of (read m Single b)) (n : ℕ) where
-    pub second_refused : {r p : ℕ} → y ≡ Refused r p → answers.Refused r p ≡ sameness_by (accept n) (read m Single b) (is_same a b)
-    second_refused f = rw (refused m Single b ey f)
+module _ (m : Limits) (a b : List ℕ) {x : Result ℕ Refusal} (ex : x ≡ result_of (read m Single a)) where
+  pub first_refused : {e : Refusal} → x ≡ Err e → Err e ≡ sameness m a b
+  unfolding sameness
+  first_refused f = is_refused m Single a ex f (λ z. sameness_by z (read m Single b) (is_same a b)) (λ r p. refl)
 
-    module _ {n' : ℕ} (f : y ≡ Accepted n') {t : List ℕ} (c : Tabled m Single a n t) (bytes : (j : ℕ) → Fits w8 (get_or b j 0)) where
-      pub counts_differ : (n ≡ n' → ⊥) → answers.Different ≡ sameness_by (accept n) (read m Single b) (is_same a b)
-      counts_differ d =
-          let e : read m Single b ≡ accept n' = accepted m Single b ey f in
-          rw (e, ← other_count c.is ((demand_two m Single b n' (all_bytes b bytes)).0 e) d)
-
-    module _ {n' : ℕ} (f : y ≡ Accepted n') {x : Bool} (e : x ≡ is_same a b) where
-      pub they_are : x ≡ true → answers.Same ≡ sameness_by (accept n) (read m Single b) (is_same a b)
-      they_are q = rw (accepted m Single b ey f, ← e, q)
-
-      pub they_are_not : x ≡ false → answers.Different ≡ sameness_by (accept n) (read m Single b) (is_same a b)
-      they_are_not q = rw (accepted m Single b ey f, ← e, q)
-
-  module _ {x : Answered} (ex : x ≡ answer_of (read m Single a)) where
-    pub first_refused : {r p : ℕ} → x ≡ Refused r p → answers.Refused r p ≡ sameness m a b
+  module _ {n : ℕ} (f : x ≡ Ok n) {y : Result ℕ Refusal} (ey : y ≡ result_of (read m Single b)) where
+    pub second_refused : {e : Refusal} → y ≡ Err e → Err e ≡ sameness m a b
     unfolding sameness
-    first_refused f = rw (refused m Single a ex f)
+    second_refused g = rw (is_accepted m Single a ex f) (is_refused m Single b ey g (λ z. sameness_by (accept n) z (is_same a b)) (λ r p. refl))
 
-    pub first_accepted : {n : ℕ} → x ≡ Accepted n → {r : Sameness} → r ≡ sameness_by (accept n) (read m Single b) (is_same a b) → r ≡ sameness m a b
-    unfolding sameness
-    first_accepted f e = e ∙ rw (accepted m Single a ex f)
+    module _ {n' : ℕ} (g : y ≡ Ok n') where
+      both_accepted : Ok (is_same a b) ≡ sameness m a b
+      unfolding sameness
+      both_accepted = rw (is_accepted m Single a ex f, is_accepted m Single b ey g) refl
 
--- the second's table, by the first's count
-pub tabled_too : (m : Limits) (b : List ℕ) {y : Answered} → y ≡ answer_of (read m Single b) → {t t' : List ℕ} → Kept Single b y t t' → length t' ≡ length t
-    → ((j : ℕ) → Fits w8 (get_or b j 0)) → (min m.items (length b) ≤ length t) × (m.bytes < 65536) × (m.containers < 256)
-    → {n n' : ℕ} → y ≡ Accepted n' → n ≡ n' → Tabled m Single b n t'
-tabled_too m b e k l bytes fit f g = rw g (tabled m Single b e k l bytes fit f)
+      pub counts_differ : {t t' : List ℕ} → Tabled m Single a n t → Tabled m Single b n' t' → (n ≡ n' → ⊥) → Ok false ≡ sameness m a b
+      counts_differ c d q = ap Ok (other_count c.is d.is q) ∙ both_accepted
 
-pub ruleset outcomes = (second_refused, counts_differ, they_are, they_are_not, first_refused, first_accepted)
+      pub counts_agree : {t t' : List ℕ} → Tabled m Single a n t → Tabled m Single b n' t' → n ≡ n' → {r : Bool} → r ≡ all_same_by a b (take n t) (take n t') → Ok r ≡ sameness m a b
+      counts_agree c d q e = ap Ok (e ∙ by_tables c (rw (← q) at d)) ∙ both_accepted

@@ -1,5 +1,6 @@
 -- Two items by their words of the item table. Interface: alike_by. Private to src/: the others.
 use Rattle.std.specs.Prelude.{ℕ, Bool, false, not, ◌&&◌, ◌||◌, cond, List, eqb}
+use Rattle.std.specs.List.{list_all, zip}
 use Rattle.buffer.specs.Bytes.{within, same}
 use Rattle.cbor.specs.Head.{bytes, text}
 use Rattle.cbor.specs.declared.Head.{Head}
@@ -38,3 +39,7 @@ alike_by a x b y = alike_at (item_of x).slot a (item_of x).first b (item_of y).f
 -- at the same slot
 unfoldable pub same_item_by : List ℕ → ℕ → List ℕ → ℕ → Bool
 same_item_by a x b y = eqb (item_of x).slot (item_of y).slot && alike_by a x b y
+
+-- the items of two tables, place by place
+abbrev pub all_same_by : List ℕ → List ℕ → List ℕ → List ℕ → Bool
+all_same_by a b xs ys = list_all (λ (p : ℕ × ℕ). same_item_by a p.0 b p.1) (zip xs ys)

@@ -3,79 +3,55 @@
 #![tactic(auto)]
 
 ghost use Rattle.std.specs.Prelude.{◌≡◌, ◌<◌, ◌≤◌, min, length};
-ghost use Rattle.ari.specs.declared.Input.TheVariants as input;
-ghost use Rattle.ari.specs.Reader.{accept, read};
 ghost use Rattle.ari.specs.Limits.{gate_limits, capped};
-ghost use Rattle.ari.specs.Same.{is_same};
-ghost use Rattle.item_table.specs.Entries.{Tabled};
-ghost use Rattle.sameness.specs.Sameness.{sameness_by, sameness};
-ghost use Rattle.sameness.specs.Code.{takes_name_by, same_head, has_string, same_string, alike_by, same_item_by};
+ghost use Rattle.sameness.specs.Sameness.{sameness};
+ghost use Rattle.sameness.specs.Code.{takes_name_by, same_head, has_string, same_string, alike_by, same_item_by, all_same_by};
 
-use ari::{Input, Limits};
-use reader::Answer;
-
-// The same or not; or the first's refusal, or the second's.
-#[derive(Clone, Copy)]
-pub enum Sameness {
-    Same,
-    Different,
-    Refused { number: u8, place: usize },
-}
+use ari::{Input, Limits, Refusal};
 
 // A namespace, an object type or an object id is due at a slot.
 fn takes_name(slot: u64) -> bool
     ensures { result ≡ takes_name_by slot }
 {
-    if slot < grammar::NAMESPACE {
-        return false;
-    }
-    slot <= grammar::OBJECT_ID_PARAMS
+    grammar::NAMESPACE <= slot && slot <= grammar::OBJECT_ID_PARAMS
 }
 
 fn same_head(a: cbor::Head, b: cbor::Head) -> bool
     ensures { result ≡ same_head a b }
 {
-    let cbor::Head::Good { kind, arg, next: _ } = a else {
-        return false;
-    };
-    let cbor::Head::Good {
-        kind: kind_b,
-        arg: arg_b,
-        next: _,
-    } = b
-    else {
-        return false;
-    };
-    if kind != kind_b {
-        return false;
+    match (a, b) {
+        (
+            cbor::Head::Good { kind, arg, .. },
+            cbor::Head::Good {
+                kind: other_kind,
+                arg: other_arg,
+                ..
+            },
+        ) => kind == other_kind && arg == other_arg,
+        _ => false,
     }
-    arg == arg_b
 }
 
 fn has_string(a: cbor::Head) -> bool
     ensures { result ≡ has_string a }
 {
-    let cbor::Head::Good {
-        kind,
-        arg: _,
-        next: _,
-    } = a
-    else {
-        return false;
-    };
-    if kind < cbor::BYTES {
-        return false;
-    }
-    kind <= cbor::TEXT
+    matches!(
+        a,
+        cbor::Head::Good {
+            kind: cbor::BYTES..=cbor::TEXT,
+            ..
+        }
+    )
 }
 
 fn same_string(slot: u64, a: &[u8], b: &[u8]) -> bool
     ensures { result ≡ same_string slot a.now b.now }
 {
     if takes_name(slot) {
-        return name_case::same_name(a, b);
+        name_case::same_name(a, b)
+    } else {
+        a == b
     }
-    buffer::same(a, b)
 }
 
 // Whether two items are alike, each by its word of an item table: heads of one kind and argument, and the same strings as the first's slot has them.
@@ -103,93 +79,63 @@ fn is_same_item(a: &[u8], x: u64, b: &[u8], y: u64) -> bool
 {
     let p = item_table::item_of(x);
     let q = item_table::item_of(y);
-    if p.slot != q.slot {
-        return false;
-    }
-    is_alike(a, x, b, y)
+    p.slot == q.slot && is_alike(a, x, b, y)
 }
 
-// Whether all items are the same of two ARIs that have as many.
-fn all_same(a: &[u8], b: &[u8], limits: Limits, count: usize, xs: &[u64], ys: &[u64]) -> bool
-    requires tabled { Tabled limits input.Single a.now count xs.now }
-    requires tabled_2 { Tabled limits input.Single b.now count ys.now }
-    ensures { result ≡ is_same a.now b.now }
+// Whether all items are the same of two ARIs that have as many, by their tables.
+fn all_same(a: &[u8], b: &[u8], xs: &[u64], ys: &[u64]) -> bool
+    ensures { result ≡ all_same_by a.now b.now xs.now ys.now }
 {
-    let mut k = 0;
-    while k < count {
-        if !is_same_item(a, xs[k], b, ys[k]) {
-            return false;
-        }
-        k += 1;
-    }
-    true
+    xs.iter().zip(ys).all(|(&x, &y)| is_same_item(a, x, b, y))
 }
 
-fn same_second(
+// In two tables with room for the items.
+fn same_in(
     a: &[u8],
     b: &[u8],
     limits: Limits,
-    count: usize,
-    xs: &[u64],
+    xs: &mut [u64],
     ys: &mut [u64],
-) -> Sameness
-    requires tabled { Tabled limits input.Single a.now count xs.now }
-    requires b_in_bounds { (min limits.items (length b.now) ≤ length ys.old) × (limits.bytes < 65536) × (limits.containers < 256) }
-    ensures { result ≡ sameness_by (accept count) (read limits input.Single b.now) (is_same a.now b.now) }
-{
-    match reader::keep(Input::Single, limits, b, ys) {
-        Answer::Refused { number, place } => Sameness::Refused { number, place },
-        Answer::Accepted(other) => {
-            if count != other {
-                return Sameness::Different;
-            }
-            if all_same(a, b, limits, count, xs, ys) {
-                return Sameness::Same;
-            }
-            Sameness::Different
-        }
-    }
-}
-
-fn same_in(a: &[u8], b: &[u8], limits: Limits, xs: &mut [u64], ys: &mut [u64]) -> Sameness
+) -> Result<bool, Refusal>
     requires a_in_bounds { (min limits.items (length a.now) ≤ length xs.old) × (limits.bytes < 65536) × (limits.containers < 256) }
     requires b_in_bounds { min limits.items (length b.now) ≤ length ys.old }
     ensures { result ≡ sameness limits a.now b.now }
 {
-    match reader::keep(Input::Single, limits, a, xs) {
-        Answer::Refused { number, place } => Sameness::Refused { number, place },
-        Answer::Accepted(count) => same_second(a, b, limits, count, xs, ys),
+    let count = reader::keep(Input::Single, limits, a, xs)?;
+    let other = reader::keep(Input::Single, limits, b, ys)?;
+    if count != other {
+        return Ok(false);
     }
+    Ok(all_same(a, b, &xs[..count], &ys[..count]))
 }
 
-// Tables of 128 serve two small ones, and are cleared in a fraction of the time.
-fn same_small(a: &[u8], b: &[u8], limits: Limits) -> Sameness
-    requires a_len_bound { (length a.now ≤ 128) × (limits.bytes < 65536) × (limits.containers < 256) }
-    requires b_len_bound { length b.now ≤ 128 }
+// In tables of so many entries.
+fn same_by_tables<const N: usize>(a: &[u8], b: &[u8], limits: Limits) -> Result<bool, Refusal>
+    requires fits { N ≤ 4096 }
+    requires a_in_bounds { (min limits.items (length a.now) ≤ N) × (limits.bytes < 65536) × (limits.containers < 256) }
+    requires b_in_bounds { min limits.items (length b.now) ≤ N }
     ensures { result ≡ sameness limits a.now b.now }
 {
-    let mut xs = [0u64; 128];
-    let mut ys = [0u64; 128];
+    let mut xs = [0u64; N];
+    let mut ys = [0u64; N];
     same_in(a, b, limits, &mut xs, &mut ys)
 }
 
-// Whether two single ARIs within these limits, none above the gate's own, are the same.
-pub fn same_within(limits: Limits, a: &[u8], b: &[u8]) -> Sameness
+// Whether two single ARIs within these limits, none above the gate's own, are the same; or the first's refusal, or the second's.
+pub fn same_within(limits: Limits, a: &[u8], b: &[u8]) -> Result<bool, Refusal>
     ensures { result ≡ sameness (capped limits) a.now b.now }
 {
     let most = ari::cap(limits);
-    if a.len() <= 128 {
-        if b.len() <= 128 {
-            return same_small(a, b, most);
-        }
+    // Small tables are cleared in a fraction of the time.
+    if a.len() <= 128 && b.len() <= 128 {
+        same_by_tables::<128>(a, b, most)
+    } else {
+        same_by_tables::<{ ari::ITEMS }>(a, b, most)
     }
-    let mut xs = [0u64; ari::ITEMS];
-    let mut ys = [0u64; ari::ITEMS];
-    same_in(a, b, most, &mut xs, &mut ys)
 }
 
 // Whether two single ARIs are the same.
-pub fn same(a: &[u8], b: &[u8]) -> Sameness
+pub fn same(a: &[u8], b: &[u8]) -> Result<bool, Refusal>
     ensures { result ≡ sameness gate_limits a.now b.now }
 {
     same_within(ari::LIMITS, a, b)

@@ -5,29 +5,28 @@ use mathlib.Core.Bool.{Bool, true, false, cond, true≢false}
 use mathlib.Core.List.{List, [], ◌∷◌, ◌++◌, append-nil, append_assoc}
 use native.Mathlib.Omega.{arith}
 use native.Mathlib.Nat.{min-eq_left, min-le_right}
-use lib.ListN.{length, get_or, set, take, drop, length-append, length-set, length-take, length-drop, take-append-drop}
-use lib.Seq.{sets, sets-eq, get_or-set_same, get_or-set_other, take-append-le, drop-append-le, take_all, take_at, take-append-add, length-take-le}
+use lib.ListN.{length, get_or, set, take, drop, length-append, length-set, length-drop, take-append-drop}
+use lib.Seq.{sets, sets-eq, get_or-set_same, get_or-set_other, take-append-le, drop-append-le, take_all, take_at, length-take-le}
 use lib.Dec.{ltb, eqb}
-use mir.Syntax.{w8}
-use mir.Val.{Fits}
-use borrow.Author.Tests.{eq-eqb, ne_eqb, lt-ltb, le-ltb, ltb-false}
+use borrow.Author.Tests.{ne_eqb, lt-ltb, le-ltb, ltb-false, eqb-true, eqb-false}
 use Rattle.buffer.specs.Bytes.{part}
 use Rattle.buffer.specs.Put.{Put}
 use Rattle.ari.specs.declared.Limits.{Limits}
 use Rattle.ari.specs.Limits.{gate_limits, capped}
 use Rattle.ari.specs.declared.Input.TheVariants.{Message}
-use Rattle.ari.specs.Reader.{Answer, refuse, accept, run, counted, read}
+use Rattle.ari.specs.Reader.{Answer, refuse, accept, read}
 use Rattle.listing.specs.declared.Listed.{Listed}
-use Rattle.listing.specs.declared.Listed.TheVariants as listed
 use Rattle.listing.specs.Answers.{list_of, written_of}
-use Rattle.stream.specs.declared.Fed.{Fed}
-use Rattle.stream.specs.declared.Fed.TheVariants.{GoOn, Refused}
-use Rattle.stream.specs.declared.Frame.{Frame}
+use Rattle.std.specs.declared.result.Result.{Result}
+use Rattle.std.specs.declared.result.Result.TheVariants.{Ok, Err}
+use Rattle.ari.specs.declared.Refusal.{Refusal}
+use Rattle.ari.specs.declared.Fault.{Fault}
+use Rattle.ari.specs.Refusals.{number_of, refusal_of, refused}
+use Rattle.ari.proofs.Numbers.{fault_back, number_most}
 use Rattle.stream.specs.declared.Stop.{Stop}
-use Rattle.stream.specs.declared.Stop.TheVariants as stop
-use Rattle.stream.specs.Stream.{open_ended, beyond, closing, Standing, none, stands, standing_of, standing, fed_by, fed_room, close_of, closed_room}
-use Rattle.stream.specs.State.{word, frame_start, frame_at, key_in, levels, dues, first, WellFrame, WellFrames, Due, Quiet, Goes, Stopped, Holds, goes, stopped}
-use Rattle.stream.specs.Calls.{words, needed, fed_of, Advanced, Kept, Walks, Overflows, Receives, FedBehind, Feeds, Fresh, Opens, wants_room, Answers, Ends, ClosedAfter, Closes}
+use Rattle.stream.specs.Stream.{open_ended, beyond, none, stands, standing_of, standing, fed_room, close_of, closed_room}
+use Rattle.stream.specs.State.{word, frame_start, frame_at, levels, dues, WellFrames, Due, Quiet, Goes, Stopped, Holds, goes, stopped}
+use Rattle.stream.specs.Calls.{words, needed, Fed, fed_of, lent_of, kept_in, Advanced, Walks, Overflows, Receives, FedBehind, Feeds, Fresh, Opens, wants_room, Answers, Ends, Closes}
 use Rattle.stream.proofs.Standing.{within, past_limit, stands_still, stands_closes}
 use Rattle.stream.proofs.Going.{read_is, run_refuses, at_end}
 
@@ -103,6 +102,13 @@ other_set ws i x j n = get_or-set_other ws i j x 0 n
 own_set : (ws : List ℕ) (i x : ℕ) → i < length ws → word (set ws i x) i ≡ x
 own_set ws i x h = get_or-set_same ws i x 0 h
 
+-- a refusal by its number
+refused_back : (e : Refusal) → ◌≡◌ {A = Fed} (Err e) (refused (number_of e.fault) e.place)
+refused_back e = rw (fault_back e.fault)
+
+number_small : (f : Fault) → number_of f < 256
+number_small f = omega (arith, number_most f)
+
 -- a refusal that is kept in the words
 module _ (m : Limits) (ws b : List ℕ) (r p : ℕ) (size_is : words ≤ length ws) (small : r < 256) (some : 0 < r) where
   abbrev stopped_words : List ℕ
@@ -122,22 +128,27 @@ module _ (m : Limits) (ws b : List ℕ) (r p : ℕ) (size_is : words ≤ length 
   }
 
 -- what a walk came to, over all bytes received
-module _ (m : Limits) (b ws : List ℕ) {s : Stop} {ws₁ : List ℕ} (a : Advanced m b ws (word ws 4) (word ws 5) (word ws 6) s ws₁) (size_is : words ≤ length ws) (l : length b ≤ m.bytes)
+module _ (m : Limits) (b ws : List ℕ) {s : Result Stop Refusal} {ws₁ : List ℕ} (a : Advanced m b ws (word ws 4) (word ws 5) (word ws 6) s ws₁) (size_is : words ≤ length ws) (l : length b ≤ m.bytes)
   where
     size₁ : words ≤ length ws₁
     size₁ = omega (arith, a.kept.size)
 
-    pub walk_refuses : {r p : ℕ} → s ≡ stop.Refused r p → Fits w8 r → {y : Fed} → y ≡ Refused r p → {w : List ℕ} → w ≡ set (set ws₁ 1 r) 2 p → Walks m b ws y w
-    walk_refuses {r} {p} e small ey ew = record {
+    pub walk_refuses : {e : Refusal} → s ≡ Err e → {y : Fed} → y ≡ Err e → {w : List ℕ} → w ≡ set (set ws₁ 1 (number_of e.fault)) 2 e.place → Walks m b ws y w
+    walk_refuses {e} g ey ew = record {
       holds = λ u v d room h.
-          let q = rw e at (a.reached size_is d) in
-          let st : standing m b ≡ stands r p = run_refuses m b l (rw append-nil at (q.0 [])) q.1 in
-          (ey ∙ rw st, rw ew (stopped (kept_stop m ws₁ b r p size₁ (omega arith) q.2 st)));
+          let r = number_of e.fault in
+          let q = rw g at (a.reached size_is d) in
+          let st : standing m b ≡ stands r e.place = run_refuses m b l (rw append-nil at (q.0 [])) q.1 in
+          (ey ∙ refused_back e ∙ rw st, rw ew (stopped (kept_stop m ws₁ b r e.place size₁ (number_small e.fault) q.2 st)));
     }
 
-    pub walk_waits : {at c o u : ℕ} → s ≡ stop.Waits at c o u → Walks m b ws GoOn (set (set (set (set ws₁ 3 u) 4 at) 5 c) 6 o)
-    walk_waits {at} {c} {o} {u} e = record {
+    pub walk_waits : {x : Stop} → s ≡ Ok x → Walks m b ws (Ok tt) (set (set (set (set ws₁ 3 x.until) 4 x.place.at) 5 x.place.count) 6 x.place.opened)
+    walk_waits {x} e = record {
       holds = λ un v d room h.
+          let u = x.until in
+          let at = x.place.at in
+          let c = x.place.count in
+          let o = x.place.opened in
           let q = rw e at (a.reached size_is d) in
           let st : standing m b ≡ none = q.0 in
           let w₃ = set ws₁ 3 u in
@@ -188,16 +199,18 @@ module _ (m : Limits) (b ws : List ℕ) {s : Stop} {ws₁ : List ℕ} (a : Advan
     over_standing x f g e o =
         rw (past_limit m (b ++ x) (omega (arith, length-append b x)), take_at b x m.bytes f, e, o)
 
-    pub over_refuses : {r p : ℕ} → s ≡ stop.Refused r p → Fits w8 r → {y : Fed} → y ≡ Refused r p → {w : List ℕ} → w ≡ set (set ws₁ 1 r) 2 p → Overflows m b ws y w
-    over_refuses {r} {p} e small ey ew = record {
+    pub over_refuses : {e : Refusal} → s ≡ Err e → {y : Fed} → y ≡ Err e → {w : List ℕ} → w ≡ set (set ws₁ 1 (number_of e.fault)) 2 e.place → Overflows m b ws y w
+    over_refuses {e} h ey ew = record {
       stops = λ d f x g.
-          let q = rw e at (a.reached size_is d) in
+          let r = number_of e.fault in
+          let p = e.place in
+          let q = rw h at (a.reached size_is d) in
           let rd : read m Message b ≡ refuse r p = sym (within m b l) ∙ read_is m b l ∙ rw (rw append-nil at (q.0 [])) in
           let st : standing m (b ++ x) ≡ stands r p = over_standing x f g (rw (rd, q.1)) q.1 in
-          (ey ∙ rw st, rw ew (kept_stop m ws₁ (b ++ x) r p size₁ (omega arith) q.2 st));
+          (ey ∙ refused_back e ∙ rw st, rw ew (kept_stop m ws₁ (b ++ x) r p size₁ (number_small e.fault) q.2 st));
     }
 
-    pub over_waits : {at c o u : ℕ} → s ≡ stop.Waits at c o u → {y : Fed} → y ≡ Refused 1 0 → {w : List ℕ} → w ≡ set (set ws₁ 1 1) 2 0 → Overflows m b ws y w
+    pub over_waits : {x : Stop} → s ≡ Ok x → {y : Fed} → y ≡ refused 1 0 → {w : List ℕ} → w ≡ set (set ws₁ 1 1) 2 0 → Overflows m b ws y w
     over_waits e ey ew = record {
       stops = λ d f x g.
           let q = rw e at (a.reached size_is d) in
@@ -271,7 +284,7 @@ module _ (m : Limits) (ws room f : List ℕ) (size_is : words ≤ length ws) (ro
     until_now : word ws' 3 ≡ word ws 3
     until_now = other_set ws 0 end 3 (λ e. omega arith)
 
-    quietly : end < word ws' 3 → (GoOn ≡ fed_of (standing m (b ++ f))) × Holds m ws' room' (b ++ f) × (room' ≡ fed_room m b f room)
+    quietly : end < word ws' 3 → (Ok tt ≡ fed_of (standing m (b ++ f))) × Holds m ws' room' (b ++ f) × (room' ≡ fed_room m b f room)
     quietly h =
         let st : standing m (b ++ f) ≡ none = g.quiet f (omega (arith, length_is, until_now)) (omega (arith, length_is)) in (
           rw st,
@@ -294,7 +307,7 @@ module _ (m : Limits) (ws room f : List ℕ) (size_is : words ≤ length ws) (ro
         let (a, h) = (rw z at v).holds unrefused_now size_now due_now room' bytes_held in
         (a, h, kept_room)
 
-  pub waits_on : end < word ws 3 → {w : List ℕ} → w ≡ ws' → Receives m ws room f GoOn w room'
+  pub waits_on : end < word ws 3 → {w : List ℕ} → w ≡ ws' → Receives m ws room f (Ok tt) w room'
   waits_on h e = record { behind = λ b g. rw e (quietly b g (omega (arith, until_now b g))) }
 
   pub walks_on : {w : List ℕ} → w ≡ ws' → {y : Fed} {w' : List ℕ} → Walks m (part room' 0 end) w y w' → Receives m ws room f y w' room'
@@ -423,21 +436,73 @@ module _ (n room most : ℕ) where
       go false true v e = omega arith
       go false false v e = ltb-false room most v
 
--- feed
-module _ (m : Limits) (ws room f : List ℕ) {x : ℕ} (e : x ≡ needed (length ws) (length room) m.bytes) where
-  pub feed_short : (x ≡ 0 → ⊥) → Feeds m ws room f (Refused 16 x) ws room
-  feed_short n = record { short = λ _. (rw e, refl, refl); behind = λ z. absurd (n (e ∙ z)) }
+-- what is lent, from the answer
+module _ (n room most : ℕ) where
+  abbrev short : ℕ
+  short = needed n room most
 
-  module _ (z : x ≡ 0) where
-    none_short : (needed (length ws) (length room) m.bytes ≡ 0 → ⊥) → ⊥
-    none_short n = n (sym e ∙ z)
+  pub lent_few : n < words → refused 16 (words * 8) ≡ lent_of short
+  lent_few h = rw (← few_words n room most h)
 
-    pub feed_stands : (word ws 1 ≡ 0 → ⊥) → Feeds m ws room f (Refused (word ws 1 % 256) (word ws 2)) ws room
-    feed_stands n = record { short = λ s. absurd (none_short s); behind = λ _ b h. go b h }
+  pub lent_little : words ≤ n → room < most → refused 16 most ≡ lent_of short
+  lent_little h g = rw (← little_room n room most h g, ne_eqb most 0 (λ q. omega arith))
+
+  pub lent_enough : words ≤ n → most ≤ room → Ok (tt {0}) ≡ lent_of short
+  lent_enough h g = rw (← nothing_lacks n room most h g)
+
+  module _ {r : Fed} (q : r ≡ lent_of short) where
+    pub lent_short : {e : Refusal} → r ≡ Err e → (e ≡ refusal_of 16 short) × (short ≡ 0 → ⊥)
+    lent_short {e} g = go (eqb short 0) refl (sym g ∙ q)
       where
-        go : (b : List ℕ) → Holds m ws room b → FedBehind m ws room b f (Refused (word ws 1 % 256) (word ws 2)) ws room
-        go b (goes g) = absurd (n g.unrefused)
-        go b (stopped s) =
+        go : (t : Bool) → eqb short 0 ≡ t → Err e ≡ cond t (Ok (tt {0})) (refused 16 short) → (e ≡ refusal_of 16 short) × (short ≡ 0 → ⊥)
+        go true x q = absurd (let z : ◌≡◌ {A = ℕ} 0 1 = cc in omega arith)
+        go false x q = (cc, eqb-false short 0 x)
+
+    pub lent_all : {u : Unit {0}} → r ≡ Ok u → short ≡ 0
+    lent_all {u} g = go (eqb short 0) refl (sym g ∙ q)
+      where
+        go : (t : Bool) → eqb short 0 ≡ t → Ok u ≡ cond t (Ok (tt {0})) (refused 16 short) → short ≡ 0
+        go true x q = eqb-true short 0 x
+        go false x q = absurd (let z : ◌≡◌ {A = ℕ} 0 1 = cc in omega arith)
+
+    pub words_lent : {u : Unit {0}} → r ≡ Ok u → words ≤ n
+    words_lent g = enough_words n room most refl (lent_all g)
+
+    pub room_lent : {u : Unit {0}} → r ≡ Ok u → most ≤ room
+    room_lent g = enough_room n room most refl (lent_all g)
+
+-- what stands, from the answer
+module _ (ws : List ℕ) {r : Fed} (q : r ≡ kept_in ws) where
+  kept_one : {e : Refusal} → r ≡ Err e → (e ≡ refusal_of (word ws 1 % 256) (word ws 2)) × (word ws 1 ≡ 0 → ⊥)
+  kept_one {e} g = go (eqb (word ws 1) 0) refl (sym g ∙ q)
+    where
+      go : (t : Bool) → eqb (word ws 1) 0 ≡ t → Err e ≡ cond t (Ok (tt {0})) (refused (word ws 1 % 256) (word ws 2))
+          → (e ≡ refusal_of (word ws 1 % 256) (word ws 2)) × (word ws 1 ≡ 0 → ⊥)
+      go true x q = absurd (let z : ◌≡◌ {A = ℕ} 0 1 = cc in omega arith)
+      go false x q = (cc, eqb-false (word ws 1) 0 x)
+
+  kept_none : {u : Unit {0}} → r ≡ Ok u → word ws 1 ≡ 0
+  kept_none {u} g = go (eqb (word ws 1) 0) refl (sym g ∙ q)
+    where
+      go : (t : Bool) → eqb (word ws 1) 0 ≡ t → Ok u ≡ cond t (Ok (tt {0})) (refused (word ws 1 % 256) (word ws 2)) → word ws 1 ≡ 0
+      go true x q = eqb-true (word ws 1) 0 x
+      go false x q = absurd (let z : ◌≡◌ {A = ℕ} 0 1 = cc in omega arith)
+
+-- feed
+module _ (m : Limits) (ws room f : List ℕ) {lent : Fed} (e : lent ≡ lent_of (needed (length ws) (length room) m.bytes)) where
+  pub feed_short : {x : Refusal} → lent ≡ Err x → Feeds m ws room f (Err x) ws room
+  feed_short g = let (h, n) = lent_short (length ws) (length room) m.bytes e g in record { short = λ _. (rw h, refl, refl); behind = λ z. absurd (n z) }
+
+  module _ {u : Unit {0}} (g : lent ≡ Ok u) {kept : Fed} (k : kept ≡ kept_in ws) where
+    none_short : (needed (length ws) (length room) m.bytes ≡ 0 → ⊥) → ⊥
+    none_short n = n (lent_all (length ws) (length room) m.bytes e g)
+
+    pub feed_stands : {x : Refusal} → kept ≡ Err x → Feeds m ws room f (Err x) ws room
+    feed_stands {x} h = let (q, n) = kept_one ws k h in record { short = λ s. absurd (none_short s); behind = λ _ b h. rw q (go n b h) }
+      where
+        go : (word ws 1 ≡ 0 → ⊥) → (b : List ℕ) → Holds m ws room b → FedBehind m ws room b f (refused (word ws 1 % 256) (word ws 2)) ws room
+        go n b (goes g) = absurd (n g.unrefused)
+        go n b (stopped s) =
             let st = stands_still m b (word ws 1) (word ws 2) s.standing_is f in
             let r : word ws 1 % 256 ≡ word ws 1 = omega (arith, s.small) in
             record {
@@ -447,17 +512,15 @@ module _ (m : Limits) (ws room f : List ℕ) {x : ℕ} (e : x ≡ needed (length
               still = λ _. refl;
             }
 
-    pub feed_receives : word ws 1 ≡ 0 → {y : Fed} {w room' : List ℕ} → Receives m ws room f y w room' → Feeds m ws room f y w room'
-    feed_receives u {y} {w} {room'} v = record { short = λ s. absurd (none_short s); behind = λ _ b h. go b h }
+    pub feed_receives : {u : Unit {0}} → kept ≡ Ok u → {y : Fed} {w room' : List ℕ} → Receives m ws room f y w room' → Feeds m ws room f y w room'
+    feed_receives h {y} {w} {room'} v = let n = kept_none ws k h in record { short = λ s. absurd (none_short s); behind = λ _ b h. go n b h }
       where
-        go : (b : List ℕ) → Holds m ws room b → FedBehind m ws room b f y w room'
-        go b (goes g) = let (a, h, k) = v.behind b g in record { answer = a; holds = h; kept = k; still = λ n. absurd (n g.idle) }
-        go b (stopped s) = absurd (s.refused u)
-
-pub ruleset feeding = (feed_short, feed_stands, feed_receives)
+        go : word ws 1 ≡ 0 → (b : List ℕ) → Holds m ws room b → FedBehind m ws room b f y w room'
+        go n b (goes g) = let (a, h, k) = v.behind b g in record { answer = a; holds = h; kept = k; still = λ n. absurd (n g.idle) }
+        go n b (stopped s) = absurd (s.refused n)
 
 -- what a close answers where a refusal stands, and within the limit
-close_stood : (m : Limits) (b out : List ℕ) {r p : ℕ} → standing m b ≡ stands r p → (listed.Refused r p ≡ close_of m b out) × (out ≡ closed_room m b out)
+close_stood : (m : Limits) (b out : List ℕ) {r p : ℕ} → standing m b ≡ stands r p → (refused r p ≡ close_of m b out) × (out ≡ closed_room m b out)
 unfolding close_of closed_room
 close_stood m b out {r} {p} e = let q = stands_closes m b r p e in (rw q, rw q)
 
@@ -465,61 +528,58 @@ pub close_within_limit : (m : Limits) (b out : List ℕ) → length b ≤ m.byte
 unfolding close_of closed_room list_of written_of
 close_within_limit m b out l = (rw (within m b l), rw (within m b l))
 
--- close
-module _ {a : Listed} where
-  pub wants_more : {r p : ℕ} → a ≡ listed.Refused r p → eqb r 16 ≡ wants_room a
-  wants_more e = rw e
-
-  pub wants_nothing : {k n : ℕ} → a ≡ listed.Entries k n → false ≡ wants_room a
-  wants_nothing e = rw e
-
 -- the answer, from the words and the room
-module _ (m : Limits) (ws room out : List ℕ) where
-  pub answer_stands : (word ws 1 ≡ 0 → ⊥) → Answers m ws room out (listed.Refused (word ws 1 % 256) (word ws 2)) out
-  answer_stands n = record { after = go }
+module _ (m : Limits) (ws room out : List ℕ) {kept : Fed} (k : kept ≡ kept_in ws) where
+  pub answer_stands : {x : Refusal} → kept ≡ Err x → Answers m ws room out (Err x) out
+  answer_stands h = let (q, n) = kept_one ws k h in record { after = λ b h. rw q (go n b h) }
     where
-      go : (b : List ℕ) → Holds m ws room b → (listed.Refused (word ws 1 % 256) (word ws 2) ≡ close_of m b out) × (out ≡ closed_room m b out)
-      go b (goes g) = absurd (n g.unrefused)
-      go b (stopped s) = let r : word ws 1 % 256 ≡ word ws 1 = omega (arith, s.small) in rw r (close_stood m b out s.standing_is)
+      go : (word ws 1 ≡ 0 → ⊥) → (b : List ℕ) → Holds m ws room b → (refused (word ws 1 % 256) (word ws 2) ≡ close_of m b out) × (out ≡ closed_room m b out)
+      go n b (goes g) = absurd (n g.unrefused)
+      go n b (stopped s) = let r : word ws 1 % 256 ≡ word ws 1 = omega (arith, s.small) in rw r (close_stood m b out s.standing_is)
 
-  pub answer_lists : word ws 1 ≡ 0 → {n : ℕ} → n ≡ min (word ws 0) (length room) → m.bytes ≤ length room → {y : Listed} {out' : List ℕ}
+  pub answer_lists : {u : Unit {0}} → kept ≡ Ok u → {n : ℕ} → n ≡ min (word ws 0) (length room) → m.bytes ≤ length room → {y : Result Listed Refusal} {out' : List ℕ}
       → y ≡ list_of m (part room 0 n) out → out' ≡ written_of m (part room 0 n) out → Answers m ws room out y out'
-  answer_lists u {n} e l {y} {out'} ey eo = record { after = go }
+  answer_lists h {n} e l {y} {out'} ey eo = let u = kept_none ws k h in record { after = λ b h. go u b h }
     where
-      go : (b : List ℕ) → Holds m ws room b → (y ≡ close_of m b out) × (out' ≡ closed_room m b out)
-      go b (goes g) =
+      go : word ws 1 ≡ 0 → (b : List ℕ) → Holds m ws room b → (y ≡ close_of m b out) × (out' ≡ closed_room m b out)
+      go u b (goes g) =
           let z : n ≡ length b = e ∙ (let h : word ws 0 ≤ length room = omega (arith, g.size, g.within) in min-eq_left h) ∙ g.size in
           let k : part room 0 n ≡ b = let x : n - 0 ≡ length b = omega arith in rw x g.held in
           let (p, q) = close_within_limit m b out g.within in
           (ey ∙ rw k p, eo ∙ rw k q)
-      go b (stopped s) = absurd (s.refused u)
+      go u b (stopped s) = absurd (s.refused u)
 
-module _ (m : Limits) (ws room out : List ℕ) {x : ℕ} (e : x ≡ needed (length ws) (length room) m.bytes) where
-  pub close_short : (x ≡ 0 → ⊥) → Closes m ws room out (listed.Refused 16 x) ws out
-  close_short n = record { short = λ _. (rw e, refl, refl); after = λ z. absurd (n (e ∙ z)) }
+module _ (m : Limits) (ws room out : List ℕ) {lent : Fed} (e : lent ≡ lent_of (needed (length ws) (length room) m.bytes)) where
+  pub close_short : {x : Refusal} → lent ≡ Err x → Closes m ws room out (Err x) ws out
+  close_short g = let (h, n) = lent_short (length ws) (length room) m.bytes e g in record { short = λ _. (rw h, refl, refl); after = λ z. absurd (n z) }
 
-  pub close_ends : x ≡ 0 → {y : Listed} {out' : List ℕ} → Answers m ws room out y out' → {ws' : List ℕ} → Ends y ws ws' → Closes m ws room out y ws' out'
+  pub close_ends : {u : Unit {0}} → lent ≡ Ok u → {y : Result Listed Refusal} {out' : List ℕ} → Answers m ws room out y out' → {ws' : List ℕ} → Ends y ws ws' → Closes m ws room out y ws' out'
   close_ends z {y} {out'} a {ws'} g = record {
-    short = λ n. absurd (n (sym e ∙ z));
+    short = λ n. absurd (n (lent_all (length ws) (length room) m.bytes e z));
     after = λ _ b h.
         let (r, o) = a.after b h in
         record { answer = r; listed = o; repeats = g.repeats; afresh = λ f room'. fresh_holds m ws' room' (g.afresh f) };
   }
 
-module _ {a : Listed} {t : Bool} (w : t ≡ wants_room a) where
+module _ {a : Result Listed Refusal} {t : Bool} (w : t ≡ wants_room a) where
   pub stays_open : t ≡ true → (ws : List ℕ) → Ends a ws ws
   stays_open q ws = record { repeats = λ _. refl; afresh = λ f. absurd (true≢false (sym q ∙ w ∙ f)) }
 
   pub is_ended : t ≡ false → (ws : List ℕ) {ws' : List ℕ} → Fresh ws' → Ends a ws ws'
   is_ended q ws f = record { repeats = λ g. absurd (true≢false (sym g ∙ sym w ∙ q)); afresh = λ _. f }
 
-pub ruleset closing_ways = (wants_more, wants_nothing, answer_stands, answer_lists, close_short, close_ends, stays_open, is_ended)
+pub ruleset closing_ways = (answer_stands, answer_lists, close_short, close_ends, stays_open, is_ended)
 
 -- open
-pub open_short : (ws : List ℕ) → length ws < words → Opens ws (Refused 16 (words * 8)) ws
-open_short ws h = record { short = λ _. (refl, refl); afresh = λ g. absurd (omega arith) }
+pub open_short : (ws : List ℕ) {r : Fed} → r ≡ lent_of (needed (length ws) 0 0) → {e : Refusal} → r ≡ Err e → Opens ws (Err e) ws
+open_short ws q g =
+    let (h, n) = lent_short (length ws) 0 0 q g in
+    record {
+      short = λ k. (let w = few_words (length ws) 0 0 k in rw (h, ← w), refl);
+      afresh = λ k. absurd (n (sym (nothing_lacks (length ws) 0 0 k zero-le)));
+    }
 
-pub open_ends : (ws : List ℕ) → words ≤ length ws → {ws' : List ℕ} → Fresh ws' → Opens ws GoOn ws'
+pub open_ends : (ws : List ℕ) → words ≤ length ws → {ws' : List ℕ} → Fresh ws' → Opens ws (Ok tt) ws'
 open_ends ws h {ws'} f = record { short = λ g. absurd (omega arith); afresh = λ _. (refl, λ m room. fresh_holds m ws' room f) }
 
 -- limits that were capped
@@ -542,7 +602,7 @@ module _ {m : Limits} (e : capped m ≡ m) where
   pub small_containers : m.containers ≤ gate_limits.containers
   small_containers = let h : min m.containers gate_limits.containers ≡ m.containers = ap (λ (x : Limits). x.containers) e in omega (arith, min-le_right m.containers gate_limits.containers)
 
-  pub lists_alike : (b out : List ℕ) {y : Listed} → y ≡ list_of (capped m) b out → y ≡ list_of m b out
+  pub lists_alike : (b out : List ℕ) {y : Result Listed Refusal} → y ≡ list_of (capped m) b out → y ≡ list_of m b out
   lists_alike b out g = rw e at g
 
   pub writes_alike : (b out : List ℕ) {out' : List ℕ} → out' ≡ written_of (capped m) b out → out' ≡ written_of m b out
@@ -552,7 +612,7 @@ module _ (m : Limits) {n : Limits} (e : n ≡ capped m) where
   pub feeds_alike : {ws room f : List ℕ} {y : Fed} {ws' room' : List ℕ} → Feeds n ws room f y ws' room' → Feeds (capped m) ws room f y ws' room'
   feeds_alike v = rw e at v
 
-  pub closes_alike : {ws room out : List ℕ} {y : Listed} {ws' out' : List ℕ} → Closes n ws room out y ws' out' → Closes (capped m) ws room out y ws' out'
+  pub closes_alike : {ws room out : List ℕ} {y : Result Listed Refusal} {ws' out' : List ℕ} → Closes n ws room out y ws' out' → Closes (capped m) ws room out y ws' out'
   closes_alike v = rw e at v
 
 pub ruleset caps = (capped_once, small_bytes, small_containers, lists_alike, writes_alike, feeds_alike, closes_alike)

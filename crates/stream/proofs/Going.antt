@@ -25,8 +25,8 @@ use Rattle.grammar.specs.Code.{slot_of, IsSlot, level_of, fits_code, next_code, 
 use Rattle.grammar.specs.declared.Next.{Next}
 use Rattle.grammar.specs.declared.Next.TheVariants as next
 use Rattle.grammar.proofs.Right.{next_right, inside_right}
-use Rattle.reader.specs.declared.Step.{Step}
-use Rattle.reader.specs.declared.Step.TheVariants.{Taken, Refused}
+use Rattle.reader.specs.declared.Taken.{Taken}
+use Rattle.reader.specs.Steps.{taken}
 use Rattle.reader.specs.Steps.{key_span, step_answer, step_at}
 use Rattle.reader.proofs.Walking.{Took, took, run_frame, run_taken}
 use Rattle.reader.proofs.Keys.{ordered_kind}
@@ -35,10 +35,14 @@ use Rattle.reader.proofs.Heads.{key_at_lem}
 use Rattle.reader.proofs.Bounds.{opens}
 use Rattle.stream.specs.declared.Frame.{Frame}
 use Rattle.stream.specs.declared.Stop.{Stop}
-use Rattle.stream.specs.declared.Stop.TheVariants as stop
+use Rattle.std.specs.declared.result.Result.{Result}
+use Rattle.std.specs.declared.result.Result.TheVariants.{Ok, Err}
+use Rattle.ari.specs.declared.Refusal.{Refusal}
+use Rattle.ari.specs.Refusals.{number_of, fault_of, refusal_of}
+use Rattle.ari.proofs.Numbers.{number_back}
 use Rattle.stream.specs.Stream.{open_ended, none, stands, standing_of, standing, closing}
 use Rattle.stream.specs.State.{key_in, levels, dues, first, WellFrames, Due, Quiet}
-use Rattle.stream.specs.Calls.{words, bottom_frame, due_frame, open_behind, words_behind, open_inside, words_inside, string_until, halt_of, step_due, TakenDue, open_after, words_after, Reached, Kept, Advanced}
+use Rattle.stream.specs.Calls.{words, bottom_frame, due_frame, open_behind, words_behind, open_inside, words_inside, string_until, stop_at, halt_of, step_due, TakenDue, open_after, words_after, Reached, Kept, Advanced}
 use Rattle.stream.proofs.Standing as standings
 use Rattle.stream.proofs.Levels.{behind_levels, behind_well, behind_size, behind_front, behind_most, inside_levels, inside_well, inside_size, inside_front}
 
@@ -170,31 +174,36 @@ module _ (m : Limits) (ws b : List ℕ) (p c o : ℕ) (d : Due m ws b p c o) (mo
       let y = k.stays x (omega (arith, length-append b x, length-append (drop p b) x, length-drop p b)) in
       run_stands m (b ++ x) l (runs_here x ∙ run_frame (m.items - c) s f.more prev depth (levels ws m.containers b (o - 1)) p 9 (drop p b ++ x) y) refl
 
-  judged_no : {t : Step} → t ≡ step_at b p s prev (m.items - c) depth → {r x : ℕ} → t ≡ Refused r x
-      → (judge_got (m.items - c) depth s prev (get_head (drop p b)) (drop p b) ≡ reader.no r) × (x ≡ p)
+  judged_no : {t : Result Taken Refusal} → t ≡ step_at b p s prev (m.items - c) depth → {e : Refusal} → t ≡ Err e
+      → (r : ℕ) × (judge_got (m.items - c) depth s prev (get_head (drop p b)) (drop p b) ≡ reader.no r) × (e ≡ refusal_of r p)
   unfolding step_at
-  judged_no {t} e {r} {x} g = go (judge_got (m.items - c) depth s prev (get_head (drop p b)) (drop p b)) refl (sym e ∙ g)
+  judged_no {t} q {e} g = go (judge_got (m.items - c) depth s prev (get_head (drop p b)) (drop p b)) refl (sym q ∙ g)
     where
-      go : (y : reader.Step) → judge_got (m.items - c) depth s prev (get_head (drop p b)) (drop p b) ≡ y → step_answer p y ≡ Refused r x
-          → (judge_got (m.items - c) depth s prev (get_head (drop p b)) (drop p b) ≡ reader.no r) × (x ≡ p)
-      go (reader.no r') j q = let z : r' ≡ r = cc in (j ∙ ap reader.no z, cc)
-      go (reader.yes l str) j q = absurd (let z : ◌≡◌ {A = ℕ} 0 1 = cc in omega arith)
+      go : (y : reader.Step) → judge_got (m.items - c) depth s prev (get_head (drop p b)) (drop p b) ≡ y → step_answer p y ≡ Err e
+          → (r : ℕ) × (judge_got (m.items - c) depth s prev (get_head (drop p b)) (drop p b) ≡ reader.no r) × (e ≡ refusal_of r p)
+      go (reader.no r) j h = (r, j, (let z : refusal_of r p ≡ e = cc in sym z))
+      go (reader.yes l str) j h = absurd (let z : ◌≡◌ {A = ℕ} 0 1 = cc in omega arith)
 
   halt_of_lem : (most r : ℕ) → length b ≤ m.bytes → judge_got (m.items - c) depth s prev (get_head (drop p b)) (drop p b) ≡ reader.no r
-      → Reached m b ws (halt_of b most (Refused r p) p c o)
-  halt_of_lem most r l j = go (eqb r 2) refl (eqb r 9) refl
+      → Reached m b ws (halt_of b most (refusal_of r p) p c o)
+  halt_of_lem most r l j = go (eqb (number_of (fault_of r)) 2) refl (eqb (number_of (fault_of r)) 9) refl
     where
-      go : (t : Bool) → eqb r 2 ≡ t → (u : Bool) → eqb r 9 ≡ u
-          → Reached m b ws (cond t (stop.Waits p c o (length b + 1)) (cond u (stop.Waits p c o (string_until (head_at b p) most (length b))) (stop.Refused r p)))
-      go true x u y = let q : standing m b ≡ none = run_stands m b l (refused_now j) (rw x) in (q, next_byte m b q, d)
-      go false x true y =
-          let z : r ≡ 9 = eqb-true r 9 y in
-          (run_stands m b l (refused_now j) (rw (x, y)), short_string most (rw z at j), d)
-      go false x false y = let e : open_ended r ≡ false = rw (x, y) in (refused_on j e, e, let (h, _) = step_number (m.items - c) depth s prev (drop p b) j in omega arith)
+      back : number_of (fault_of r) ≡ r
+      back = let (h, k) = step_number (m.items - c) depth s prev (drop p b) j in number_back r (omega arith) (omega arith)
 
-  pub halted : (most : ℕ) {t : Step} → t ≡ step_at b p s prev (m.items - c) depth → length b ≤ m.bytes → {r x : ℕ} → t ≡ Refused r x
-      → {y : Stop} → y ≡ halt_of b most t p c o → Reached m b ws y
-  halted most e l {r} g z = let (j, q) = judged_no e g in rw (z, g, q) (halt_of_lem most r l j)
+      go : (t : Bool) → eqb (number_of (fault_of r)) 2 ≡ t → (u : Bool) → eqb (number_of (fault_of r)) 9 ≡ u
+          → Reached m b ws (cond t (Ok (stop_at p c o (length b + 1))) (cond u (Ok (stop_at p c o (string_until (head_at b p) most (length b)))) (Err (refusal_of r p))))
+      go true x u y = let q : standing m b ≡ none = run_stands m b l (refused_now j) (rw (rw back at x)) in (q, next_byte m b q, d)
+      go false x true y =
+          let z : r ≡ 9 = eqb-true r 9 (rw back at y) in
+          (run_stands m b l (refused_now j) (rw (rw back at x, rw back at y)), short_string most (rw z at j), d)
+      go false x false y =
+          let e : open_ended r ≡ false = rw (rw back at x, rw back at y) in
+          rw back (refused_on j e, e, let (h, k) = step_number (m.items - c) depth s prev (drop p b) j in omega arith)
+
+  pub halted : (most : ℕ) {t : Result Taken Refusal} → t ≡ step_at b p s prev (m.items - c) depth → length b ≤ m.bytes → {e : Refusal} → t ≡ Err e
+      → {y : Result Stop Refusal} → y ≡ halt_of b most e p c o → Reached m b ws y
+  halted most q l g z = let (r, j, i) = judged_no q g in rw (z, i) (halt_of_lem most r l j)
 
   -- a head is taken
   module _ (bs : all is_byte b ≡ true) {k a q : ℕ} (tk : Took b p (m.items - c) depth s prev k a q) (kk : k ≤ 9) (fit : fits_code f.slot k a ≡ true)
@@ -311,7 +320,7 @@ module _ {ws₀ ws : List ℕ} (kept : Kept ws₀ ws) (size_is : words ≤ lengt
 
 -- Each way that a turn ends, from the facts that the code leaves.
 module _ {m : Limits} {b ws₀ : List ℕ} {at₀ count₀ opened₀ : ℕ} {ws : List ℕ} {p c o : ℕ} (lead : Leads m b ws₀ at₀ count₀ opened₀ ws p c o) (size_is : words ≤ length ws₀) where
-  module _ (more : p < length b) {f : Frame} (ef : f ≡ due_frame ws p o) {t : Step} (et : t ≡ step_due m b f p c o) where
+  module _ (more : p < length b) {f : Frame} (ef : f ≡ due_frame ws p o) {t : Result Taken Refusal} (et : t ≡ step_due m b f p c o) where
     -- a frame of ours is a level's
     step_is : (d : Due m ws b p c o) → t ≡ step_at b p (slot_of f.slot) (key_in b f) (m.items - c) (m.containers - f.around)
     unfolding step_due
@@ -319,7 +328,7 @@ module _ {m : Limits} {b ws₀ : List ℕ} {at₀ count₀ opened₀ : ℕ} {ws 
         let v = framed m ws b p c o d more ef in
         et ∙ rw (le-leb o f.around v.above, le-leb f.around m.containers v.allowed, key_at_lem b f.from f.to v.ends v.key_within)
 
-    pub turned : all is_byte b ≡ true → {k a q : ℕ} → t ≡ Taken k a q → TakenDue m b f p c o t → m.containers ≤ gate_limits.containers
+    pub turned : all is_byte b ≡ true → {k a q : ℕ} → t ≡ taken k a q → TakenDue m b f p c o t → m.containers ≤ gate_limits.containers
         → {o' : ℕ} {w : List ℕ} → o' ≡ open_after f k a o → w ≡ words_after f k a ws o p q → Leads m b ws₀ at₀ count₀ opened₀ w q (c + 1) o'
     turned bs {k} {a} {q} g bound deep eo ew = record {
       kept = rw ew (moved lead.kept size_is f p q o k a (open_behind (next_code f.slot a f.more) o));
@@ -330,11 +339,12 @@ module _ {m : Limits} {b ws₀ : List ℕ} {at₀ count₀ opened₀ : ℕ} {ws 
           rw (eo, ew) (after m ws b p c o d more ef bs tk shown.4 shown.5 shown.3 shown.2 shown.0 shown.1 (omega (arith, lead.kept.size)) deep);
     }
 
-    pub halts : {r x : ℕ} → t ≡ Refused r x → (most : ℕ) → length b ≤ m.bytes → {y : Stop} → y ≡ halt_of b most t p c o → Advanced m b ws₀ at₀ count₀ opened₀ y ws
+    pub halts : {e : Refusal} → t ≡ Err e → (most : ℕ) → length b ≤ m.bytes → {y : Result Stop Refusal} → y ≡ halt_of b most e p c o
+        → Advanced m b ws₀ at₀ count₀ opened₀ y ws
     halts g most l z = record { kept = lead.kept; reached = λ h d₀. let d = lead.on d₀ in halted m ws b p c o d more ef most (step_is d) l g z }
 
   -- no state of ours has more levels than containers
-  pub too_deep : m.containers < o → {y : Stop} → Advanced m b ws₀ at₀ count₀ opened₀ y ws
+  pub too_deep : m.containers < o → {y : Result Stop Refusal} → Advanced m b ws₀ at₀ count₀ opened₀ y ws
   too_deep h = record {
     kept = lead.kept;
     reached = λ _ d₀.
@@ -342,7 +352,7 @@ module _ {m : Limits} {b ws₀ : List ℕ} {at₀ count₀ opened₀ : ℕ} {ws 
         absurd (omega (arith, v.above, v.allowed));
   }
 
-  pub ends : length b ≤ p → length b ≤ m.bytes → Advanced m b ws₀ at₀ count₀ opened₀ (stop.Waits p c o (length b + 1)) ws
+  pub ends : length b ≤ p → length b ≤ m.bytes → Advanced m b ws₀ at₀ count₀ opened₀ (Ok (stop_at p c o (length b + 1))) ws
   ends h l = record {
     kept = lead.kept;
     reached = λ _ d₀. let d = lead.on d₀ in let e = at_end m ws b p c o d h l in (e, next_byte m b e, d);
@@ -356,8 +366,8 @@ module _ {m : Limits} {b ws₀ : List ℕ} {at₀ count₀ opened₀ : ℕ} {ws 
   pub still_room : words ≤ length ws₀ → words ≤ length ws
   still_room h = omega (arith, lead.kept.size)
 
-module _ (m : Limits) (b : List ℕ) (f : Frame) (p c o : ℕ) {t : Step} (w : TakenDue m b f p c o t) {k a q : ℕ} (g : t ≡ Taken k a q) where
-  abbrev due_shown : TakenDue m b f p c o (Taken k a q)
+module _ (m : Limits) (b : List ℕ) (f : Frame) (p c o : ℕ) {t : Result Taken Refusal} (w : TakenDue m b f p c o t) {k a q : ℕ} (g : t ≡ taken k a q) where
+  abbrev due_shown : TakenDue m b f p c o (taken k a q)
   due_shown = rw g at w
 
   pub above : o ≤ f.around

@@ -3,20 +3,18 @@
 use Prim.Native.Nat.{ℕ, zero, suc, ◌+◌, ◌-◌, ◌<◌, ◌≤◌}
 use mathlib.Core.Logic.{◌↔◌}
 use mathlib.Core.Path.{◌≡◌, refl, sym, ◌∙◌, ap}
-use mathlib.Core.Bool.{Bool, true, false, ◌||◌, cond, true≢false}
+use mathlib.Core.Bool.{Bool, true, false, cond, true≢false}
 use mathlib.Core.List.{List, [], ◌∷◌, ◌++◌, append-nil}
 use native.Mathlib.Omega.{arith}
-use lib.ListN.{length, take, drop, length-append}
-use lib.Seq.{take-append-le, take-append-add, take_all, length-take-le}
-use lib.Dec.{ltb, eqb}
-use borrow.Author.Tests.{ltb-true, ltb-false, le-ltb, lt-ltb, eqb-true}
-use Rattle.buffer.proofs.ByteLaws.{or-true}
+use lib.ListN.{length, take, length-append}
+use lib.Seq.{take-append-le, take-append-add, length-take-le}
+use lib.Dec.{ltb}
+use borrow.Author.Tests.{ltb-true, ltb-false, le-ltb, lt-ltb}
 use Rattle.ari.specs.declared.Limits.{Limits}
 use Rattle.ari.specs.declared.Input.TheVariants.{Message}
-use Rattle.ari.specs.Reader.{Answer, refuse, accept, run, counted, read}
+use Rattle.ari.specs.Reader.{Answer, refuse, accept, read}
 use Rattle.ari.proofs.Prefix.{read_stays}
-use Rattle.stream.specs.Stream.{open_ended, beyond, closing, Standing, none, stands, standing_of, standing}
-use Rattle.stream.specs.State.{first}
+use Rattle.stream.specs.Stream.{open_ended, beyond, closing, none, stands, standing_of, standing}
 
 pub within : (m : Limits) (b : List ℕ) → length b ≤ m.bytes → closing m b ≡ read m Message b
 unfolding closing

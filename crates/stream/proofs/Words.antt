@@ -22,12 +22,16 @@ use Rattle.reader.proofs.Bounds.{opens}
 use Rattle.grammar.specs.Code.{slot_of, next_code, inside_code}
 use Rattle.grammar.specs.declared.Next.{Next}
 use Rattle.grammar.specs.declared.Next.TheVariants.{Done, Due}
-use Rattle.reader.specs.declared.Step.{Step}
-use Rattle.reader.specs.declared.Step.TheVariants.{Taken, Refused}
-use Rattle.stream.specs.declared.Stop.TheVariants as stop
+use Rattle.reader.specs.declared.Taken.{Taken}
+use Rattle.std.specs.declared.result.Result.TheVariants.{Ok, Err}
+use Rattle.std.specs.declared.result.Result.{Result}
+use Rattle.ari.specs.declared.Refusal.{Refusal}
+use Rattle.ari.specs.Refusals.{refused}
+use Rattle.ari.specs.declared.Fault.TheVariants.{Truncated, StringCut}
+use Rattle.ari.proofs.Numbers.{other_number}
 use Rattle.stream.specs.declared.Frame.{Frame}
 use Rattle.stream.specs.State.{word, frame_start, frame_at}
-use Rattle.stream.specs.Calls.{due_frame, stored, open_behind, words_behind, open_inside, words_inside, string_until, halt_of, step_due, TakenDue, open_after, words_after}
+use Rattle.stream.specs.Calls.{due_frame, stored, open_behind, words_behind, open_inside, words_inside, string_until, stop_at, halt_of, step_due, TakenDue, open_after, words_after}
 
 module _ (ws : List ℕ) (k : ℕ) where
   pub frame_read : record {
@@ -130,22 +134,22 @@ until_fits b at p {k} {a} g most e l m = omega (arith, head_within b at p g, min
 
 -- the head that is due
 module _ (m : Limits) (b : List ℕ) (f : Frame) (at count opened : ℕ) where
-  pub low_level : f.around < opened → Refused 2 at ≡ step_due m b f at count opened
+  pub low_level : f.around < opened → refused 2 at ≡ step_due m b f at count opened
   unfolding step_due
   low_level h = rw (lt-leb opened f.around h)
 
-  pub deep_level : opened ≤ f.around → m.containers < f.around → Refused 2 at ≡ step_due m b f at count opened
+  pub deep_level : opened ≤ f.around → m.containers < f.around → refused 2 at ≡ step_due m b f at count opened
   unfolding step_due
   deep_level g h = rw (le-leb opened f.around g, lt-leb f.around m.containers h)
 
   module _ (g : opened ≤ f.around) (h : f.around ≤ m.containers) where
-    pub own_level : {t : Step} → t ≡ step_at b at (slot_of f.slot) (key_of (key_at b f.from f.to)) (m.items - count) (m.containers - f.around) → t ≡ step_due m b f at count opened
+    pub own_level : {t : Result Taken Refusal} → t ≡ step_at b at (slot_of f.slot) (key_of (key_at b f.from f.to)) (m.items - count) (m.containers - f.around) → t ≡ step_due m b f at count opened
     unfolding step_due
     own_level e = rw (le-leb opened f.around g, le-leb f.around m.containers h) e
 
-    pub level_shown : (t : Step) → Bounded b at count m.items (m.containers - f.around) f.slot t → TakenDue m b f at count opened t
-    level_shown (Taken k a q) w = (w, g, h)
-    level_shown (Refused r x) w = tt
+    pub level_shown : (t : Result Taken Refusal) → Bounded b at count m.items (m.containers - f.around) f.slot t → TakenDue m b f at count opened t
+    level_shown (Ok t) w = (w, g, h)
+    level_shown (Err e) w = tt
 
 -- behind, and inside
 module _ (f : Frame) (k a : ℕ) (ws : List ℕ) (opened p q : ℕ) {o₁ : ℕ} (e : o₁ ≡ open_behind (next_code f.slot a f.more) opened) where
@@ -167,17 +171,14 @@ pub level_sum : (around d : ℕ) → around ≤ d → d ≤ gate_limits.containe
 level_sum around d h g = omega arith
 
 -- where no head is taken
-module _ (b : List ℕ) (most at count opened : ℕ) {t : Step} {r x : ℕ} (e : t ≡ Refused r x) where
-  pub lacks_bytes : r ≡ 2 → stop.Waits at count opened (length b + 1) ≡ halt_of b most t at count opened
-  lacks_bytes q = rw (e, eq-eqb r 2 q)
+module _ (b : List ℕ) (most at count opened : ℕ) (e : Refusal) where
+  pub lacks_bytes : e.fault ≡ Truncated → Ok (stop_at at count opened (length b + 1)) ≡ halt_of b most e at count opened
+  lacks_bytes q = rw q
 
-  pub lacks_string : (r ≡ 2 → ⊥) → r ≡ 9 → {u : ℕ} → u ≡ string_until (head_at b at) most (length b) → stop.Waits at count opened u ≡ halt_of b most t at count opened
-  lacks_string n q g = rw (e, ne_eqb r 2 n, eq-eqb r 9 q, g)
+  pub lacks_string : e.fault ≡ StringCut → {u : ℕ} → u ≡ string_until (head_at b at) most (length b) → Ok (stop_at at count opened u) ≡ halt_of b most e at count opened
+  lacks_string q g = rw (q, g)
 
-  pub is_refused : (r ≡ 2 → ⊥) → (r ≡ 9 → ⊥) → stop.Refused r x ≡ halt_of b most t at count opened
-  is_refused n q = rw (e, ne_eqb r 2 n, ne_eqb r 9 q)
+  pub is_refused : (e.fault ≡ Truncated → ⊥) → (e.fault ≡ StringCut → ⊥) → Err e ≡ halt_of b most e at count opened
+  is_refused n q = rw (other_number e.fault 2 n, other_number e.fault 9 q)
 
-pub not_halted : (b : List ℕ) (most at count opened : ℕ) {t : Step} {k a q : ℕ} → t ≡ Taken k a q → stop.Refused 0 0 ≡ halt_of b most t at count opened
-not_halted b most at count opened e = rw e
-
-pub ruleset leaves = (low_level, deep_level, own_level, level_shown, both_levels, both_words, left_above, level_sum, lacks_bytes, lacks_string, is_refused, not_halted, frame_read, frame_stored, due_inside, due_version, due_set, at_bottom, bottom_stays, left_level, left_words, next_level, next_words, no_level, no_words, new_level, new_words, string_ends, head_lacks)
+pub ruleset leaves = (low_level, deep_level, own_level, level_shown, both_levels, both_words, left_above, level_sum, lacks_bytes, lacks_string, is_refused, frame_read, frame_stored, due_inside, due_version, due_set, at_bottom, bottom_stays, left_level, left_words, next_level, next_words, no_level, no_words, new_level, new_words, string_ends, head_lacks)

@@ -6,6 +6,8 @@ use Rattle.ari.specs.declared.Limits.{Limits}
 use Rattle.ari.specs.declared.Input.TheVariants.{Message}
 use Rattle.ari.specs.Reader.{Answer, refuse, accept, read}
 use Rattle.ari.specs.Listing.{listing}
+use Rattle.std.specs.declared.result.Result.{Result}
+use Rattle.ari.specs.declared.Refusal.{Refusal}
 use Rattle.listing.specs.declared.Listed.{Listed}
 use Rattle.listing.specs.Answers.{listed_of, written_by}
 
@@ -35,7 +37,7 @@ unfoldable pub standing : Limits → List ℕ → Standing
 standing m b = standing_of (closing m b)
 
 -- R133: what a close answers, and what the room for the listing then holds
-unfoldable pub close_of : Limits → List ℕ → List ℕ → Listed
+unfoldable pub close_of : Limits → List ℕ → List ℕ → Result Listed Refusal
 close_of m b out = listed_of (closing m b) (listing b) (length out / 24)
 
 unfoldable pub closed_room : Limits → List ℕ → List ℕ → List ℕ

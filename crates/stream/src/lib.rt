@@ -9,12 +9,13 @@ ghost use Rattle.cbor.specs.Head.{is_container};
 ghost use Rattle.grammar.specs.Code.{next_code, inside_code};
 ghost use Rattle.ari.specs.Limits.{gate_limits, capped};
 ghost use Rattle.stream.specs.State.{word, frame_at};
-ghost use Rattle.stream.specs.declared.Fed.TheVariants.{Refused};
-ghost use Rattle.stream.specs.Calls.{words, stored, due_frame, open_behind, words_behind, open_inside, words_inside, string_until, halt_of, step_due, TakenDue, open_after, words_after, Advanced, needed, Walks, Overflows, Receives, Answers, Fresh, Ends, wants_room, Opens, Feeds, Closes};
+ghost use Rattle.std.specs.declared.result.Result.TheVariants.{Err};
+ghost use Rattle.ari.specs.Refusals.{number_of};
+ghost use Rattle.stream.specs.Calls.{words, stored, due_frame, open_behind, words_behind, open_inside, words_inside, string_until, halt_of, step_due, TakenDue, open_after, words_after, Advanced, needed, Walks, Overflows, Receives, Answers, Fresh, Ends, wants_room, lent_of, kept_in, Opens, Feeds, Closes};
 
-use ari::Limits;
+use ari::{Fault, Limits, Refusal};
 use listing::Listed;
-use reader::{Span, Step};
+use reader::{Span, Taken};
 
 // What is due on a level: a slot and how often again, where the key before stands, and the open containers around.
 #[derive(Clone, Copy)]
@@ -26,26 +27,19 @@ pub struct Frame {
     pub around: usize,
 }
 
-// A fragment was fed: there is nothing to say yet, or the message is refused whatever follows.
+// Where a walk over the heads has come to: a place where one is due, the items taken, the levels that are open.
 #[derive(Clone, Copy)]
-pub enum Fed {
-    GoOn,
-    Refused { number: u8, place: usize },
+pub struct Place {
+    pub at: usize,
+    pub count: usize,
+    pub opened: usize,
 }
 
-// Where the heads of a message that may go on end: a head or its string is not all there, and nothing can be said below so many bytes; or one is refused.
+// Where the heads of a message that may go on end: a head or its string is not all there, and nothing can be said below so many bytes.
 #[derive(Clone, Copy)]
-pub enum Stop {
-    Waits {
-        at: usize,
-        count: usize,
-        opened: usize,
-        until: usize,
-    },
-    Refused {
-        number: u8,
-        place: usize,
-    },
+pub struct Stop {
+    pub place: Place,
+    pub until: usize,
 }
 
 // The words of a state.
@@ -192,53 +186,28 @@ fn string_until(s: &[u8], at: usize, most: usize) -> usize
 }
 
 // Where no head is taken: its bytes or its string's are not all there, or it is refused.
-fn halt(s: &[u8], most: usize, t: Step, at: usize, count: usize, opened: usize) -> Stop
+fn halt(s: &[u8], most: usize, refusal: Refusal, place: Place) -> Result<Stop, Refusal>
     requires { (length s.now < 65536) × (most < 65536) }
-    ensures { result ≡ halt_of s.now most t at count opened }
+    ensures { result ≡ halt_of s.now most refusal place.at place.count place.opened }
 {
-    match t {
-        Step::Refused { number, place } => {
-            if number == 2 {
-                return Stop::Waits {
-                    at,
-                    count,
-                    opened,
-                    until: s.len() + 1,
-                };
-            }
-            if number == 9 {
-                return Stop::Waits {
-                    at,
-                    count,
-                    opened,
-                    until: string_until(s, at, most),
-                };
-            }
-            Stop::Refused { number, place }
-        }
-        Step::Taken { .. } => Stop::Refused {
-            number: 0,
-            place: 0,
-        },
-    }
+    let until = match refusal.fault {
+        Fault::Truncated => s.len() + 1,
+        Fault::StringCut => string_until(s, place.at, most),
+        _ => return Err(refusal),
+    };
+    Ok(Stop { place, until })
 }
 
 // The head that is due, at a place. Where a frame has not so many containers around it as these calls would have made it, the message waits.
-fn take_due(s: &[u8], limits: Limits, f: Frame, at: usize, count: usize, opened: usize) -> Step
-    ensures value { result ≡ step_due limits s.now f at count opened }
-    ensures taken_due { TakenDue limits s.now f at count opened result }
+fn take_due(s: &[u8], limits: Limits, f: Frame, place: Place) -> Result<Taken, Refusal>
+    ensures value { result ≡ step_due limits s.now f place.at place.count place.opened }
+    ensures taken_due { TakenDue limits s.now f place.at place.count place.opened result }
 {
-    if f.around < opened {
-        return Step::Refused {
-            number: 2,
-            place: at,
-        };
-    }
-    if limits.containers < f.around {
-        return Step::Refused {
-            number: 2,
-            place: at,
-        };
+    if f.around < place.opened || limits.containers < f.around {
+        return Err(Refusal {
+            fault: Fault::Truncated,
+            place: place.at,
+        });
     }
     let key = Span {
         from: f.from,
@@ -246,10 +215,10 @@ fn take_due(s: &[u8], limits: Limits, f: Frame, at: usize, count: usize, opened:
     };
     reader::take(
         s,
-        at,
+        place.at,
         f.slot,
         key,
-        count,
+        place.count,
         limits.items,
         limits.containers - f.around,
     )
@@ -283,98 +252,113 @@ fn settle(
 }
 
 // The heads of a message that may go on are taken from a place on, as far as they are there. Of a state that these calls have not made nothing is promised.
-fn advance(
-    s: &[u8],
-    limits: Limits,
-    state: &mut [u64],
-    at: usize,
-    count: usize,
-    opened: usize,
-) -> Stop
+fn advance(s: &[u8], limits: Limits, state: &mut [u64], start: Place) -> Result<Stop, Refusal>
     requires { (words ≤ length state.old) × (length s.now ≤ limits.bytes) × (limits.bytes < 65536) × (limits.containers ≤ gate_limits.containers) }
-    ensures { Advanced limits s.now state.old at count opened result state.new }
+    ensures { Advanced limits s.now state.old start.at start.count start.opened result state.new }
 {
-    let mut p = at;
-    let mut c = count;
-    let mut o = opened;
-    while p < s.len() {
-        if limits.containers < o {
-            return Stop::Waits {
-                at: p,
-                count: c,
-                opened: o,
+    let mut here = start;
+    while here.at < s.len() {
+        if limits.containers < here.opened {
+            return Ok(Stop {
+                place: here,
                 until: 0,
-            };
+            });
         }
-        let f = due(state, p, o);
-        let t = take_due(s, limits, f, p, c, o);
-        let Step::Taken { kind, arg, after } = t else {
-            return halt(s, limits.bytes, t, p, c, o);
-        };
-        o = settle(state, o, f, limits.containers, kind, arg, p, after);
-        p = after;
-        c += 1;
+        let f = due(state, here.at, here.opened);
+        match take_due(s, limits, f, here) {
+            Err(refusal) => return halt(s, limits.bytes, refusal, here),
+            Ok(Taken { kind, arg, after }) => {
+                let opened = settle(
+                    state,
+                    here.opened,
+                    f,
+                    limits.containers,
+                    kind,
+                    arg,
+                    here.at,
+                    after,
+                );
+                here = Place {
+                    at: after,
+                    count: here.count + 1,
+                    opened,
+                };
+            }
+        }
     }
-    Stop::Waits {
-        at: p,
-        count: c,
-        opened: o,
+    Ok(Stop {
+        place: here,
         until: s.len() + 1,
-    }
+    })
 }
 
 // A refusal stands from here on.
-fn stand(state: &mut [u64], number: u8, place: usize) -> Fed
+fn stand(state: &mut [u64], refusal: Refusal) -> Result<(), Refusal>
     requires { words ≤ length state.old }
-    ensures value { result ≡ Refused number place }
-    ensures state_after { state.new ≡ set (set state.old 1 number) 2 place }
+    ensures value { result ≡ Err refusal }
+    ensures state_after { state.new ≡ set (set state.old 1 (number_of refusal.fault)) 2 refusal.place }
 {
-    state[NUMBER] = number as u64;
-    state[PLACE] = place as u64;
-    Fed::Refused { number, place }
+    state[NUMBER] = refusal.fault.number() as u64;
+    state[PLACE] = refusal.place as u64;
+    Err(refusal)
+}
+
+// The refusal that stands, if one does.
+fn unrefused(state: &[u64]) -> Result<(), Refusal>
+    requires { words ≤ length state.now }
+    ensures { result ≡ kept_in state.now }
+{
+    let number = state[NUMBER];
+    if number != 0 {
+        return Err(ari::refusal_by((number % 256) as u8, state[PLACE] as usize));
+    }
+    Ok(())
 }
 
 // The heads from the place on that the state has come to.
-fn go_on(s: &[u8], limits: Limits, state: &mut [u64]) -> Stop
+fn go_on(s: &[u8], limits: Limits, state: &mut [u64]) -> Result<Stop, Refusal>
     requires { (words ≤ length state.old) × (length s.now ≤ limits.bytes) × (limits.bytes < 65536) × (limits.containers ≤ gate_limits.containers) }
     ensures { Advanced limits s.now state.old (word state.old 4) (word state.old 5) (word state.old 6) result state.new }
 {
-    let at = state[NEXT] as usize;
-    let count = state[COUNT] as usize;
-    let opened = state[OPEN] as usize;
-    advance(s, limits, state, at, count, opened)
+    let start = Place {
+        at: state[NEXT] as usize,
+        count: state[COUNT] as usize,
+        opened: state[OPEN] as usize,
+    };
+    advance(s, limits, state, start)
 }
 
 // All bytes that were received are within the limit.
-fn walk(s: &[u8], limits: Limits, state: &mut [u64]) -> Fed
+fn walk(s: &[u8], limits: Limits, state: &mut [u64]) -> Result<(), Refusal>
     requires { (words ≤ length state.old) × (length s.now ≤ limits.bytes) × (limits.bytes < 65536) × (limits.containers ≤ gate_limits.containers) }
     ensures { Walks limits s.now state.old result state.new }
 {
     match go_on(s, limits, state) {
-        Stop::Refused { number, place } => stand(state, number, place),
-        Stop::Waits {
-            at,
-            count,
-            opened,
-            until,
-        } => {
+        Err(refusal) => stand(state, refusal),
+        Ok(Stop { place, until }) => {
             state[UNTIL] = until as u64;
-            state[NEXT] = at as u64;
-            state[COUNT] = count as u64;
-            state[OPEN] = opened as u64;
-            Fed::GoOn
+            state[NEXT] = place.at as u64;
+            state[COUNT] = place.count as u64;
+            state[OPEN] = place.opened as u64;
+            Ok(())
         }
     }
 }
 
 // There are more than the limit, and these are the first: what refuses them stands if no more bytes can change it, and otherwise that they are too many.
-fn overflow(s: &[u8], limits: Limits, state: &mut [u64]) -> Fed
+fn overflow(s: &[u8], limits: Limits, state: &mut [u64]) -> Result<(), Refusal>
     requires { (words ≤ length state.old) × (length s.now ≤ limits.bytes) × (limits.bytes < 65536) × (limits.containers ≤ gate_limits.containers) }
     ensures { Overflows limits s.now state.old result state.new }
 {
     match go_on(s, limits, state) {
-        Stop::Refused { number, place } => stand(state, number, place),
-        Stop::Waits { .. } => stand(state, 1, 0),
+        Err(refusal) => stand(state, refusal),
+        Ok(_) => stand(
+            state,
+            Refusal {
+                fault: Fault::TooLong,
+                place: 0,
+            },
+        ),
     }
 }
 
@@ -396,7 +380,13 @@ fn put_fragment(message: &mut [u8], at: usize, fragment: &[u8]) -> usize
 }
 
 // A fragment goes behind the bytes that were received, and the message stays within the limit.
-fn append(limits: Limits, state: &mut [u64], message: &mut [u8], fragment: &[u8], end: usize) -> Fed
+fn append(
+    limits: Limits,
+    state: &mut [u64],
+    message: &mut [u8],
+    fragment: &[u8],
+    end: usize,
+) -> Result<(), Refusal>
     requires words_in_bounds { (words ≤ length state.old) × (limits.bytes ≤ length message.old) × (limits.bytes < 65536) × (limits.containers ≤ gate_limits.containers) }
     requires end_value { (end ≡ word state.old 0 + length fragment.now) × (end ≤ limits.bytes) }
     ensures { Receives limits state.old message.old fragment.now result state.new message.new }
@@ -406,13 +396,19 @@ fn append(limits: Limits, state: &mut [u64], message: &mut [u8], fragment: &[u8]
     put_fragment(message, n, fragment);
     count_to(state, end);
     if end < until {
-        return Fed::GoOn;
+        return Ok(());
     }
     walk(&message[0..end], limits, state)
 }
 
 // A fragment of which there is more than the limit allows: its front fills the message up.
-fn fill(limits: Limits, state: &mut [u64], message: &mut [u8], fragment: &[u8], free: usize) -> Fed
+fn fill(
+    limits: Limits,
+    state: &mut [u64],
+    message: &mut [u8],
+    fragment: &[u8],
+    free: usize,
+) -> Result<(), Refusal>
     requires words_in_bounds { (words ≤ length state.old) × (limits.bytes ≤ length message.old) × (limits.bytes < 65536) × (limits.containers ≤ gate_limits.containers) }
     requires state_bound { (word state.old 0 ≤ limits.bytes) × (free ≡ limits.bytes - word state.old 0) × (free < length fragment.now) }
     ensures { Receives limits state.old message.old fragment.now result state.new message.new }
@@ -423,13 +419,18 @@ fn fill(limits: Limits, state: &mut [u64], message: &mut [u8], fragment: &[u8], 
     overflow(&message[0..limit], limits, state)
 }
 
-fn receive(limits: Limits, state: &mut [u64], message: &mut [u8], fragment: &[u8]) -> Fed
+fn receive(
+    limits: Limits,
+    state: &mut [u64],
+    message: &mut [u8],
+    fragment: &[u8],
+) -> Result<(), Refusal>
     requires { (words ≤ length state.old) × (limits.bytes ≤ length message.old) × (limits.bytes < 65536) × (limits.containers ≤ gate_limits.containers) }
     ensures { Receives limits state.old message.old fragment.now result state.new message.new }
 {
     let n = state[RECEIVED] as usize;
     if limits.bytes < n {
-        return Fed::GoOn;
+        return Ok(());
     }
     let free = limits.bytes - n;
     if free < fragment.len() {
@@ -438,50 +439,54 @@ fn receive(limits: Limits, state: &mut [u64], message: &mut [u8], fragment: &[u8
     append(limits, state, message, fragment, n + fragment.len())
 }
 
-// The bytes that are needed of the first memory that is short; 0 where neither is.
-fn lacking(state: usize, room: usize, most: usize) -> usize
-    ensures { result ≡ needed state room most }
+// Where the state or the room for the message is too short, the bytes that are needed of the first that is.
+fn lent(state: usize, room: usize, most: usize) -> Result<(), Refusal>
+    ensures { result ≡ lent_of (needed state room most) }
 {
     if state < WORDS {
-        return WORDS * 8;
+        return Err(Refusal {
+            fault: Fault::NoRoom,
+            place: WORDS * 8,
+        });
     }
     if room < most {
-        return most;
+        return Err(Refusal {
+            fault: Fault::NoRoom,
+            place: most,
+        });
     }
-    0
+    Ok(())
 }
 
-fn feed_capped(limits: Limits, state: &mut [u64], message: &mut [u8], fragment: &[u8]) -> Fed
+fn feed_capped(
+    limits: Limits,
+    state: &mut [u64],
+    message: &mut [u8],
+    fragment: &[u8],
+) -> Result<(), Refusal>
     requires { capped limits ≡ limits }
     ensures { Feeds limits state.old message.old fragment.now result state.new message.new }
 {
-    let short = lacking(state.len(), message.len(), limits.bytes);
-    if short != 0 {
-        return Fed::Refused {
-            number: 16,
-            place: short,
-        };
-    }
-    let number = state[NUMBER];
-    if number != 0 {
-        return Fed::Refused {
-            number: (number % 256) as u8,
-            place: state[PLACE] as usize,
-        };
-    }
+    lent(state.len(), message.len(), limits.bytes)?;
+    unrefused(state)?;
     receive(limits, state, message, fragment)
 }
 
 // Takes a fragment of a message within these limits, none above the gate's own. The state and the room for the message are lent: any contents are safe,
 // and what is promised is for a state that was opened, or is all zeros, and went through these calls only.
-pub fn feed_within(limits: Limits, state: &mut [u64], message: &mut [u8], fragment: &[u8]) -> Fed
+pub fn feed_within(
+    limits: Limits,
+    state: &mut [u64],
+    message: &mut [u8],
+    fragment: &[u8],
+) -> Result<(), Refusal>
     ensures { Feeds (capped limits) state.old message.old fragment.now result state.new message.new }
 {
     let most = ari::cap(limits);
     feed_capped(most, state, message, fragment)
 }
 
-pub fn feed(state: &mut [u64], message: &mut [u8], fragment: &[u8]) -> Fed
+pub fn feed(state: &mut [u64], message: &mut [u8], fragment: &[u8]) -> Result<(), Refusal>
     ensures { Feeds gate_limits state.old message.old fragment.now result state.new message.new }
 {
     feed_within(ari::LIMITS, state, message, fragment)
@@ -501,46 +506,38 @@ fn clear(state: &mut [u64])
 }
 
 // Begins a fresh message: what was fed before is dropped.
-pub fn open(state: &mut [u64]) -> Fed
+pub fn open(state: &mut [u64]) -> Result<(), Refusal>
     ensures { Opens state.old result state.new }
 {
-    if state.len() < WORDS {
-        return Fed::Refused {
-            number: 16,
-            place: WORDS * 8,
-        };
-    }
+    lent(state.len(), 0, 0)?;
     clear(state);
-    Fed::GoOn
+    Ok(())
 }
 
 // The refusal that stands, or the listing of the message.
-fn answer(limits: Limits, state: &[u64], message: &[u8], out: &mut [u8]) -> Listed
+fn answer(limits: Limits, state: &[u64], message: &[u8], out: &mut [u8]) -> Result<Listed, Refusal>
     requires { (words ≤ length state.now) × (capped limits ≡ limits) × (limits.bytes ≤ length message.now) }
     ensures { Answers limits state.now message.now out.old result out.new }
 {
-    let number = state[NUMBER];
-    if number != 0 {
-        return Listed::Refused {
-            number: (number % 256) as u8,
-            place: state[PLACE] as usize,
-        };
-    }
+    unrefused(state)?;
     let n = buffer::least(state[RECEIVED] as usize, message.len());
     listing::list_within(limits, &message[0..n], out)
 }
 
-fn wants_room(a: Listed) -> bool
+fn wants_room(a: Result<Listed, Refusal>) -> bool
     ensures { result ≡ wants_room a }
 {
-    match a {
-        Listed::Refused { number, .. } => number == 16,
-        Listed::Entries { .. } => false,
-    }
+    matches!(
+        a,
+        Err(Refusal {
+            fault: Fault::NoRoom,
+            ..
+        })
+    )
 }
 
 // A close that asks for more room closes nothing.
-fn end(state: &mut [u64], a: Listed)
+fn end(state: &mut [u64], a: Result<Listed, Refusal>)
     requires { words ≤ length state.old }
     ensures { Ends a state.old state.new }
 {
@@ -550,31 +547,35 @@ fn end(state: &mut [u64], a: Listed)
     clear(state);
 }
 
-fn close_capped(limits: Limits, state: &mut [u64], message: &[u8], out: &mut [u8]) -> Listed
+fn close_capped(
+    limits: Limits,
+    state: &mut [u64],
+    message: &[u8],
+    out: &mut [u8],
+) -> Result<Listed, Refusal>
     requires { capped limits ≡ limits }
     ensures { Closes limits state.old message.now out.old result state.new out.new }
 {
-    let short = lacking(state.len(), message.len(), limits.bytes);
-    if short != 0 {
-        return Listed::Refused {
-            number: 16,
-            place: short,
-        };
-    }
+    lent(state.len(), message.len(), limits.bytes)?;
     let r = answer(limits, state, message, out);
     end(state, r);
     r
 }
 
 // Ends a message: its refusal, or its listing in the lent room. A close that answers 16 closes nothing; after any other a fresh message begins.
-pub fn close_within(limits: Limits, state: &mut [u64], message: &[u8], out: &mut [u8]) -> Listed
+pub fn close_within(
+    limits: Limits,
+    state: &mut [u64],
+    message: &[u8],
+    out: &mut [u8],
+) -> Result<Listed, Refusal>
     ensures { Closes (capped limits) state.old message.now out.old result state.new out.new }
 {
     let most = ari::cap(limits);
     close_capped(most, state, message, out)
 }
 
-pub fn close(state: &mut [u64], message: &[u8], out: &mut [u8]) -> Listed
+pub fn close(state: &mut [u64], message: &[u8], out: &mut [u8]) -> Result<Listed, Refusal>
     ensures { Closes gate_limits state.old message.now out.old result state.new out.new }
 {
     close_within(ari::LIMITS, state, message, out)

@@ -32,28 +32,18 @@ use Rattle.item_table.specs.declared.Item.{Item}
 use Rattle.item_table.specs.Entries.{no_spot, spot_number, item_of, Tabled}
 use Rattle.item_table.proofs.Entries.{item_at, fine_at, there, head_is}
 use Rattle.item_records.specs.Numbered.{is_target_by}
-use Rattle.reader.specs.declared.Answer.{Answer}
-use Rattle.reader.specs.declared.Answer.TheVariants.{Accepted}
-use Rattle.reader.specs.declared.Answer.TheVariants as answers
-use Rattle.reader.specs.Answers.{answer_of}
-use Rattle.reader.proofs.Kept.{accepted, refused}
+use Rattle.std.specs.declared.result.Result.{Result}
+use Rattle.std.specs.declared.result.Result.TheVariants.{Ok, Err}
+use Rattle.ari.specs.declared.Refusal.{Refusal}
+use Rattle.ari.specs.Refusals.{refusal_of, refused}
+use Rattle.reader.specs.Results.{result_of}
+use Rattle.reader.proofs.Results.{is_accepted, is_refused}
 use Rattle.strike.specs.declared.Found.{Found}
-use Rattle.strike.specs.declared.Found.TheVariants.{At, Missing}
 use Rattle.strike.specs.declared.Struck.{Struck}
-use Rattle.strike.specs.declared.Struck.TheVariants as struck-ones
-use Rattle.strike.specs.Strike.{shorter, struck, struck_bytes, target_count, cut, seek, cut_of, head_end, cut_bytes, strike_by, strike}
+use Rattle.strike.specs.Strike.{shorter, struck, struck_bytes, target_count, cut, missing, seek, cut_of, head_end, cut_bytes, strike_by, strike}
 use Rattle.strike.specs.Code.{found_of, inner_after, below, copied, Ordered, Known}
 use Rattle.strike.proofs.Striking.{missed, parts, the_cut, its_cut, in_order, three_copies, struck_length, fewer_items, head_there}
 use Rattle.strike.proofs.Behind.{items_behind, item_there}
-
-module _ (v around first : ℕ) where
-  pub in_set : around ≡ 1 → first ≡ inner_after v around first
-  in_set e = rw (eq-eqb around 1 e)
-
-  pub elsewhere : (around ≡ 1 → ⊥) → v ≡ inner_after v around first
-  elsewhere n = rw (ne_eqb around 1 n)
-
-pub ruleset inner_ways = (in_set, elsewhere)
 
 -- The search so far: what is left from item j on finds it.
 pub record Sofar (b : List ℕ) (k passed inner j : ℕ) : Type 0 where
@@ -84,7 +74,7 @@ module _ {m : Limits} {b : List ℕ} {n : ℕ} {t : List ℕ} (c : Tabled m Mess
   next_spot j h = drop-cons xs j no_spot (there c j h)
 
   module _ {k passed inner j : ℕ} (s : Sofar b k passed inner j) where
-    pub sofar_end : n ≤ j → j ≤ n → Missing passed ≡ found_of (cut_of k b)
+    pub sofar_end : n ≤ j → j ≤ n → refused 27 passed ≡ found_of (cut_of k b)
     sofar_end h l =
         let e : j ≡ length xs = omega (arith, spot_count c.is) in
         sym (ap found_of (s.on ∙ ap (seek k passed s.spot j) (ap (λ (i : ℕ). drop i xs) e ∙ drop-length xs)))
@@ -96,7 +86,7 @@ module _ {m : Limits} {b : List ℕ} {n : ℕ} {t : List ℕ} (c : Tabled m Mess
       step_on : cut_of k b ≡ seek k passed s.spot j (spot_number Message b j ∷ drop (suc j) xs)
       step_on = s.on ∙ ap (seek k passed s.spot j) (next_spot j h)
 
-      pub sofar_found : y ≡ true → passed ≡ k → At j inner x.first x.after ≡ found_of (cut_of k b)
+      pub sofar_found : y ≡ true → passed ≡ k → Ok (record { index = j; inner = inner; first = x.first; after = x.after }) ≡ found_of (cut_of k b)
       sofar_found e z =
           let it : cut_of k b ≡ cut (record { number = j; inner = s.spot; struck = spot_number Message b j }) = step_on ∙ rw (← y_is, e, eq-eqb passed k z) in
           rw (it, q ∙ item_at c j h, s.inner_is)
@@ -122,7 +112,7 @@ module _ {m : Limits} {b : List ℕ} {n : ℕ} {t : List ℕ} (c : Tabled m Mess
   behind_start from place = record { on = refl }
 
   module _ {from place j : ℕ} (s : Upto b from place j) where
-    pub behind_end : n ≤ j → j ≤ n → j ≡ from + below place (drop from xs)
+    pub behind_end : n ≤ j → j ≤ n → n ≡ from + below place (drop from xs)
     behind_end h l =
         let e : j ≡ length xs = omega (arith, spot_count c.is) in
         let z : below place (drop j xs) ≡ 0 = ap (below place) (ap (λ (i : ℕ). drop i xs) e ∙ drop-length xs) in
@@ -174,6 +164,9 @@ module _ (a : ℕ) where
 pub ruleset sizes = (size_1, size_2, size_3, size_5, size_9)
 
 -- what is copied, part by part
+pub first_part : (b : List ℕ) (i : ℕ) → take i b ≡ part b 0 i
+first_part b i = let e : i - 0 ≡ i = omega arith in rw e refl
+
 pub copied_put : (b : List ℕ) (inner next members first after : ℕ) {o o₁ o₂ o₃ o₄ : List ℕ} {q r s t : ℕ} {u v w : List ℕ}
     → u ≡ part b 0 inner → v ≡ part b next first → w ≡ part b after (length b)
     → Put o o₁ 0 q u → Put o₁ o₂ q r (head_bytes array members) → Put o₂ o₃ r s v → Put o₃ o₄ s t w → Put o o₄ 0 t (copied b inner next members first after)
@@ -209,33 +202,33 @@ module _ {m : Limits} {b : List ℕ} {n : ℕ} {t : List ℕ} (c : Tabled m Mess
         short = omega (arith, c.is.short, c.small);
       }
 
-  known : {index inner first after : ℕ} → At index inner first after ≡ found_of (cut_of k b) → Known m b t k n index inner first after
-  known {index} {inner} {first} {after} e = go (ltb k (target_count b)) refl
+  known : {x : Found} → Ok x ≡ found_of (cut_of k b) → Known m b t k n x.index x.inner x.first x.after
+  known {x} e = go (ltb k (target_count b)) refl
     where
-      go : (u : Bool) → ltb k (target_count b) ≡ u → Known m b t k n index inner first after
+      go : (u : Bool) → ltb k (target_count b) ≡ u → Known m b t k n x.index x.inner x.first x.after
       go true q =
           let h : k < target_count b = ltb-true k (target_count b) q in
-          let f : At index inner first after ≡ found_of (cut (the_cut c.is k h)) = e ∙ ap found_of (its_cut c.is k h) in
-          let i : index ≡ (the_cut c.is k h).number = cc in
-          let j : inner ≡ (the_cut c.is k h).inner.first = cc in
-          let l : first ≡ (the_cut c.is k h).struck.first = cc in
-          let r : after ≡ (the_cut c.is k h).struck.after = cc in
+          let f : Ok x ≡ found_of (cut (the_cut c.is k h)) = e ∙ ap found_of (its_cut c.is k h) in
+          let i : x.index ≡ (the_cut c.is k h).number = cc in
+          let j : x.inner ≡ (the_cut c.is k h).inner.first = cc in
+          let l : x.first ≡ (the_cut c.is k h).struck.first = cc in
+          let r : x.after ≡ (the_cut c.is k h).struck.after = cc in
           rw (i, j, l, r) (known_cut h)
       go false q =
-          let f : At index inner first after ≡ Missing (target_count b) = e ∙ ap found_of (missed c.is k (ltb-false k (target_count b) q)) in
+          let f : Ok x ≡ found_of (missing (target_count b)) = e ∙ ap found_of (missed c.is k (ltb-false k (target_count b) q)) in
           absurd (let z : ◌≡◌ {A = ℕ} 0 1 = cc in omega arith)
 
-  known_missing : {j : ℕ} → Missing j ≡ found_of (cut_of k b) → (target_count b ≤ k) × (j ≡ target_count b)
-  known_missing {j} e = go (ltb k (target_count b)) refl
+  known_missing : {y : Refusal} → Err y ≡ found_of (cut_of k b) → (target_count b ≤ k) × (y ≡ refusal_of 27 (target_count b))
+  known_missing {y} e = go (ltb k (target_count b)) refl
     where
-      go : (u : Bool) → ltb k (target_count b) ≡ u → (target_count b ≤ k) × (j ≡ target_count b)
+      go : (u : Bool) → ltb k (target_count b) ≡ u → (target_count b ≤ k) × (y ≡ refusal_of 27 (target_count b))
       go true q =
           let h : k < target_count b = ltb-true k (target_count b) q in
-          let f : Missing j ≡ found_of (cut (the_cut c.is k h)) = e ∙ ap found_of (its_cut c.is k h) in
+          let f : Err y ≡ found_of (cut (the_cut c.is k h)) = e ∙ ap found_of (its_cut c.is k h) in
           absurd (let z : ◌≡◌ {A = ℕ} 0 1 = cc in omega arith)
       go false q =
           let l : target_count b ≤ k = ltb-false k (target_count b) q in
-          let f : Missing j ≡ Missing (target_count b) = e ∙ ap found_of (missed c.is k l) in
+          let f : Err y ≡ found_of (missing (target_count b)) = e ∙ ap found_of (missed c.is k l) in
           (l, cc)
 
 -- Striking what was found, way by way.
@@ -244,8 +237,8 @@ pub few_struck : {m : Limits} {b t : List ℕ} {k n index inner first after : �
 few_struck {index = index} f y = omega (arith, f.items, rw (add-one index) at y)
 
 module _ {m : Limits} {b t : List ℕ} {k n index inner first after : ℕ} (f : Known m b t k n index inner first after) {h : Head} (e : h ≡ head_at b inner) where
-  pub no_head : {r : ℕ} → h ≡ Bad r → (room : ℕ) → struck-ones.Refused 0 0 ≡ strike_by (accept n) k b room
-  no_head q room = let z : Good array f.lead.arg (inner + size f.lead) ≡ Bad _ = sym f.head_there ∙ (sym e ∙ q) in absurd (let y : ◌≡◌ {A = ℕ} 0 1 = cc in omega arith)
+  pub no_head : {r : ℕ} → h ≡ Bad r → ⊥
+  no_head q = let z : Good array f.lead.arg (inner + size f.lead) ≡ Bad _ = sym f.head_there ∙ (sym e ∙ q) in let y : ◌≡◌ {A = ℕ} 0 1 = cc in omega arith
 
   module _ {kd arg next : ℕ} (q : h ≡ Good kd arg next) where
     same : Good kd arg next ≡ Good array f.lead.arg (inner + size f.lead)
@@ -287,12 +280,12 @@ module _ {m : Limits} {b t : List ℕ} {k n index inner first after : ℕ} (f : 
       fits_all = record { fits = omega (arith, small, f.between, f.part_there, f.inside, f.short) }
 
       pub short_room : (room : ℕ) → room < inner + z + (first - next) + (length b - after)
-          → struck-ones.Refused 16 (inner + z + (first - next) + (length b - after)) ≡ strike_by (accept n) k b room
+          → refused 16 (inner + z + (first - next) + (length b - after)) ≡ strike_by (accept n) k b room
       short_room room h = rw (all_bytes_are, lt-ltb k (target_count b) f.under, lt-ltb room (length (struck_bytes k b)) (omega (arith, all_bytes_are)))
 
       module _ (room : ℕ) (enough : inner + z + (first - next) + (length b - after) ≤ room) where
         pub struck_answer : {j : ℕ} → j ≡ index + 1 + below after (drop (index + 1) (spots_of Message (decode b)))
-            → struck-ones.Message (n - (j - index)) (inner + z + (first - next) + (length b - after)) ≡ strike_by (accept n) k b room
+            → Ok (record { items = n - (j - index); bytes = inner + z + (first - next) + (length b - after) }) ≡ strike_by (accept n) k b room
         struck_answer {j} y =
             let items : n - (j - index) ≡ heads (struck k (decode b)) = omega (arith, f.items, rw (add-one index) at y) in
             rw (all_bytes_are, items, lt-ltb k (target_count b) f.under, le-ltb room (length (struck_bytes k b)) (omega (arith, all_bytes_are)))
@@ -315,22 +308,24 @@ module _ {m : Limits} {b t : List ℕ} {k n index inner first after : ℕ} (f : 
 pub ruleset strikings = (few_struck, no_head, some_members, next_before, in_room, fits_head, fits_between, fits_all, short_room, struck_answer, struck_room)
 
 -- the whole
-module _ {m : Limits} {b : List ℕ} {n : ℕ} {t : List ℕ} (c : Tabled m Message b n t) (k room : ℕ) {x : Found} (e : x ≡ found_of (cut_of k b)) where
-  pub none_such : {j : ℕ} → x ≡ Missing j → struck-ones.Refused 27 j ≡ strike_by (accept n) k b room
+module _ {m : Limits} {b : List ℕ} {n : ℕ} {t : List ℕ} (c : Tabled m Message b n t) (k room : ℕ) {x : Result Found Refusal} (e : x ≡ found_of (cut_of k b)) where
+  none_such : {y : Refusal} → x ≡ Err y → Err y ≡ strike_by (accept n) k b room
   none_such q = let (l, z) = known_missing c k (sym q ∙ e) in rw (z, le-ltb k (target_count b) l)
 
-  pub this_one : {i v f a : ℕ} → x ≡ At i v f a → Known m b t k n i v f a
+  pub this_one : {y : Found} → x ≡ Ok y → Known m b t k n y.index y.inner y.first y.after
   this_one q = known c k (sym q ∙ e)
 
-pub ruleset tables = (none_such, this_one)
-
-module _ (m : Limits) (k : ℕ) (b : List ℕ) (room : ℕ) {a : Answer} (e : a ≡ answer_of (read m Message b)) where
-  pub strike_refused : {r p : ℕ} → a ≡ answers.Refused r p → struck-ones.Refused r p ≡ strike m k b room
+module _ (m : Limits) (k : ℕ) (b : List ℕ) (room : ℕ) {a : Result ℕ Refusal} (e : a ≡ result_of (read m Message b)) where
+  pub strike_refused : {y : Refusal} → a ≡ Err y → Err y ≡ strike m k b room
   unfolding strike
-  strike_refused f = rw (refused m Message b e f)
+  strike_refused f = is_refused m Message b e f (λ z. strike_by z k b room) (λ r p. refl)
 
-  pub strike_accepted : {n : ℕ} → a ≡ Accepted n → {r : Struck} → r ≡ strike_by (accept n) k b room → r ≡ strike m k b room
-  unfolding strike
-  strike_accepted f g = rw (accepted m Message b e f) g
+  module _ {n : ℕ} (f : a ≡ Ok n) where
+    pub strike_accepted : {r : Result Struck Refusal} → r ≡ strike_by (accept n) k b room → r ≡ strike m k b room
+    unfolding strike
+    strike_accepted g = rw (is_accepted m Message b e f) g
 
-pub ruleset outcomes = (strike_refused, strike_accepted)
+    pub strike_missing : {t : List ℕ} → Tabled m Message b n t → {x : Result Found Refusal} → x ≡ found_of (cut_of k b) → {y : Refusal} → x ≡ Err y → Err y ≡ strike m k b room
+    strike_missing c g h = strike_accepted (none_such c k room g h)
+
+pub ruleset outcomes = (strike_refused, strike_accepted, strike_missing, this_one)

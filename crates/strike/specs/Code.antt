@@ -10,12 +10,15 @@ use Rattle.ari.specs.Items.{heads, Spot, spots_of}
 use Rattle.ari.specs.Decode.{decode}
 use Rattle.item_table.specs.Entries.{Tabled}
 use Rattle.strike.specs.declared.Found.{Found}
-use Rattle.strike.specs.declared.Found.TheVariants.{At, Missing}
+use Rattle.std.specs.declared.result.Result.{Result}
+use Rattle.std.specs.declared.result.Result.TheVariants.{Ok}
+use Rattle.ari.specs.declared.Refusal.{Refusal}
+use Rattle.ari.specs.Refusals.{refused}
 use Rattle.strike.specs.Strike.{shorter, struck, struck_bytes, target_count, Sought, cut, missing}
 
-abbrev pub found_of : Sought → Found
-found_of (cut c) = At c.number c.inner.first c.struck.first c.struck.after
-found_of (missing n) = Missing n
+abbrev pub found_of : Sought → Result Found Refusal
+found_of (cut c) = Ok (record { index = c.number; inner = c.inner.first; first = c.struck.first; after = c.struck.after })
+found_of (missing n) = refused 27 n
 
 -- the place of the last item that lies directly in a set
 abbrev pub inner_after : ℕ → ℕ → ℕ → ℕ

@@ -12,7 +12,10 @@ use Rattle.ari.specs.Decode.{decode}
 use Rattle.ari.specs.Targets.{is_target, targets}
 use Rattle.item_table.specs.Entries.{no_spot}
 use Rattle.strike.specs.declared.Struck.{Struck}
-use Rattle.strike.specs.declared.Struck.TheVariants as answers
+use Rattle.std.specs.declared.result.Result.{Result}
+use Rattle.std.specs.declared.result.Result.TheVariants.{Ok, Err}
+use Rattle.ari.specs.declared.Refusal.{Refusal}
+use Rattle.ari.specs.Refusals.{refused}
 
 -- a run of items without one of them
 abbrev pub without : ℕ → Items → Items
@@ -88,18 +91,18 @@ unfoldable pub cut_bytes : List ℕ → Cut → List ℕ
 cut_bytes b c = take c.inner.first b ++ (lead_bytes (shorter c.inner.lead) ++ (part b (head_end c) c.struck.first ++ drop c.struck.after b))
 
 -- R207: the message's refusal, 27 with the count of targets and reports, 16 with the bytes needed, or the items and bytes of the shorter message
-abbrev pub strike_by : reader.Answer → ℕ → List ℕ → ℕ → Struck
-strike_by (refuse r p) k b room = answers.Refused r p
+abbrev pub strike_by : reader.Answer → ℕ → List ℕ → ℕ → Result Struck Refusal
+strike_by (refuse r p) k b room = refused r p
 strike_by (accept n) k b room =
     cond (ltb k (target_count b))
-    (cond (ltb room (length (struck_bytes k b))) (answers.Refused 16 (length (struck_bytes k b)))
-    (answers.Message (heads (struck k (decode b))) (length (struck_bytes k b))))
-    (answers.Refused 27 (target_count b))
+    (cond (ltb room (length (struck_bytes k b))) (refused 16 (length (struck_bytes k b)))
+    (Ok (record { items = heads (struck k (decode b)); bytes = length (struck_bytes k b) })))
+    (refused 27 (target_count b))
 
-unfoldable pub strike : Limits → ℕ → List ℕ → ℕ → Struck
+unfoldable pub strike : Limits → ℕ → List ℕ → ℕ → Result Struck Refusal
 strike m k b room = strike_by (read m Message b) k b room
 
 -- R48, R49: a refusal leaves the room as it was; an answer leaves what is behind it
-abbrev pub room_after : Struck → List ℕ → List ℕ → List ℕ
-room_after (answers.Refused r p) new out = out
-room_after (answers.Message n k) new out = new ++ drop k out
+abbrev pub room_after : Result Struck Refusal → List ℕ → List ℕ → List ℕ
+room_after (Err e) new out = out
+room_after (Ok x) new out = new ++ drop x.bytes out

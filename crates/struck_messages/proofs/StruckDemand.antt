@@ -10,8 +10,8 @@ use lib.ListN.{length, length-map}
 use lib.Dec.{ltb}
 use borrow.Author.Tests.{ltb-true, ltb-false}
 use Rattle.buffer.specs.Bytes.{all, is_byte}
-use Rattle.buffer.specs.declared.Number.{Number}
-use Rattle.buffer.specs.declared.Number.TheVariants.{Value, Bad}
+use Rattle.std.specs.declared.option.Option.{Option}
+use Rattle.std.specs.declared.option.Option.TheVariants.{Some, None}
 use Rattle.cbor.specs.Head.{Lead}
 use Rattle.ari.specs.Table.{version, done, rule, is_reference}
 use Rattle.ari.specs.declared.Limits.{Limits}
@@ -57,9 +57,9 @@ granted_moved t s published own c (number z) g = g
 granted_moved t s published own c relative g = g
 granted_moved t s published own c (name p n) g = go (number_for published own n) g
   where
-    go : (v : Number) → Granted t s (numbered v (name p n)) → Granted t s (numbered v (name (moved c p) n))
-    go (Value w) h = h
-    go Bad h = absurd (let q = h.a_number in let z : ◌≡◌ {A = ℕ} 0 1 = cc in omega arith)
+    go : (v : Option ℕ) → Granted t s (numbered v (name p n)) → Granted t s (numbered v (name (moved c p) n))
+    go (Some w) h = h
+    go None h = absurd (let q = h.a_number in let z : ◌≡◌ {A = ℕ} 0 1 = cc in omega arith)
 
 version_no_reference : (l : Lead) → is_reference version l ≡ false
 unfolding is_reference rule

@@ -5,7 +5,7 @@ ghost use Rattle.std.specs.Prelude.{◌≡◌, ◌/◌, length};
 ghost use Rattle.ari.specs.declared.Input.TheVariants.{Single, Message};
 ghost use Rattle.ari.specs.Reader.{read};
 ghost use Rattle.ari.specs.Limits.{gate_limits};
-ghost use Rattle.reader.specs.Answers.{answer_of};
+ghost use Rattle.reader.specs.Results.{result_of};
 ghost use Rattle.sameness.specs.Sameness.{sameness};
 ghost use Rattle.comparison.specs.Comparison.{comparison, compare_messages, room_after as compared_in};
 ghost use Rattle.strike.specs.Strike.{struck_bytes, strike, room_after as struck_in};
@@ -19,21 +19,21 @@ ghost use Rattle.grants.specs.Bytes.{check_bytes};
 ghost use Rattle.listing.specs.Answers.{list_of, written_of as listed_in};
 ghost use Rattle.release.specs.Release.{release_bytes};
 ghost use Rattle.release.specs.Compared.{count_after, counted_bytes};
-ghost use Rattle.why_held.specs.Why.{why, outcome_in, why_room};
+ghost use Rattle.why_held.specs.Why.{why, answer_of as why_answer, outcome_in, why_room};
 ghost use Rattle.text.specs.Answer.{write_text, read_text, lent};
 ghost use Rattle.text_write.specs.Written.{written_of, room_after};
 ghost use Rattle.answer_codes.specs.Code.{check_code, list_code, table_code, release_code, why_code, text_code, OpensAs, FeedsAs, ClosesAs, same_code, compare_code, names_code, number_code, number_after, day_code, find_code, add_code, search_code, strike_code, MonthOpensAs, AddsAs, ShowsAs};
 
 #[unsafe(no_mangle)]
 pub extern "C" fn surfbodkin_check_single(input: &[u8]) -> u64
-    ensures { result ≡ check_code (answer_of (read gate_limits Single input.now)) }
+    ensures { result ≡ check_code (result_of (read gate_limits Single input.now)) }
 {
     answer_codes::check_code(reader::check_single(input))
 }
 
 #[unsafe(no_mangle)]
 pub extern "C" fn surfbodkin_check_message(input: &[u8]) -> u64
-    ensures { result ≡ check_code (answer_of (read gate_limits Message input.now)) }
+    ensures { result ≡ check_code (result_of (read gate_limits Message input.now)) }
 {
     answer_codes::check_code(reader::check_message(input))
 }
@@ -141,7 +141,7 @@ pub extern "C" fn surfbodkin_why<'a>(
     subscriber: u64,
     out: &mut [u8],
 ) -> u64
-    ensures value { result ≡ why_code (outcome_in (why gate_limits message.now table.now published.now own.now subscriber).outcome (length out.old)) }
+    ensures value { result ≡ why_code (outcome_in (why_answer (why gate_limits message.now table.now published.now own.now subscriber)) (length out.old)) }
     ensures out_after { out.new ≡ why_room gate_limits message.now table.now published.now own.now subscriber out.old }
 {
     answer_codes::why_code(why_held::why_bytes(message, table, published, own, subscriber, out))

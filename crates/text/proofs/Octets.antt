@@ -11,8 +11,8 @@ use borrow.Author.Tests.{leb-true, lt-ltb, le-leb}
 use Rattle.buffer.specs.Runs.{front, past}
 use Rattle.buffer.specs.Bytes.{be, within, all, is_byte, same}
 use Rattle.cbor.specs.Head.{unsigned, negative, bytes, text, array, map, simple, Lead, width, major_of, lead_bytes, lead_of}
-use Rattle.buffer.specs.declared.Number.{Number}
-use Rattle.buffer.specs.declared.Number.TheVariants.{Value, Bad}
+use Rattle.std.specs.declared.option.Option.{Option}
+use Rattle.std.specs.declared.option.Option.TheVariants.{Some, None}
 use Rattle.buffer.specs.Decimal.{unsigned_of}
 use Rattle.buffer.proofs.RunLaws.{front_past}
 use Rattle.buffer.proofs.DecimalLaws.{Most, unsigned_most}
@@ -88,9 +88,9 @@ number_most : (u : List ℕ) → number u ≤ max64
 unfolding number
 number_most u = go (unsigned_of u) (unsigned_most u)
   where
-    go : (n : Number) → Most n → or_zero n ≤ max64
-    go (Value n) h = h
-    go Bad h = omega arith
+    go : (n : Option ℕ) → Most n → or_zero n ≤ max64
+    go (Some n) h = h
+    go None h = omega arith
 
 unhex_most : (c : ℕ) → unhex c < 16
 unfolding unhex

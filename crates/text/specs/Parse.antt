@@ -4,8 +4,8 @@ use Rattle.std.specs.Prelude.{ℕ, zero, suc, pred, ◌+◌, ◌-◌, ◌*◌, B
 use Prim.Native.Char.{code}
 use Rattle.buffer.specs.Bytes.{within, same}
 use Rattle.buffer.specs.Runs.{front, past}
-use Rattle.buffer.specs.declared.Number.{Number}
-use Rattle.buffer.specs.declared.Number.TheVariants.{Value, Bad}
+use Rattle.std.specs.declared.option.Option.{Option}
+use Rattle.std.specs.declared.option.Option.TheVariants.{Some, None}
 use Rattle.buffer.specs.Decimal.{unsigned_of}
 use Rattle.cbor.specs.Head.{unsigned, negative, bytes, text, array, map, simple, lead_of}
 use Rattle.ari.specs.Table.{Slot, version, ari, type, value, namespace, object_namespace, object_type, object_id, params, key, entry, nonce, set_time, target, report, report_time, report_source, Level, done, due, rule, members}
@@ -30,9 +30,9 @@ abbrev pub starts : ℕ → List ℕ → Bool
 starts c = starts_by (λ x. eqb x c)
 
 -- a number in plain decimal; 0 for anything else
-abbrev pub or_zero : Number → ℕ
-or_zero (Value n) = n
-or_zero Bad = 0
+abbrev pub or_zero : Option ℕ → ℕ
+or_zero (Some n) = n
+or_zero None = 0
 
 unfoldable pub number : List ℕ → ℕ
 number u = or_zero (unsigned_of u)

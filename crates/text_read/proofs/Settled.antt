@@ -21,9 +21,11 @@ use Rattle.buffer.proofs.ByteLaws.{same_length}
 use Rattle.buffer.specs.Put.{Put}
 use Rattle.buffer.proofs.Putting.{put_size}
 use Rattle.text_write.specs.declared.Written.{Written}
-use Rattle.text_write.specs.declared.Written.TheVariants.{Bytes, Refused}
+use Rattle.std.specs.Prelude.{Result, Ok, Err}
+use Rattle.ari.specs.declared.Refusal.{Refusal}
+use Rattle.ari.specs.Refusals as refusals
 use Rattle.text_write.specs.Written.{written_of, room_after}
-use Rattle.text_write.proofs.Handing.{Front, front_of, not_put, front_taken}
+use Rattle.text_write.proofs.Handing.{IsRefused, Front, front_of, not_put, front_taken}
 use Rattle.text_read.specs.declared.Pos.{Pos}
 use Rattle.text_read.specs.Parsed.{Parsed, Begins}
 
@@ -40,7 +42,7 @@ pub ruleset settling = (whole_candidate)
 
 -- the bytes of the text that was read, and those of another one
 module _ (b : List ℕ) (n : ℕ) (room : List ℕ) {y : Bool} where
-  pub text_given : {a : Written} → y ≡ true → a ≡ written_of (lent (length room) (output b n)) → a ≡ written_of (lent (length room) (cond y (output b n) (refused 15 0)))
+  pub text_given : {a : Result Written Refusal} → y ≡ true → a ≡ written_of (lent (length room) (output b n)) → a ≡ written_of (lent (length room) (cond y (output b n) (refused 15 0)))
   text_given e o = rw e o
 
   pub text_filled : {room' : List ℕ} → y ≡ true → room' ≡ room_after room (lent (length room) (output b n))
@@ -48,32 +50,32 @@ module _ (b : List ℕ) (n : ℕ) (room : List ℕ) {y : Bool} where
   text_filled e o = rw e o
 
 -- Bytes whose text went into a scratch with room for more than t.
-module _ (m : Limits) (t b scratch : List ℕ) {w : Written} (e : w ≡ written_of (cut (length scratch) (write_text m b))) where
-  module _ {r p : ℕ} (q : w ≡ Refused r p) where
-    pub none_confirmed : (k : ℕ) → Refused 15 0 ≡ written_of (lent k (checked t b (write_text m b)))
-    none_confirmed k = rw (not_put m b scratch e q)
+module _ (m : Limits) (t b scratch : List ℕ) {w : Result Written Refusal} (e : w ≡ written_of (cut (length scratch) (write_text m b))) where
+  module _ {r : Refusal} (q : w ≡ Err r) where
+    pub none_confirmed : (k : ℕ) → refusals.refused 15 0 ≡ written_of (lent k (checked t b (write_text m b)))
+    none_confirmed k = rw (not_put m b scratch e q).is
 
     pub none_kept : (room : List ℕ) (k : ℕ) → room ≡ room_after room (lent k (checked t b (write_text m b)))
-    none_kept room k = rw (not_put m b scratch e q)
+    none_kept room k = rw (not_put m b scratch e q).is
 
-  module _ (h : length t < length scratch) {l n : ℕ} (q : w ≡ Bytes l n) {scratch' : List ℕ} (f : scratch' ≡ room_after scratch (cut (length scratch) (write_text m b)))
-      {y : Bool} (d : y ≡ same (take (l - 0) scratch') t) where
-    abbrev put : Front m b (length scratch) l n scratch'
+  module _ (h : length t < length scratch) {x : Written} (q : w ≡ Ok x) {scratch' : List ℕ} (f : scratch' ≡ room_after scratch (cut (length scratch) (write_text m b)))
+      {y : Bool} (d : y ≡ same (take (x.length - 0) scratch') t) where
+    abbrev put : Front m b (length scratch) x.length x.count scratch'
     put = front_of m b scratch e q f
 
-    same_front : (u : List ℕ) (x : Bool) → leb (length u) (length scratch) ≡ x → same (take (length scratch) u) t ≡ same u t
+    same_front : (u : List ℕ) (z : Bool) → leb (length u) (length scratch) ≡ z → same (take (length scratch) u) t ≡ same u t
     same_front u true z = rw (take_all (length scratch) u (leb-true (length u) (length scratch) z))
     same_front u false z =
         let over : length scratch < length u = leb-false (length u) (length scratch) z in
         same_length (take (length scratch) u) t (λ z. omega (arith, z, length-take (length scratch) u)) ∙ sym (same_length u t (λ z. omega (arith, z)))
 
-    judged : checked t b (write_text m b) ≡ cond y (output b n) (refused 15 0)
+    judged : checked t b (write_text m b) ≡ cond y (output b x.count) (refused 15 0)
     judged = rw (put.is, ← same_front put.text (leb (length put.text) (length scratch)) refl, ← put.front_is, ← d)
 
-    pub text_confirmed : (k : ℕ) {a : Written} → a ≡ written_of (lent k (cond y (output b n) (refused 15 0))) → a ≡ written_of (lent k (checked t b (write_text m b)))
+    pub text_confirmed : (k : ℕ) {a : Result Written Refusal} → a ≡ written_of (lent k (cond y (output b x.count) (refused 15 0))) → a ≡ written_of (lent k (checked t b (write_text m b)))
     text_confirmed k o = rw judged o
 
-    pub confirmed_filled : (room : List ℕ) (k : ℕ) {room' : List ℕ} → room' ≡ room_after room (lent k (cond y (output b n) (refused 15 0)))
+    pub confirmed_filled : (room : List ℕ) (k : ℕ) {room' : List ℕ} → room' ≡ room_after room (lent k (cond y (output b x.count) (refused 15 0)))
         → room' ≡ room_after room (lent k (checked t b (write_text m b)))
     confirmed_filled room k o = rw judged o
 
@@ -108,7 +110,7 @@ module _ (m : Limits) (t : List ℕ) where
             ∙ sym (short_is h ∙ overlong tried (omega arith))
 
     module _ (k : m.bytes < length room) where
-      pub read_answers : (i : ℕ) {a : Written} → a ≡ written_of (lent i (checked t given (write_text m given))) → a ≡ written_of (lent i (read_text m t))
+      pub read_answers : (i : ℕ) {a : Result Written Refusal} → a ≡ written_of (lent i (checked t given (write_text m given))) → a ≡ written_of (lent i (read_text m t))
       read_answers i o = rw (← settled k) o
 
       pub read_fills : (z : List ℕ) (i : ℕ) {z' : List ℕ} → z' ≡ room_after z (lent i (checked t given (write_text m given))) → z' ≡ room_after z (lent i (read_text m t))
@@ -119,7 +121,7 @@ module _ (m : Limits) (t : List ℕ) where
       left_room : length tried ≤ length room
       left_room = omega (arith, p.place, k, put_size p)
 
-      pub short_answers : (i : ℕ) {a : Written} → a ≡ written_of (lent i (checked t given (write_text m given))) → a ≡ written_of (lent i (read_text m t))
+      pub short_answers : (i : ℕ) {a : Result Written Refusal} → a ≡ written_of (lent i (checked t given (write_text m given))) → a ≡ written_of (lent i (read_text m t))
       short_answers i o = rw (← whole_settled left_room) o
 
       pub short_fills : (z : List ℕ) (i : ℕ) {z' : List ℕ} → z' ≡ room_after z (lent i (checked t given (write_text m given))) → z' ≡ room_after z (lent i (read_text m t))
@@ -132,7 +134,7 @@ module _ (m : Limits) (t : List ℕ) where
   long_is h = rw (lt-ltb m.text (length t) h)
 
   module _ (h : m.text < length t) where
-    pub long_refused : (k : ℕ) → Refused 1 0 ≡ written_of (lent k (read_text m t))
+    pub long_refused : (k : ℕ) → refusals.refused 1 0 ≡ written_of (lent k (read_text m t))
     long_refused k = rw (long_is h)
 
     pub long_kept : (room : List ℕ) (k : ℕ) → room ≡ room_after room (lent k (read_text m t))
@@ -142,7 +144,7 @@ module _ (m : Limits) (t : List ℕ) {n : ℕ} (e : n ≡ m.text + 1) (h : n < l
   alike : read_text m (part t 0 n) ≡ read_text m t
   alike = long_is m (part t 0 n) (omega (arith, length-take (n - 0) t)) ∙ sym (long_is m t (omega arith))
 
-  pub front_answers : (k : ℕ) {a : Written} → a ≡ written_of (lent k (read_text m (part t 0 n))) → a ≡ written_of (lent k (read_text m t))
+  pub front_answers : (k : ℕ) {a : Result Written Refusal} → a ≡ written_of (lent k (read_text m (part t 0 n))) → a ≡ written_of (lent k (read_text m t))
   front_answers k q = q ∙ ap (λ (o : Output). written_of (lent k o)) alike
 
   pub front_fills : (k : ℕ) (z : List ℕ) {z' : List ℕ} → z' ≡ room_after z (lent k (read_text m (part t 0 n))) → z' ≡ room_after z (lent k (read_text m t))

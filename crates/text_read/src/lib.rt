@@ -14,7 +14,7 @@ ghost use Rattle.text.specs.Answer.{refused, output, write_text, checked, read_t
 ghost use Rattle.text_write.specs.Written.{written_of, room_after};
 ghost use Rattle.text_read.specs.Parsed.{Parsed, Begins, middle};
 
-use ari::Limits;
+use ari::{Fault, Limits, Refusal};
 use text_write::Written;
 
 // Where a walk stands: in the text, and in the room that it puts bytes into.
@@ -78,8 +78,7 @@ fn read_level(
     let mut r = end;
     let mut place = slot;
     let mut left = more;
-    let mut fuel = items;
-    while 0 < fuel {
+    for _turn in 0..items {
         if out.len() <= r {
             return Pos { next: p, end: r };
         }
@@ -97,7 +96,6 @@ fn read_level(
         r = w.end;
         place = a;
         left = b;
-        fuel -= 1;
     }
     Pos { next: p, end: r }
 }
@@ -137,31 +135,36 @@ fn put_candidate(limits: Limits, t: &[u8], out: &mut [u8]) -> usize
 }
 
 // Bytes are handed over, if the text that was read is theirs; otherwise it is none: test 15.
-fn hand_over_if(spelled: bool, b: &[u8], count: usize, out: &mut [u8]) -> Written
+fn hand_over_if(spelled: bool, b: &[u8], count: usize, out: &mut [u8]) -> Result<Written, Refusal>
     ensures value { result ≡ written_of (lent (length out.old) (cond spelled (output b.now count) (refused 15 0))) }
     ensures out_after { out.new ≡ room_after out.old (lent (length out.old) (cond spelled (output b.now count) (refused 15 0))) }
 {
     if spelled {
         return text_write::hand_over(b, count, out);
     }
-    Written::Refused {
-        number: 15,
+    Err(Refusal {
+        fault: Fault::NoAri,
         place: 0,
-    }
+    })
 }
 
 // Bytes are handed over, if they are an ARI whose text is t. The scratch has room for more than t: a longer text does not pass for it.
-fn confirm(limits: Limits, t: &[u8], b: &[u8], scratch: &mut [u8], out: &mut [u8]) -> Written
+fn confirm(
+    limits: Limits,
+    t: &[u8],
+    b: &[u8],
+    scratch: &mut [u8],
+    out: &mut [u8],
+) -> Result<Written, Refusal>
     requires { length t.now < length scratch.old }
     ensures value { result ≡ written_of (lent (length out.old) (checked t.now b.now (write_text limits b.now))) }
     ensures out_after { out.new ≡ room_after out.old (lent (length out.old) (checked t.now b.now (write_text limits b.now))) }
 {
-    let w = text_write::put_text(limits, b, scratch);
-    let Written::Bytes { length, count } = w else {
-        return Written::Refused {
-            number: 15,
+    let Ok(Written { length, count }) = text_write::put_text(limits, b, scratch) else {
+        return Err(Refusal {
+            fault: Fault::NoAri,
             place: 0,
-        };
+        });
     };
     let spelled = buffer::same(&scratch[0..length], t);
     hand_over_if(spelled, b, count, out)
@@ -174,7 +177,7 @@ fn read_in(
     bytes: &mut [u8],
     scratch: &mut [u8],
     out: &mut [u8],
-) -> Written
+) -> Result<Written, Refusal>
     requires { (length t.now ≤ limits.text) × (limits.bytes < length bytes.old) × (length t.now < length scratch.old) }
     ensures value { result ≡ written_of (lent (length out.old) (read_text limits t.now)) }
     ensures out_after { out.new ≡ room_after out.old (lent (length out.old) (read_text limits t.now)) }
@@ -183,7 +186,7 @@ fn read_in(
     confirm(limits, t, &bytes[0..size], scratch, out)
 }
 
-fn read_long(limits: Limits, t: &[u8], out: &mut [u8]) -> Written
+fn read_long(limits: Limits, t: &[u8], out: &mut [u8]) -> Result<Written, Refusal>
     requires { (length t.now ≤ limits.text) × (limits.bytes ≤ gate_limits.bytes) × (limits.text ≤ gate_limits.text) }
     ensures value { result ≡ written_of (lent (length out.old) (read_text limits t.now)) }
     ensures out_after { out.new ≡ room_after out.old (lent (length out.old) (read_text limits t.now)) }
@@ -196,7 +199,7 @@ fn read_long(limits: Limits, t: &[u8], out: &mut [u8]) -> Written
 // A text of fewer bytes is one of middle length, and has less room to clear.
 const MIDDLE: usize = 16384;
 
-fn read_middle(limits: Limits, t: &[u8], out: &mut [u8]) -> Written
+fn read_middle(limits: Limits, t: &[u8], out: &mut [u8]) -> Result<Written, Refusal>
     requires { (length t.now < middle) × (length t.now ≤ limits.text) × (limits.bytes ≤ gate_limits.bytes) }
     ensures value { result ≡ written_of (lent (length out.old) (read_text limits t.now)) }
     ensures out_after { out.new ≡ room_after out.old (lent (length out.old) (read_text limits t.now)) }
@@ -211,7 +214,7 @@ const SHORT: usize = 128;
 
 // Within limits of which none is above the gate's own. A short text has little room: should its candidate fill that, it is read as a longer one. A text
 // that is too long is refused as its front is: by that call of itself this stays a function without the large rooms, as `text_write::write_capped` does.
-fn read_capped(limits: Limits, t: &[u8], out: &mut [u8]) -> Written
+fn read_capped(limits: Limits, t: &[u8], out: &mut [u8]) -> Result<Written, Refusal>
     requires { (limits.bytes ≤ gate_limits.bytes) × (limits.text ≤ gate_limits.text) }
     ensures value { result ≡ written_of (lent (length out.old) (read_text limits t.now)) }
     ensures out_after { out.new ≡ room_after out.old (lent (length out.old) (read_text limits t.now)) }
@@ -221,10 +224,10 @@ fn read_capped(limits: Limits, t: &[u8], out: &mut [u8]) -> Written
         return read_capped(limits, &t[0..enough], out);
     }
     if limits.text < t.len() {
-        return Written::Refused {
-            number: 1,
+        return Err(Refusal {
+            fault: Fault::TooLong,
             place: 0,
-        };
+        });
     }
     if t.len() < SHORT {
         let mut bytes = [0u8; SHORT];
@@ -242,7 +245,7 @@ fn read_capped(limits: Limits, t: &[u8], out: &mut [u8]) -> Written
 }
 
 // The binary form of the single ARI that a text is, within these limits, none above the gate's own.
-pub fn read_text_within(limits: Limits, t: &[u8], out: &mut [u8]) -> Written
+pub fn read_text_within(limits: Limits, t: &[u8], out: &mut [u8]) -> Result<Written, Refusal>
     ensures value { result ≡ written_of (lent (length out.old) (read_text (capped limits) t.now)) }
     ensures out_after { out.new ≡ room_after out.old (lent (length out.old) (read_text (capped limits) t.now)) }
 {
@@ -251,7 +254,7 @@ pub fn read_text_within(limits: Limits, t: &[u8], out: &mut [u8]) -> Written
 }
 
 // The binary form of the single ARI that a text is.
-pub fn read_text(t: &[u8], out: &mut [u8]) -> Written
+pub fn read_text(t: &[u8], out: &mut [u8]) -> Result<Written, Refusal>
     ensures value { result ≡ written_of (lent (length out.old) (read_text gate_limits t.now)) }
     ensures out_after { out.new ≡ room_after out.old (lent (length out.old) (read_text gate_limits t.now)) }
 {

@@ -18,10 +18,14 @@ use Rattle.ari.specs.Decode.{Headed}
 use Rattle.text.specs.Chars.{ascii}
 use Rattle.text.specs.Text.{Name, name, names}
 use Rattle.text.specs.Parse.{ends, in_word, starts_by, starts, number, any, unescape, unhexes, inner, head_of, string_of, integer_of, literal_of, starts_number, name_of, number_in, type_number, type_of, commas, count, Taken, take_word, take_group, parts, take_reference, take_ari}
+use Rattle.text_write_item.specs.declared.Spelling.{Spelling}
+use Rattle.text_write_item.specs.declared.Spelling.TheVariants.{Unspelled, Ari, TypeName, Value, Label, Namespace, ObjectNamespace, ObjectType, ObjectId, Parameters, Key}
+use Rattle.text_read_item.specs.declared.Form.{Form}
+use Rattle.text_read_item.specs.declared.Form.TheVariants.{Bare, Escaped, Hex}
 use Rattle.text_read_item.specs.declared.Word.{Word}
-use Rattle.text_read_item.specs.Words.{first_of, NextTo, Small, Found, plain_at, word_at, text_word, bytes_word, horner, key_of, key_in, take_value, take_params, is_group, is_relative, size_before, take_spelled}
+use Rattle.text_read_item.specs.Words.{first_of, NextTo, Small, Found, plain_at, word_at, text_word, bytes_word, horner, key_of, key_in, take_value, take_params, is_named, is_group, is_relative, size_before, take_spelled}
 
-abbrev pub word : ℕ → ℕ → ℕ → ℕ → ℕ → ℕ → Word
+abbrev pub word : ℕ → ℕ → Form → ℕ → ℕ → ℕ → Word
 word k a f x y n = record { kind = k; arg = a; form = f; from = x; to = y; next = n }
 
 abbrev pub taken_by : Headed → List ℕ → Taken
@@ -36,7 +40,7 @@ small_simple a h = record { kinds = omega arith; values = λ e. h }
 found_as : {t : List ℕ} {y z : Taken} {w : Word} → Found t y w → y ≡ z → Found t z w
 found_as f e = record { is = f.is ∙ e; bounded = f.bounded; on = f.on }
 
-pub plain_found : (t : List ℕ) (k a e : ℕ) → Small k a → e ≤ length t → Found t (plain_at t k a e) (word k a 0 e e e)
+pub plain_found : (t : List ℕ) (k a e : ℕ) → Small k a → e ≤ length t → Found t (plain_at t k a e) (word k a Bare e e e)
 plain_found t k a e s h = record {
   is = ap (λ (u : List ℕ). taken_by (head_of k a u) (drop e t)) (part_none t e);
   bounded = record { small = s; order = omega arith; inside = h };
@@ -138,7 +142,7 @@ module _ (t : List ℕ) (from to : ℕ) (h : from ≤ to) (g : to ≤ length t) 
   unfolding unescape
   text_none l f = found_as f (rw (inner_none 3 3 l))
 
-  pub text_some : {n : ℕ} → 6 ≤ to - from → n ≡ length (unescape any (part t (from + 3) (to - 3))) → Found t (word_at text_word t from to) (word 3 n 1 (from + 3) (to - 3) to)
+  pub text_some : {n : ℕ} → 6 ≤ to - from → n ≡ length (unescape any (part t (from + 3) (to - 3))) → Found t (word_at text_word t from to) (word 3 n Escaped (from + 3) (to - 3) to)
   text_some {n} l e = record {
     is = rw (inner_part 3 3 l, e);
     bounded = record { small = small_count 3 n (omega arith); order = omega arith; inside = omega arith };
@@ -155,7 +159,7 @@ module _ (t : List ℕ) (from to : ℕ) (h : from ≤ to) (g : to ≤ length t) 
   unhexes_length (x ∷ []) = refl
   unhexes_length (x ∷ y ∷ v) = omega (arith, unhexes_length v)
 
-  pub bytes_some : 7 ≤ to - from → Found t (word_at bytes_word t from to) (word 2 ((to - from - 7) / 2) 2 (from + 4) (to - 3) to)
+  pub bytes_some : 7 ≤ to - from → Found t (word_at bytes_word t from to) (word 2 ((to - from - 7) / 2) Hex (from + 4) (to - 3) to)
   bytes_some l =
       let q : length (part t (from + 4) (to - 3)) ≡ to - from - 7 = long t (from + 4) (to - 3) (omega arith) (omega arith) ∙ omega arith in
       let e : (to - from - 7) / 2 ≡ length (unhexes (part t (from + 4) (to - 3))) = sym (unhexes_length (part t (from + 4) (to - 3)) ∙ rw q) in
@@ -203,7 +207,7 @@ module _ (t : List ℕ) (from to : ℕ) {x : ℕ} (e : x ≡ first_of (part t fr
   pub name_number : {w : Word} → y ≡ true → Found t (word_at integer_of t from to) w → Found t (word_at name_of t from to) w
   name_number h f = found_as f (ap (λ (z : Headed). taken_by z (drop to t)) (sym (name_by (part t from to) ∙ rw (← e, ← q, h))))
 
-  pub name_bare : from ≤ to → to ≤ length t → y ≡ false → Found t (word_at name_of t from to) (word 3 (to - from) 0 from to to)
+  pub name_bare : from ≤ to → to ≤ length t → y ≡ false → Found t (word_at name_of t from to) (word 3 (to - from) Bare from to to)
   name_bare l g h = record {
     is = ap (λ (z : Headed). taken_by z (drop to t)) (sym (name_by (part t from to) ∙ rw (← e, ← q, h, long t from to l g)));
     bounded = record { small = small_count 3 (to - from) (omega arith); order = l; inside = g };
@@ -340,29 +344,26 @@ module _ (t : List ℕ) (at : ℕ) where
     params_array h f = found_as f (rw (keyed, h))
 
 -- by the spelling of a slot
-pub spelling_by : (t : List ℕ) (w i k at : ℕ) {y : Taken} {x : Word} → w ≡ i → Found t y x → y ≡ take_spelled i k (drop at t) → Found t (take_spelled w k (drop at t)) x
+pub spelling_by : (t : List ℕ) (w i : Spelling) (k at : ℕ) {y : Taken} {x : Word} → w ≡ i → Found t y x → y ≡ take_spelled i k (drop at t) → Found t (take_spelled w k (drop at t)) x
 spelling_by t w i k at e f q = rw e (found_as f q)
 
 -- what is spelled as names are
-named_by : (w k : ℕ) (t : List ℕ) → 4 ≤ w → w ≤ 8 → take_spelled w k t
+named_is : (w : Spelling) (k : ℕ) (t : List ℕ) → is_named w ≡ true → take_spelled w k t
     ≡ cond (is_group w t) (take_group k t) (cond (is_relative w t) (take_word (λ u. head_of 6 22 []) t) (take_word name_of (drop (size_before w) t)))
 unfolding take_spelled
-named_by zero k t l h = absurd (omega arith)
-named_by (suc zero) k t l h = absurd (omega arith)
-named_by (suc (suc zero)) k t l h = absurd (omega arith)
-named_by (suc (suc (suc zero))) k t l h = absurd (omega arith)
-named_by (suc (suc (suc (suc zero)))) k t l h = refl
-named_by (suc (suc (suc (suc (suc zero))))) k t l h = refl
-named_by (suc (suc (suc (suc (suc (suc zero)))))) k t l h = refl
-named_by (suc (suc (suc (suc (suc (suc (suc zero))))))) k t l h = refl
-named_by (suc (suc (suc (suc (suc (suc (suc (suc zero)))))))) k t l h = refl
-named_by (suc (suc (suc (suc (suc (suc (suc (suc (suc w))))))))) k t l h = absurd (omega arith)
+named_is Label k t h = refl
+named_is Namespace k t h = refl
+named_is ObjectNamespace k t h = refl
+named_is ObjectType k t h = refl
+named_is ObjectId k t h = refl
+named_is Unspelled k t h = absurd (true≢false (sym h))
+named_is Ari k t h = absurd (true≢false (sym h))
+named_is TypeName k t h = absurd (true≢false (sym h))
+named_is Value k t h = absurd (true≢false (sym h))
+named_is Parameters k t h = absurd (true≢false (sym h))
+named_is Key k t h = absurd (true≢false (sym h))
 
-named_is : (w k : ℕ) (t : List ℕ) → within 4 8 w ≡ true → take_spelled w k t
-    ≡ cond (is_group w t) (take_group k t) (cond (is_relative w t) (take_word (λ u. head_of 6 22 []) t) (take_word name_of (drop (size_before w) t)))
-named_is w k t h = let (a, b) = within_true 4 8 w h in named_by w k t a b
-
-module _ (t : List ℕ) (w k at : ℕ) (h : within 4 8 w ≡ true) {x : Bool} (e : x ≡ is_group w (drop at t)) where
+module _ (t : List ℕ) (w : Spelling) (k at : ℕ) (h : is_named w ≡ true) {x : Bool} (e : x ≡ is_group w (drop at t)) where
   pub named_group : {z : Word} → x ≡ true → Found t (take_group k (drop at t)) z → Found t (take_spelled w k (drop at t)) z
   named_group q f = found_as f (sym (named_is w k (drop at t) h ∙ rw (← e, q)))
 
@@ -373,51 +374,14 @@ module _ (t : List ℕ) (w k at : ℕ) (h : within 4 8 w ≡ true) {x : Bool} (e
     pub named_word : {m p : ℕ} {z : Word} → y ≡ false → m ≡ size_before w → NextTo t at m p → Found t (take_word name_of (drop p t)) z → Found t (take_spelled w k (drop at t)) z
     named_word q b s f = found_as f (sym (named_is w k (drop at t) h ∙ rw (← e, n, ← d, q, ← b, ← s.is)))
 
-module _ (w : ℕ) (t : List ℕ) where
-  pub group_label : {x : Bool} → w ≡ 4 → x ≡ starts 40 t → x ≡ is_group w t
-  group_label e q = rw e q
-
-  pub group_other : (w ≡ 4 → ⊥) → false ≡ is_group w t
-  group_other n = rw (ne_eqb w 4 n)
-
-  pub relative_space : {x : Bool} → w ≡ 6 → x ≡ starts 46 t → x ≡ is_relative w t
-  relative_space e q = rw e q
-
-  pub relative_other : (w ≡ 6 → ⊥) → false ≡ is_relative w t
-  relative_other n = rw (ne_eqb w 6 n)
-
-module _ (w : ℕ) where
-  pub named_below : w < 4 → false ≡ within 4 8 w
-  named_below h = rw (lt-leb 4 w h)
-
-  pub named_from : 4 ≤ w → leb w 8 ≡ within 4 8 w
-  named_from h = rw (le-leb 4 w h)
-
-  pub is_named : {x : Bool} → x ≡ within 4 8 w → x ≡ true → within 4 8 w ≡ true
-  is_named e h = sym e ∙ h
-
-  pub slashes : w ≡ 5 → 2 ≡ size_before w
-  slashes e = rw e
-
-  pub slashes_object : w ≡ 6 → 2 ≡ size_before w
-  slashes_object e = rw e
-
-  pub no_slashes : (w ≡ 5 → ⊥) → (w ≡ 6 → ⊥) → 0 ≡ size_before w
-  no_slashes a b = rw (ne_eqb w 5 a, ne_eqb w 6 b)
-
-pub no_spelling : (t : List ℕ) (w k at : ℕ) {x : Word} → (w ≡ 1 → ⊥) → (w ≡ 2 → ⊥) → (w ≡ 3 → ⊥) → (w ≡ 9 → ⊥) → (w ≡ 10 → ⊥) → {n : Bool} → n ≡ within 4 8 w → n ≡ false
-    → Found t (plain_at t 6 22 at) x → Found t (take_spelled w k (drop at t)) x
+pub no_spelling : (t : List ℕ) (w : Spelling) (k at : ℕ) {x : Word} → w ≡ Unspelled → Found t (plain_at t 6 22 at) x → Found t (take_spelled w k (drop at t)) x
 unfolding take_spelled
-no_spelling t w k at a b c i j q n p =
-    found_as p (rw (ne_eqb w 1 a, ne_eqb w 2 b, ne_eqb w 3 c, other 4 refl, other 5 refl, other 6 refl, other 7 refl, other 8 refl, ne_eqb w 9 i, ne_eqb w 10 j))
-  where
-    other : (m : ℕ) → within 4 8 m ≡ true → eqb w m ≡ false
-    other m e = ne_eqb w m (λ z. true≢false (sym e ∙ ap (within 4 8) (sym z) ∙ sym q ∙ n))
+no_spelling t w k at e p = found_as p (rw e)
 
 pub ruleset found = (small_count, small_simple, plain_found, count_none, count_some, grouped, params_follow, parts_out, parts_end, parts_four, parts_three, referred, negative_none, negative_some, from_zero, text_none, text_some, bytes_none, bytes_some, name_number, name_bare, type_found)
 
 pub ruleset literals = (small_simple, literal_as, literal_integer)
 
-pub ruleset placed = (is_named, small_simple, small_count, word_found, ari_reference, ari_typed, ari_relative, ari_literal, value_group, value_word, params_map, params_array, no_spelling)
+pub ruleset placed = (small_simple, small_count, word_found, ari_reference, ari_typed, ari_relative, ari_literal, value_group, value_word, params_map, params_array, no_spelling)
 
-pub ruleset naming = (small_simple, named_below, named_from, named_group, named_relative, named_word, group_label, group_other, relative_space, relative_other, slashes, slashes_object, no_slashes)
+pub ruleset naming = (small_simple, named_group, named_relative, named_word)

@@ -1,5 +1,6 @@
 -- The ways through the functions of single bytes, numbers, escapes and heads; the premises are the facts that the code leaves.
-use Prim.Native.Nat.{ℕ, zero, suc, ◌+◌, ◌-◌, ◌*◌, ◌^◌, ◌≤◌, ◌<◌}
+use Prim.Native.Nat.{ℕ, zero, suc, ◌+◌, ◌-◌, ◌*◌, ◌/◌, ◌^◌, ◌≤◌, ◌<◌}
+use mathlib.Core.Logic.{◌⊎◌, inl, inr}
 use mathlib.Core.Path.{◌≡◌, refl, sym, ◌∙◌, ap}
 use mathlib.Core.Bool.{Bool, true, false, not, ◌&&◌, ◌||◌, cond, true≢false}
 use mathlib.Core.List.{List, [], ◌∷◌}
@@ -9,36 +10,50 @@ use native.Mathlib.Numerals.{add-one}
 use lib.ListN.{length, drop, get_or, length-drop}
 use lib.Seq.{drop-drop, drop-length, drop-nil}
 use lib.Dec.{ltb, leb, eqb}
-use borrow.Author.Tests.{lt-ltb, le-ltb, le-leb, lt-leb, ltb-true, ltb-false, ne_eqb}
+use borrow.Author.Tests.{lt-ltb, le-ltb, le-leb, lt-leb, ltb-true, ltb-false, leb-true, leb-false, eqb-true, eqb-false, ne_eqb}
 use Rattle.buffer.specs.Bytes.{within, part}
 use Rattle.buffer.specs.Put.{Put}
 use Rattle.buffer.specs.Runs.{RunTo}
-use Rattle.buffer.specs.declared.Number.{Number}
-use Rattle.buffer.specs.declared.Number.TheVariants.{Value, Bad}
+use Rattle.std.specs.declared.option.Option.{Option}
+use Rattle.std.specs.declared.option.Option.TheVariants.{Some, None}
 use Rattle.buffer.specs.Decimal.{unsigned_of}
 use Rattle.buffer.proofs.ByteLaws.{not-true, within_is}
 use Rattle.buffer.proofs.RunLaws.{here, beyond, part_all, Ahead, run_begins, run_ends, run_out, run_on}
 use Rattle.buffer.proofs.Putting.{put_nothing, put_both}
 use Rattle.text.specs.Parse.{ends, in_word, starts_by, starts, number, unhex, any, first, unescape, unhexes, starts_number, opened, commas}
 use Rattle.text_read_item.specs.declared.Escape.{Escape}
-use Rattle.text_read_item.specs.Words.{first_of, NextTo, EscapeAt, str_by, horner, key_of, comma_of}
+use Rattle.std.specs.Prelude.{Option, Some, None, min}
+use Rattle.text_read_item.specs.Words.{first_of, NextTo, StandsFor, EscapeAt, str_by, horner, key_of, comma_of}
 
 -- so many bytes on
 module _ (t : List ℕ) (p n : ℕ) where
-  pub skip_none : length t ≤ p → NextTo t p n (length t)
+  skip_none : length t ≤ p → NextTo t p n (length t)
   skip_none h = record { is = drop-length t ∙ sym (rw (beyond t p h) (drop-nil n)); inside = omega arith }
 
-  pub skip_past : length t < p → NextTo t p n (length t)
-  skip_past h = skip_none (omega arith)
-
-  pub skip_end : length t - p < n → NextTo t p n (length t)
+  skip_end : length t - p < n → NextTo t p n (length t)
   skip_end h = record { is = drop-length t ∙ sym (drop-drop n p t ∙ beyond t (p + n) (omega arith)); inside = omega arith }
 
-  pub skip_on : p ≤ length t → n ≤ length t - p → NextTo t p n (p + n)
+  skip_on : p ≤ length t → n ≤ length t - p → NextTo t p n (p + n)
   skip_on g h = record { is = sym (drop-drop n p t); inside = omega arith }
 
-  pub skip_one : {m : ℕ} → p < length t → (m ≡ n) × (m ≤ 1) → NextTo t p n (p + m)
-  skip_one h (e, l) = rw e (skip_on (omega arith) (omega arith))
+  pub skip_to : NextTo t p n (min p (length t) + min n (length t - min p (length t)))
+  skip_to = go (leb p (length t)) (leb n (length t - p)) refl refl
+    where
+      go : (x y : Bool) → leb p (length t) ≡ x → leb n (length t - p) ≡ y → NextTo t p n (min p (length t) + min n (length t - min p (length t)))
+      go true true a b =
+          let h = leb-true p (length t) a in
+          let g = leb-true n (length t - p) b in
+          let z : min p (length t) + min n (length t - min p (length t)) ≡ p + n = omega arith in
+          rw z (skip_on h g)
+      go true false a b =
+          let h = leb-true p (length t) a in
+          let g = leb-false n (length t - p) b in
+          let z : min p (length t) + min n (length t - min p (length t)) ≡ length t = omega arith in
+          rw z (skip_end g)
+      go false y a b =
+          let h = leb-false p (length t) a in
+          let z : min p (length t) + min n (length t - min p (length t)) ≡ length t = omega arith in
+          rw z (skip_none (omega arith))
 
 -- the byte at a place
 pub starts_at : (t : List ℕ) (p c : ℕ) → p < length t → eqb (get_or t p 0) c ≡ starts c (drop p t)
@@ -51,12 +66,23 @@ starts_none t p c h = rw (beyond t p h)
 
 -- the bytes that end a word
 module _ (x : ℕ) where
-  pub ends_by : {n : ℕ} → x ≡ n → true ≡ ends n → true ≡ ends x
-  ends_by e h = rw e h
-
-  pub ends_equal : (x ≡ 40 → ⊥) → (x ≡ 41 → ⊥) → (x ≡ 44 → ⊥) → (x ≡ 47 → ⊥) → eqb x 61 ≡ ends x
+  pub ends_mark : (x ≡ 44) ⊎ ((x ≡ 47) ⊎ (x ≡ 61)) → true ≡ ends x
   unfolding ends
-  ends_equal a b c d = rw (ne_eqb x 40 a, ne_eqb x 41 b, ne_eqb x 44 c, ne_eqb x 47 d)
+  ends_mark (inl e) = rw e
+  ends_mark (inr (inl e)) = rw e
+  ends_mark (inr (inr e)) = rw e
+
+  pub ends_bracket : 40 ≤ x → x ≤ 41 → true ≡ ends x
+  unfolding ends
+  ends_bracket h g = go (eqb x 40) refl
+    where
+      go : (b : Bool) → eqb x 40 ≡ b → true ≡ ends x
+      go true e = let z = eqb-true x 40 e in rw z
+      go false e = let n = eqb-false x 40 e in let z : x ≡ 41 = omega arith in rw z
+
+  pub ends_none : (x ≡ 40 → ⊥) → (x ≡ 41 → ⊥) → (x ≡ 44 → ⊥) → (x ≡ 47 → ⊥) → (x ≡ 61 → ⊥) → false ≡ ends x
+  unfolding ends
+  ends_none a b c d e = rw (ne_eqb x 40 a, ne_eqb x 41 b, ne_eqb x 44 c, ne_eqb x 47 d, ne_eqb x 61 e)
 
 -- a word grows by a byte that does not end it
 module _ (t : List ℕ) (p i : ℕ) (a : Ahead in_word t p i) {x : Bool} (h : i < length t) (e : x ≡ ends (get_or t i 0)) where
@@ -83,12 +109,12 @@ module _ (u : List ℕ) (from : ℕ) where
   unfolding number unsigned_of
   number_out h = rw (beyond u from (omega arith))
 
-  module _ {n : Number} (e : n ≡ unsigned_of (part u from (length u))) where
-    pub number_value : {v : ℕ} → n ≡ Value v → v ≡ number (drop from u)
+  module _ {n : Option ℕ} (e : n ≡ unsigned_of (part u from (length u))) where
+    pub number_value : {v : ℕ} → n ≡ Some v → v ≡ number (drop from u)
     unfolding number
     number_value q = rw (← part_all u from, ← e, q)
 
-    pub number_bad : n ≡ Bad → 0 ≡ number (drop from u)
+    pub number_bad : n ≡ None → 0 ≡ number (drop from u)
     unfolding number
     number_bad q = rw (← part_all u from, ← e, q)
 
@@ -106,17 +132,17 @@ module _ (c : ℕ) where
   unfolding unhex
   unhex_between h g = rw (le-leb 48 c (omega arith), lt-leb c 57 h, lt-leb 65 c g, lt-leb 97 c (omega arith))
 
-  pub unhex_upper : 65 ≤ c → c ≤ 70 → c - 55 ≡ unhex c
+  pub unhex_upper : 65 ≤ c → c ≤ 70 → c - 65 + 10 ≡ unhex c
   unfolding unhex
-  unhex_upper h g = rw (le-leb 48 c (omega arith), lt-leb c 57 (omega arith), le-leb 65 c h, le-leb c 70 g)
+  unhex_upper h g = rw (le-leb 48 c (omega arith), lt-leb c 57 (omega arith), le-leb 65 c h, le-leb c 70 g) (omega arith)
 
   pub unhex_gap : 70 < c → c < 97 → 0 ≡ unhex c
   unfolding unhex
   unhex_gap h g = rw (le-leb 48 c (omega arith), lt-leb c 57 (omega arith), le-leb 65 c (omega arith), lt-leb c 70 h, lt-leb 97 c g)
 
-  pub unhex_lower : 97 ≤ c → c ≤ 102 → c - 87 ≡ unhex c
+  pub unhex_lower : 97 ≤ c → c ≤ 102 → c - 97 + 10 ≡ unhex c
   unfolding unhex
-  unhex_lower h g = rw (le-leb 48 c (omega arith), lt-leb c 57 (omega arith), le-leb 65 c (omega arith), lt-leb c 70 (omega arith), le-leb 97 c h, le-leb c 102 g)
+  unhex_lower h g = rw (le-leb 48 c (omega arith), lt-leb c 57 (omega arith), le-leb 65 c (omega arith), lt-leb c 70 (omega arith), le-leb 97 c h, le-leb c 102 g) (omega arith)
 
   pub unhex_above : 102 < c → 0 ≡ unhex c
   unfolding unhex
@@ -136,42 +162,56 @@ cut_off (x ∷ []) h = refl
 cut_off (x ∷ y ∷ t) h = absurd (omega arith)
 
 module _ (u : List ℕ) (i : ℕ) where
-  pub escape_bare : i < length u → (get_or u i 0 ≡ 37 → ⊥) → EscapeAt u i (escape 1 (get_or u i 0))
+  pub escape_bare : i < length u → (get_or u i 0 ≡ 37 → ⊥) → EscapeAt u i (Some (escape 1 (get_or u i 0)))
   unfolding unescape
-  escape_bare h n = record { is = rw (here u i h, ne_eqb (get_or u i 0) 37 n); inside = omega arith }
+  escape_bare h n = record { escaped = record { is = rw (here u i h, ne_eqb (get_or u i 0) 37 n); some = omega arith; inside = omega arith } }
 
-  pub escape_cut : i < length u → get_or u i 0 ≡ 37 → length u - i < 3 → EscapeAt u i (escape 0 0)
+  pub escape_cut : i < length u → get_or u i 0 ≡ 37 → length u - i < 3 → EscapeAt u i None
   unfolding unescape
-  escape_cut h e g = record {
-    is = rw (here u i h, e) (cut_off (drop (i + 1) u) (rw (length-drop (i + 1) u) (omega arith)));
-    inside = omega arith;
-  }
+  escape_cut h e g = record { escaped = rw (here u i h, e) (cut_off (drop (i + 1) u) (rw (length-drop (i + 1) u) (omega arith))) }
 
-  pub escape_whole : {x : ℕ} → get_or u i 0 ≡ 37 → 3 ≤ length u - i → x ≡ unhex (get_or u (i + 1) 0) * 16 + unhex (get_or u (i + 1 + 1) 0) → EscapeAt u i (escape 3 x)
+  pub escape_whole : {x : ℕ} → get_or u i 0 ≡ 37 → 3 ≤ length u - i → x ≡ unhex (get_or u (i + 1) 0) * 16 + unhex (get_or u (i + 1 + 1) 0) → EscapeAt u i (Some (escape 3 x))
   unfolding unescape
   escape_whole {x} e g q =
       let a : i + 1 + 1 ≡ i + 2 = omega arith in
       let b : i + 2 + 1 ≡ i + 3 = omega arith in
       record {
-        is = rw (here u i (omega arith), e, here u (i + 1) (omega arith), q, a, here u (i + 2) (omega arith), b);
-        inside = omega arith;
+        escaped = record {
+          is = rw (here u i (omega arith), e, here u (i + 1) (omega arith), q, a, here u (i + 2) (omega arith), b);
+          some = omega arith;
+          inside = omega arith;
+        };
       }
 
-  pub escape_in : {x : Escape} → EscapeAt u i x → i + x.size ≤ length u
-  escape_in e = e.inside
+module _ {u : List ℕ} {i : ℕ} {y : Option Escape} (e : EscapeAt u i y) where
+  pub escape_none : y ≡ None → unescape any (drop i u) ≡ []
+  escape_none q = (rw q at e).escaped
+
+  pub escape_some : {x : Escape} → y ≡ Some x → StandsFor u i x
+  escape_some q = (rw q at e).escaped
 
 -- the bytes that a text's escapes stand for, counted
-module _ (u : List ℕ) (n i : ℕ) (a : n + length (unescape any (drop i u)) ≡ length (unescape any u)) where
+pub record Unescaped (u : List ℕ) (n i : ℕ) : Type 0 where
+  pub counted : n + length (unescape any (drop i u)) ≡ length (unescape any u)
+  pub few : n ≤ i
+  pub inside : i ≤ length u
+
+pub unescaped_begins : (u : List ℕ) → Unescaped u 0 0
+unescaped_begins u = record { counted = omega arith; few = omega arith; inside = omega arith }
+
+module _ (u : List ℕ) (n i : ℕ) (a : Unescaped u n i) where
   pub counted_out : length u ≤ i → n ≡ length (unescape any u)
   unfolding unescape
-  counted_out h = let z = rw (beyond u i h) at a in omega arith
+  counted_out h = let z = rw (beyond u i h) at a.counted in omega arith
 
-  module _ {x : Escape} (e : EscapeAt u i x) where
-    pub counted_cut : x.size ≡ 0 → n ≡ length (unescape any u)
-    counted_cut q = let z = rw (e.is, q) at a in omega arith
+  module _ {y : Option Escape} (e : EscapeAt u i y) where
+    pub counted_cut : y ≡ None → n ≡ length (unescape any u)
+    counted_cut q = let z = rw (escape_none e q) at a.counted in omega arith
 
-    pub counted_on : (x.size ≡ 0 → ⊥) → n + 1 + length (unescape any (drop (i + x.size) u)) ≡ length (unescape any u)
-    counted_on q = let z = rw (e.is, ne_eqb x.size 0 q) at a in omega arith
+    pub counted_on : {x : Escape} → y ≡ Some x → Unescaped u (n + 1) (i + x.size)
+    counted_on q =
+        let x = escape_some e q in
+        record { counted = (let z = rw x.is at a.counted in omega arith); few = omega (arith, x.some, a.few); inside = x.inside }
 
 -- and put: what puts the rest puts the whole
 pub record Leads (room : List ℕ) (at : ℕ) (u room' : List ℕ) (r : ℕ) (v : List ℕ) : Type 0 where
@@ -185,40 +225,31 @@ module _ {room room' u : List ℕ} {at r : ℕ} (s : List ℕ) (i : ℕ) where
   unfolding unescape
   unescaped_out a h = a.then (rw (beyond s i h) (put_nothing room' r))
 
-  module _ {x : Escape} (a : Leads room at u room' r (unescape any (drop i s))) (e : EscapeAt s i x) where
-    pub unescaped_cut : x.size ≡ 0 → Put room room' at r u
-    unescaped_cut q = a.then (rw (e.is, q) (put_nothing room' r))
+  module _ {y : Option Escape} (a : Leads room at u room' r (unescape any (drop i s))) (e : EscapeAt s i y) where
+    pub unescaped_cut : y ≡ None → Put room room' at r u
+    unescaped_cut q = a.then (rw (escape_none e q) (put_nothing room' r))
 
-    pub unescaped_on : {room'' : List ℕ} {q : ℕ} → (x.size ≡ 0 → ⊥) → Put room' room'' r q (x.byte ∷ []) → Leads room at u room'' q (unescape any (drop (i + x.size) s))
-    unescaped_on n p = record { then = λ w. a.then (rw (e.is, ne_eqb x.size 0 n) (put_both p w)) }
+    pub unescaped_on : {x : Escape} {room'' : List ℕ} {q : ℕ} → y ≡ Some x → Put room' room'' r q (x.byte ∷ []) → Leads room at u room'' q (unescape any (drop (i + x.size) s))
+    unescaped_on n p = record { then = λ w. a.then (rw (escape_some e n).is (put_both p w)) }
 
-  pub unhexed_out : Leads room at u room' r (unhexes (drop i s)) → length s ≤ i + 1 → Put room room' at r u
+-- two digits a byte
+module _ {room room' u : List ℕ} {at r : ℕ} (s : List ℕ) (i : ℕ) where
+  pub unhexed_out : Leads room at u room' r (unhexes (drop (2 * i) s)) → length s / 2 ≤ i → Put room room' at r u
   unfolding unhexes
-  unhexed_out a h = a.then (rw (few (drop i s) (rw (length-drop i s) (omega arith))) (put_nothing room' r))
+  unhexed_out a h = a.then (rw (few (drop (2 * i) s) (rw (length-drop (2 * i) s) (omega arith))) (put_nothing room' r))
     where
       few : (t : List ℕ) → length t < 2 → unhexes t ≡ []
       few [] g = refl
       few (x ∷ []) g = refl
       few (x ∷ y ∷ t) g = absurd (omega arith)
 
-  pub unhexed_on : {x : ℕ} {room'' : List ℕ} {q : ℕ} → Leads room at u room' r (unhexes (drop i s)) → i + 1 < length s
-      → x ≡ unhex (get_or s i 0) * 16 + unhex (get_or s (i + 1) 0) → Put room' room'' r q (x ∷ []) → Leads room at u room'' q (unhexes (drop (i + 2) s))
+  pub unhexed_on : {x : ℕ} {room'' : List ℕ} {q : ℕ} → Leads room at u room' r (unhexes (drop (2 * i) s)) → i < length s / 2
+      → x ≡ unhex (get_or s (2 * i) 0) * 16 + unhex (get_or s (2 * i + 1) 0) → Put room' room'' r q (x ∷ []) → Leads room at u room'' q (unhexes (drop (2 * (i + 1)) s))
   unfolding unhexes
   unhexed_on {x} a h e p =
-      let b : i + 1 + 1 ≡ i + 2 = omega arith in
-      let z : unhexes (drop i s) ≡ x ∷ unhexes (drop (i + 2) s) = rw (here s i (omega arith), here s (i + 1) (omega arith), b, e) in
+      let b : 2 * i + 1 + 1 ≡ 2 * (i + 1) = omega arith in
+      let z : unhexes (drop (2 * i) s) ≡ x ∷ unhexes (drop (2 * (i + 1)) s) = rw (here s (2 * i) (omega arith), here s (2 * i + 1) (omega arith), b, e) in
       record { then = λ w. a.then (rw z (put_both p w)) }
-
--- a string by its form
-module _ {a b : List ℕ} {at r : ℕ} (f : ℕ) (u : List ℕ) where
-  pub string_bare : f ≡ 0 → Put a b at r u → Put a b at r (str_by f u)
-  string_bare e p = rw e p
-
-  pub string_escaped : f ≡ 1 → Put a b at r (unescape any u) → Put a b at r (str_by f u)
-  string_escaped e p = rw e p
-
-  pub string_hex : (f ≡ 0 → ⊥) → (f ≡ 1 → ⊥) → Put a b at r (unhexes u) → Put a b at r (str_by f u)
-  string_hex e g p = rw (ne_eqb f 0 e, ne_eqb f 1 g) p
 
 -- what starts a number
 module _ (x : ℕ) where
@@ -230,13 +261,13 @@ module _ (x : ℕ) where
   unfolding starts_number
   low_starts n h = rw (lt-leb 48 x h, ne_eqb x 45 n)
 
-  pub digit_starts : (x ≡ 45 → ⊥) → 48 ≤ x → leb x 57 ≡ starts_number x
+  pub digit_starts : 48 ≤ x → x ≤ 57 → true ≡ starts_number x
   unfolding starts_number
-  digit_starts n h = rw (le-leb 48 x h, ne_eqb x 45 n) (go (leb x 57))
-    where
-      go : (t : Bool) → t ≡ t || false
-      go true = refl
-      go false = refl
+  digit_starts h g = rw (le-leb 48 x h, le-leb x 57 g)
+
+  pub high_starts : 57 < x → false ≡ starts_number x
+  unfolding starts_number
+  high_starts h = rw (le-leb 48 x (omega arith), lt-leb x 57 h, ne_eqb x 45 (omega arith))
 
 -- a word's key
 pub key_long : (u : List ℕ) → 7 < length u → 0 ≡ key_of u
@@ -374,10 +405,10 @@ module _ (t : List ℕ) (at e n i : ℕ) (a : Counted t at e n i) where
   unfolding commas
   count_ends {c} {o} h (p, p₁) (q, q₁) f = let z = rw (here t i h, ← p, ← q, f, no_commas (drop (i + 1) t)) at a.is in omega arith
 
-pub ruleset leaves = (skip_none, skip_past, skip_end, skip_on, skip_one, starts_at, starts_none, ends_by, ends_equal, run_begins, word_ends, run_out, word_on, first_is, first_none, number_out, number_value, number_bad, unhex_below, unhex_digit, unhex_between, unhex_upper, unhex_gap, unhex_lower, unhex_above, two_digits, escape_bare, escape_cut, escape_whole, escape_in)
+pub ruleset leaves = (skip_to, starts_at, starts_none, ends_mark, ends_bracket, ends_none, run_begins, word_ends, run_out, word_on, first_is, first_none, number_out, number_value, number_bad, unhex_below, unhex_digit, unhex_between, unhex_upper, unhex_gap, unhex_lower, unhex_above, two_digits, escape_bare, escape_cut, escape_whole)
 
-pub ruleset strings = (counted_out, counted_cut, counted_on, leads_begin, unescaped_out, unescaped_cut, unescaped_on, unhexed_out, unhexed_on, string_bare, string_escaped, string_hex, escape_in)
+pub ruleset strings = (unescaped_begins, counted_out, counted_cut, counted_on, leads_begin, unescaped_out, unescaped_cut, unescaped_on, unhexed_out, unhexed_on)
 
-pub ruleset leading = (minus_starts, low_starts, digit_starts, other_below, other_from)
+pub ruleset leading = (minus_starts, low_starts, digit_starts, high_starts)
 
 pub ruleset counting = (key_long, key_begins, key_room_left, key_on, key_sum, key_is, comma_other, comma_first, comma_deeper, closed_stays, one_opens, one_closes, none_opens, count_begins, count_out, count_past, count_on, count_ends)

@@ -1,5 +1,5 @@
 -- The spellings that are read are those of the slots; and what the head of a slot promises.
-use Prim.Native.Nat.{ℕ, ◌≤◌, ◌<◌}
+use Prim.Native.Nat.{ℕ, zero, suc, ◌+◌, ◌-◌, ◌≤◌, ◌<◌}
 use mathlib.Core.Path.{◌≡◌, refl, sym, ◌∙◌, ap}
 use mathlib.Core.Bool.{Bool, true, false, ◌&&◌, cond}
 use mathlib.Core.List.{List, [], ◌∷◌, ◌++◌}
@@ -23,6 +23,8 @@ use Rattle.text_write_item.proofs.Spelled.{spelling_of, spelling_is}
 use Rattle.text.specs.Chars.{ascii}
 use Rattle.text.specs.Text.{Name, name, names}
 use Rattle.text.specs.Parse.{in_word, number_in, type_of, type_number, Taken, take_at}
+use Rattle.text_write_item.specs.declared.Spelling.{Spelling}
+use Rattle.text_write_item.specs.declared.Spelling.TheVariants.{Unspelled, Ari, TypeName, Value, Label, Namespace, ObjectNamespace, ObjectType, ObjectId, Parameters, Key}
 use Rattle.text_read_item.specs.declared.Word.{Word}
 use Rattle.text_read_item.specs.declared.Item.{Item}
 use Rattle.text_read_item.specs.Words.{NextTo, str_by, Bounded, Found, group_of, take_spelled, Read}
@@ -54,7 +56,7 @@ take_by (ari w) u = refl
 take_by (type w) u = refl
 take_by (value y w) u = go (eqb y 14) refl
   where
-    go : (x : Bool) → eqb y 14 ≡ x → take_at (value y w) u ≡ take_spelled (cond x 4 3) (cond (eqb y 17) 4 5) u
+    go : (x : Bool) → eqb y 14 ≡ x → take_at (value y w) u ≡ take_spelled (cond x Label Value) (cond (eqb y 17) 4 5) u
     go true e = rw e
     go false e = rw e
 take_by namespace u = refl
@@ -77,7 +79,7 @@ group_is i h = eqb-true (group_of i) (group_by (slot_of i)) (all_at 72 0 (λ j. 
 
 no_slot : (i : ℕ) (u : List ℕ) → 72 ≤ i → take_at (slot_of i) u ≡ take_spelled (spelling_at i) (group_of i) u
 unfolding take_at take_spelled
-no_slot i u h = rw (get_or-eq_default slots version h, get_or-eq_default spellings 0 h)
+no_slot i u h = rw (get_or-eq_default slots version h, get_or-eq_default spellings Unspelled h)
 
 pub taken_is : (i : ℕ) (u : List ℕ) → take_at (slot_of i) u ≡ take_spelled (spelling_at i) (group_of i) u
 taken_is i u = go (ltb i 72) refl
@@ -116,12 +118,21 @@ type_most : (u : List ℕ) → type_number u ≤ 21
 unfolding type_number names most_numbers
 type_most u = number_most names u refl
 
+type_spelling : (i : ℕ) → 5 ≤ i → i ≤ 8 → spelling_at i ≡ TypeName
+type_spelling i a b = go (i - 5) (omega arith) (omega arith)
+  where
+    go : (j : ℕ) → i ≡ 5 + j → j < 4 → spelling_at i ≡ TypeName
+    go zero e h = rw e
+    go (suc zero) e h = rw e
+    go (suc (suc zero)) e h = rw e
+    go (suc (suc (suc zero))) e h = rw e
+    go (suc (suc (suc (suc j)))) e h = absurd (omega arith)
+
 pub type_arg : (i : ℕ) (u : List ℕ) → within 5 8 i ≡ true → (take_at (slot_of i) u).head.lead.arg ≤ 21
 unfolding take_spelled type_of lead_of
 type_arg i u h =
     let (a, b) = within_true 5 8 i h in
-    let w : spelling_at i ≡ 2 = eqb-true (spelling_at i) 2 (all_at 4 5 (λ j. eqb (spelling_at j) 2) refl i a (omega arith)) in
-    rw (taken_is i u, w) (type_most (front in_word u))
+    rw (taken_is i u, type_spelling i a b) (type_most (front in_word u))
 
 -- the bytes of a word
 pub word_put : {a b c : List ℕ} {at q r : ℕ} (t : List ℕ) (x : Word) → Bounded t x → Put a b at q (head_bytes x.kind x.arg)
@@ -135,11 +146,11 @@ bounded_order b = b.order
 pub bounded_inside : {t : List ℕ} {x : Word} → Bounded t x → x.to ≤ length t
 bounded_inside b = b.inside
 
-abbrev pub item : ℕ → ℕ → ℕ → ℕ → ℕ → Item
+abbrev pub item : Spelling → ℕ → ℕ → ℕ → ℕ → Item
 item w k a n r = record { spelling = w; kind = k; arg = a; next = n; end = r }
 
 -- the head of a slot
-pub head_read : (t : List ℕ) (at i : ℕ) {p w : ℕ} {room room' : List ℕ} {end r : ℕ} {g : ℕ} {x : Word} → NextTo t 0 at p → w ≡ spelling_at i → (g ≡ group_of i) × (g ≤ 5)
+pub head_read : (t : List ℕ) (at i : ℕ) {p : ℕ} {w : Spelling} {room room' : List ℕ} {end r : ℕ} {g : ℕ} {x : Word} → NextTo t 0 at p → w ≡ spelling_at i → (g ≡ group_of i) × (g ≤ 5)
     → Found t (take_spelled w g (drop p t)) x → Put room room' end r (lead_bytes (lead_of x.kind x.arg) ++ str_by x.form (part t x.from x.to))
     → Read t (take_at (slot_of i) (drop at t)) end room room' (item w x.kind x.arg x.next r)
 unfolding lead_of
@@ -163,26 +174,37 @@ pub bit_most : (x : Bool) → bool_byte x ≤ 1
 bit_most true = omega arith
 bit_most false = omega arith
 
-module _ (w k : ℕ) (m : Bool) where
-  pub after_one : (n : ℕ) → w ≡ n → 1 ≡ length (after_by n k m) → 1 ≡ length (after_by w k m)
-  after_one n h q = rw h q
+module _ (w : Spelling) (k : ℕ) (m : Bool) where
+  pub after_zero : (i : Spelling) → w ≡ i → 0 ≡ length (after_by i k m) → 0 ≡ length (after_by w k m)
+  after_zero i h q = rw h q
 
-  pub after_more : w ≡ 1 → bool_byte m ≡ length (after_by w k m)
+  pub after_more : w ≡ Ari → bool_byte m ≡ length (after_by w k m)
   unfolding after_by
   after_more h = rw h (mark m 44)
 
-  pub after_value : {x : Bool} → w ≡ 3 → x ≡ is_container k → bool_byte x ≡ length (after_by w k m)
+  pub after_value : {x : Bool} → w ≡ Value → x ≡ is_container k → bool_byte x ≡ length (after_by w k m)
   unfolding after_by closing
   after_value {x} h q = rw (h, ← q) (mark x 41)
 
-  pub after_label : {x : Bool} → w ≡ 4 → x ≡ is_container k → bool_byte x ≡ length (after_by w k m)
+  pub after_label : {x : Bool} → w ≡ Label → x ≡ is_container k → bool_byte x ≡ length (after_by w k m)
   unfolding after_by closing
   after_label {x} h q = rw (h, ← q) (mark x 41)
 
-  pub after_none : (w ≡ 1 → ⊥) → (w ≡ 2 → ⊥) → (w ≡ 3 → ⊥) → (w ≡ 4 → ⊥) → (w ≡ 5 → ⊥) → (w ≡ 6 → ⊥) → (w ≡ 7 → ⊥) → (w ≡ 9 → ⊥) → (w ≡ 10 → ⊥)
-      → 0 ≡ length (after_by w k m)
+  pub after_rest : (w ≡ Ari → ⊥) → (w ≡ Value → ⊥) → (w ≡ Label → ⊥) → (w ≡ ObjectId → ⊥) → (w ≡ Unspelled → ⊥) → 1 ≡ length (after_by w k m)
   unfolding after_by
-  after_none a b c d f g h j l =
-      rw (ne_eqb w 1 a, ne_eqb w 2 b, ne_eqb w 3 c, ne_eqb w 4 d, ne_eqb w 5 f, ne_eqb w 6 g, ne_eqb w 7 h, ne_eqb w 9 j, ne_eqb w 10 l)
+  after_rest a b c d e = go w a b c d e
+    where
+      go : (w : Spelling) → (w ≡ Ari → ⊥) → (w ≡ Value → ⊥) → (w ≡ Label → ⊥) → (w ≡ ObjectId → ⊥) → (w ≡ Unspelled → ⊥) → 1 ≡ length (after_by w k m)
+      go Ari a b c d e = absurd (a refl)
+      go Value a b c d e = absurd (b refl)
+      go Label a b c d e = absurd (c refl)
+      go ObjectId a b c d e = absurd (d refl)
+      go Unspelled a b c d e = absurd (e refl)
+      go TypeName a b c d e = refl
+      go Namespace a b c d e = refl
+      go ObjectNamespace a b c d e = refl
+      go ObjectType a b c d e = refl
+      go Parameters a b c d e = refl
+      go Key a b c d e = refl
 
-pub ruleset reading = (group_list, group_list_param, group_map, word_put, bounded_order, bounded_inside, head_read, bit_most, after_more, after_value, after_label, after_none)
+pub ruleset reading = (group_list, group_list_param, group_map, word_put, bounded_order, bounded_inside, head_read, bit_most, after_more, after_value, after_label)

@@ -1,5 +1,5 @@
 -- What the functions of a word find in a text, from a place on. Interface: NextTo, Read. Private to src/: the others. That these are the reading's own definitions is proved in proofs/WordWays.antt.
-use Rattle.std.specs.Prelude.{ℕ, ◌+◌, ◌*◌, ◌≤◌, ◌<◌, ◌≡◌, Bool, ◌&&◌, cond, List, [], ◌∷◌, ◌++◌, length, drop, ltb, eqb}
+use Rattle.std.specs.Prelude.{true, false, Option, Some, None, ℕ, ◌+◌, ◌*◌, ◌≤◌, ◌<◌, ◌≡◌, Bool, ◌&&◌, cond, List, [], ◌∷◌, ◌++◌, length, drop, ltb, eqb}
 use Prim.Native.Char.{code}
 use Rattle.buffer.specs.Bytes.{part}
 use Rattle.buffer.specs.Runs.{past}
@@ -9,7 +9,11 @@ use Rattle.buffer.specs.Put.{Put}
 use Rattle.text.specs.Chars.{ascii}
 use Rattle.text.specs.Text.{Name, name}
 use Rattle.text.specs.Parse.{in_word, starts, any, unescape, unhexes, inner, head_of, string_of, literal_of, name_of, type_of, Taken, take_word, take_group, take_ari, take_nothing}
+use Rattle.text_write_item.specs.declared.Spelling.{Spelling}
+use Rattle.text_write_item.specs.declared.Spelling.TheVariants.{Unspelled, Ari, TypeName, Value, Label, Namespace, ObjectNamespace, ObjectType, ObjectId, Parameters, Key}
 use Rattle.text_read_item.specs.declared.Word.{Word}
+use Rattle.text_read_item.specs.declared.Form.{Form}
+use Rattle.text_read_item.specs.declared.Form.TheVariants.{Bare, Escaped, Hex}
 use Rattle.text_read_item.specs.declared.Escape.{Escape}
 use Rattle.text_read_item.specs.declared.Item.{Item}
 
@@ -23,13 +27,24 @@ pub record NextTo (t : List ℕ) (p n r : ℕ) : Type 0 where
   pub inside : r ≤ length t
 
 -- the byte that an escape, or a bare byte, stands for
-pub record EscapeAt (u : List ℕ) (i : ℕ) (x : Escape) : Type 0 where
-  pub is : unescape any (drop i u) ≡ cond (eqb x.size 0) [] (x.byte ∷ unescape any (drop (i + x.size) u))
+pub record StandsFor (u : List ℕ) (i : ℕ) (x : Escape) : Type 0 where
+  pub is : unescape any (drop i u) ≡ x.byte ∷ unescape any (drop (i + x.size) u)
+  pub some : 0 < x.size
   pub inside : i + x.size ≤ length u
 
--- a string by its form: as it stands, with escapes, in hex digits
-abbrev pub str_by : ℕ → List ℕ → List ℕ
-str_by f u = cond (eqb f 0) u (cond (eqb f 1) (unescape any u) (unhexes u))
+-- an escape that is cut off stands for nothing, with all that is behind it
+abbrev pub EscapedBy : List ℕ → ℕ → Option Escape → Type 0
+EscapedBy u i (Some x) = StandsFor u i x
+EscapedBy u i None = unescape any (drop i u) ≡ []
+
+pub record EscapeAt (u : List ℕ) (i : ℕ) (x : Option Escape) : Type 0 where
+  pub escaped : EscapedBy u i x
+
+-- a string by its form
+abbrev pub str_by : Form → List ℕ → List ℕ
+str_by Bare u = u
+str_by Escaped u = unescape any u
+str_by Hex u = unhexes u
 
 -- a head whose info fits its first byte
 pub record Small (k a : ℕ) : Type 0 where
@@ -90,28 +105,77 @@ take_params t = take_group (cond (starts (code "=") (past in_word (drop 1 t))) m
 abbrev pub group_of : ℕ → ℕ
 group_of i = cond (eqb i 45) array (cond (eqb i 67) array map)
 
-unfoldable pub take_spelled : ℕ → ℕ → List ℕ → Taken
-take_spelled w k t =
-    cond (eqb w 1) (take_ari t)
-    (cond (eqb w 2) (take_word type_of t)
-    (cond (eqb w 3) (take_value literal_of k t)
-    (cond (eqb w 4) (take_value name_of k t)
-    (cond (eqb w 5) (take_word name_of (drop 2 t))
-    (cond (eqb w 6) (take_space t)
-    (cond (eqb w 7) (take_word name_of t)
-    (cond (eqb w 8) (take_word name_of t)
-    (cond (eqb w 9) (take_params t)
-    (cond (eqb w 10) (take_word literal_of t) (take_nothing t))))))))))
+unfoldable pub take_spelled : Spelling → ℕ → List ℕ → Taken
+take_spelled Unspelled k t = take_nothing t
+take_spelled Ari k t = take_ari t
+take_spelled TypeName k t = take_word type_of t
+take_spelled Value k t = take_value literal_of k t
+take_spelled Label k t = take_value name_of k t
+take_spelled Namespace k t = take_word name_of (drop 2 t)
+take_spelled ObjectNamespace k t = take_space t
+take_spelled ObjectType k t = take_word name_of t
+take_spelled ObjectId k t = take_word name_of t
+take_spelled Parameters k t = take_params t
+take_spelled Key k t = take_word literal_of t
 
 -- among the spellings of names: what may stand in place of one, and what stands before it
-abbrev pub is_group : ℕ → List ℕ → Bool
-is_group w t = eqb w 4 && starts (code "(") t
+abbrev pub is_named : Spelling → Bool
+is_named Label = true
+is_named Namespace = true
+is_named ObjectNamespace = true
+is_named ObjectType = true
+is_named ObjectId = true
+is_named Unspelled = false
+is_named Ari = false
+is_named TypeName = false
+is_named Value = false
+is_named Parameters = false
+is_named Key = false
 
-abbrev pub is_relative : ℕ → List ℕ → Bool
-is_relative w t = eqb w 6 && starts (code ".") t
+abbrev pub is_label : Spelling → Bool
+is_label Label = true
+is_label Namespace = false
+is_label ObjectNamespace = false
+is_label ObjectType = false
+is_label ObjectId = false
+is_label Unspelled = false
+is_label Ari = false
+is_label TypeName = false
+is_label Value = false
+is_label Parameters = false
+is_label Key = false
 
-abbrev pub size_before : ℕ → ℕ
-size_before w = cond (eqb w 5) 2 (cond (eqb w 6) 2 0)
+abbrev pub is_space : Spelling → Bool
+is_space ObjectNamespace = true
+is_space Label = false
+is_space Namespace = false
+is_space ObjectType = false
+is_space ObjectId = false
+is_space Unspelled = false
+is_space Ari = false
+is_space TypeName = false
+is_space Value = false
+is_space Parameters = false
+is_space Key = false
+
+abbrev pub is_group : Spelling → List ℕ → Bool
+is_group w t = is_label w && starts (code "(") t
+
+abbrev pub is_relative : Spelling → List ℕ → Bool
+is_relative w t = is_space w && starts (code ".") t
+
+abbrev pub size_before : Spelling → ℕ
+size_before Namespace = 2
+size_before ObjectNamespace = 2
+size_before Label = 0
+size_before ObjectType = 0
+size_before ObjectId = 0
+size_before Unspelled = 0
+size_before Ari = 0
+size_before TypeName = 0
+size_before Value = 0
+size_before Parameters = 0
+size_before Key = 0
 
 -- a head that was read is put as its bytes and its string's
 pub record Read (t : List ℕ) (y : Taken) (at : ℕ) (room room' : List ℕ) (x : Item) : Type 0 where

@@ -10,30 +10,40 @@ ghost use Rattle.buffer.specs.Put.{Put};
 ghost use Rattle.text_write_item.specs.Spellings.{spelling_at, after_by};
 ghost use Rattle.text.specs.Parse.{ends, in_word, starts, number, unhex, any, unescape, unhexes, integer_of, literal_of, name_of, type_of, type_number, starts_number, opened, commas, count, parts, take_word, take_reference, take_ari, take_group, take_at};
 ghost use Rattle.text.specs.Text.{names};
-ghost use Rattle.text_read_item.specs.Words.{first_of, NextTo, EscapeAt, str_by, Small, Bounded, Found, plain_at, word_at, text_word, bytes_word, key_of, key_in, comma_of, take_value, take_params, group_of, is_group, is_relative, size_before, take_spelled, Read};
+ghost use Rattle.text_read_item.specs.Words.{first_of, NextTo, EscapeAt, str_by, Small, Bounded, Found, plain_at, word_at, text_word, bytes_word, key_of, key_in, comma_of, take_value, take_params, group_of, is_group, is_relative, is_named, size_before, take_spelled, Read};
+
+use text_write_item::Spelling;
 
 // A head that was read: its slot's spelling, its kind and argument, the text behind what it writes before its members, the place behind its bytes.
 #[derive(Clone, Copy)]
 pub struct Item {
-    pub spelling: u8,
+    pub spelling: Spelling,
     pub kind: u8,
     pub arg: u64,
     pub next: usize,
     pub end: usize,
 }
 
-// A head that a word means, and where its string stands: as it is (0), with escapes (1), in hex digits (2).
+// How a string stands in a text: as it is, with escapes, in hex digits.
+#[derive(Clone, Copy)]
+enum Form {
+    Bare,
+    Escaped,
+    Hex,
+}
+
+// A head that a word means, and where its string stands.
 #[derive(Clone, Copy)]
 struct Word {
     kind: u8,
     arg: u64,
-    form: u8,
+    form: Form,
     from: usize,
     to: usize,
     next: usize,
 }
 
-// An escape or a bare byte; its size is 0 if it is cut off.
+// An escape or a bare byte: the bytes that it takes, and the byte that it stands for.
 #[derive(Clone, Copy)]
 struct Escape {
     size: usize,
@@ -44,58 +54,39 @@ struct Escape {
 pub fn skip(t: &[u8], at: usize, n: usize) -> usize
     ensures { NextTo t.now at n result }
 {
-    if t.len() < at {
-        return t.len();
-    }
-    if t.len() - at < n {
-        return t.len();
-    }
-    at + n
+    let from = at.min(t.len());
+    from + n.min(t.len() - from)
 }
 
 fn starts(t: &[u8], at: usize, c: u8) -> bool
     ensures { result ≡ starts c (drop at t.now) }
 {
-    if at < t.len() {
-        return t[at] == c;
-    }
-    false
+    at < t.len() && t[at] == c
 }
 
 fn is_end(x: u8) -> bool
     ensures { result ≡ ends x }
 {
-    match x {
-        b'(' => true,
-        b')' => true,
-        b',' => true,
-        b'/' => true,
-        _ => x == b'=',
-    }
+    matches!(x, b'(' | b')' | b',' | b'/' | b'=')
 }
 
 fn word_end(t: &[u8], at: usize) -> usize
     requires { at ≤ length t.now }
     ensures { RunTo in_word t.now at result }
 {
-    let mut i = at;
-    while i < t.len() {
+    for i in at..t.len() {
         if is_end(t[i]) {
             return i;
         }
-        i += 1;
     }
-    i
+    t.len()
 }
 
 // The first byte, or 0.
 fn first(u: &[u8]) -> u8
     ensures { result ≡ first_of u.now }
 {
-    if 0 < u.len() {
-        return u[0];
-    }
-    0
+    u.first().copied().unwrap_or(0)
 }
 
 // A number in plain decimal, from a place on; 0 for anything else.
@@ -108,33 +99,20 @@ fn number(u: &[u8], from: usize) -> u64
     }
     let n = buffer::unsigned(&u[from..end]);
     match n {
-        buffer::Number::Value(v) => v,
-        buffer::Number::Bad => 0,
+        Some(v) => v,
+        None => 0,
     }
 }
 
 fn unhex(c: u8) -> u8
     ensures { (result ≡ unhex c) × (result < 16) }
 {
-    if c < 48 {
-        return 0;
+    match c {
+        b'0'..=b'9' => c - b'0',
+        b'A'..=b'F' => c - b'A' + 10,
+        b'a'..=b'f' => c - b'a' + 10,
+        _ => 0,
     }
-    if c <= 57 {
-        return c - 48;
-    }
-    if c < 65 {
-        return 0;
-    }
-    if c <= 70 {
-        return c - 55;
-    }
-    if c < 97 {
-        return 0;
-    }
-    if c <= 102 {
-        return c - 87;
-    }
-    0
 }
 
 // The byte of two hex digits.
@@ -153,37 +131,38 @@ fn hex_at(u: &[u8], i: usize) -> u8
     unhex_two(u[i], u[i + 1])
 }
 
-fn escape_at(u: &[u8], i: usize) -> Escape
+// None is cut off.
+fn escape_at(u: &[u8], i: usize) -> Option<Escape>
     requires { i < length u.now }
     ensures { EscapeAt u.now i result }
 {
     if u[i] != b'%' {
-        return Escape {
+        return Some(Escape {
             size: 1,
             byte: u[i],
-        };
+        });
     }
     if u.len() - i < 3 {
-        return Escape { size: 0, byte: 0 };
+        return None;
     }
-    Escape {
+    Some(Escape {
         size: 3,
         byte: hex_at(u, i + 1),
-    }
+    })
 }
 
+// No `for` in these two: a step is one byte or three.
 fn unescaped_length(u: &[u8]) -> usize
     ensures { result ≡ length (unescape any u.now) }
 {
     let mut n = 0;
     let mut i = 0;
     while i < u.len() {
-        let x = escape_at(u, i);
-        if x.size == 0 {
+        let Some(Escape { size, .. }) = escape_at(u, i) else {
             return n;
-        }
+        };
         n += 1;
-        i += x.size;
+        i += size;
     }
     n
 }
@@ -194,12 +173,11 @@ fn put_unescaped(u: &[u8], out: &mut [u8], at: usize) -> usize
     let mut r = at;
     let mut i = 0;
     while i < u.len() {
-        let x = escape_at(u, i);
-        if x.size == 0 {
+        let Some(Escape { size, byte }) = escape_at(u, i) else {
             return r;
-        }
-        r = buffer::put(out, r, x.byte);
-        i += x.size;
+        };
+        r = buffer::put(out, r, byte);
+        i += size;
     }
     r
 }
@@ -208,21 +186,19 @@ fn put_unhexed(u: &[u8], out: &mut [u8], at: usize) -> usize
     ensures { Put out.old out.new at result (unhexes u.now) }
 {
     let mut r = at;
-    let mut i = 0;
-    while i + 1 < u.len() {
-        r = buffer::put(out, r, hex_at(u, i));
-        i += 2;
+    for i in 0..u.len() / 2 {
+        r = buffer::put(out, r, hex_at(u, 2 * i));
     }
     r
 }
 
-fn put_string(form: u8, u: &[u8], out: &mut [u8], at: usize) -> usize
+fn put_string(form: Form, u: &[u8], out: &mut [u8], at: usize) -> usize
     ensures { Put out.old out.new at result (str_by form u.now) }
 {
     match form {
-        0 => buffer::put_all(out, at, u),
-        1 => put_unescaped(u, out, at),
-        _ => put_unhexed(u, out, at),
+        Form::Bare => buffer::put_all(out, at, u),
+        Form::Escaped => put_unescaped(u, out, at),
+        Form::Hex => put_unhexed(u, out, at),
     }
 }
 
@@ -234,7 +210,7 @@ fn plain(t: &[u8], kind: u8, arg: u64, next: usize) -> Word
     Word {
         kind,
         arg,
-        form: 0,
+        form: Form::Bare,
         from: next,
         to: next,
         next,
@@ -268,7 +244,7 @@ fn text_of(t: &[u8], from: usize, to: usize) -> Word
     Word {
         kind: 3,
         arg: n as u64,
-        form: 1,
+        form: Form::Escaped,
         from: from + 3,
         to: to - 3,
         next: to,
@@ -286,7 +262,7 @@ fn bytes_of(t: &[u8], from: usize, to: usize) -> Word
     Word {
         kind: 2,
         arg: ((to - from - 7) / 2) as u64,
-        form: 2,
+        form: Form::Hex,
         from: from + 4,
         to: to - 3,
         next: to,
@@ -311,13 +287,7 @@ fn literal_of(t: &[u8], from: usize, to: usize) -> Word
 fn starts_number(x: u8) -> bool
     ensures { result ≡ starts_number x }
 {
-    if x == b'-' {
-        return true;
-    }
-    if x < 48 {
-        return false;
-    }
-    x <= 57
+    matches!(x, b'-' | b'0'..=b'9')
 }
 
 fn name_of(t: &[u8], from: usize, to: usize) -> Word
@@ -330,7 +300,7 @@ fn name_of(t: &[u8], from: usize, to: usize) -> Word
     Word {
         kind: 3,
         arg: (to - from) as u64,
-        form: 0,
+        form: Form::Bare,
         from,
         to,
         next: to,
@@ -353,10 +323,8 @@ fn key_of(u: &[u8]) -> u64
         return 0;
     }
     let mut n = 0u64;
-    let mut i = 0;
-    while i < u.len() {
-        n = shift_in(n, u[i]);
-        i += 1;
+    for x in u {
+        n = shift_in(n, *x);
     }
     u.len() as u64 * 72057594037927936 + n
 }
@@ -421,23 +389,14 @@ fn opened(e: usize, x: u8) -> usize
 fn comma(e: usize, x: u8) -> u64
     ensures { (result ≡ comma_of e x) × (result ≤ 1) }
 {
-    if x != b',' {
-        return 0;
-    }
-    if e == 1 {
-        return 1;
-    }
-    0
+    u64::from(x == b',' && e == 1)
 }
 
 // Neither a comma nor a parenthesis, nor one of the two bytes between these: most of a text is passed by with one test a byte.
 fn is_other(x: u8) -> bool
     ensures { result ≡ not (within 40 44 x) }
 {
-    if x < b'(' {
-        return true;
-    }
-    b',' < x
+    x < b'(' || b',' < x
 }
 
 fn commas(t: &[u8], at: usize) -> u64
@@ -446,10 +405,8 @@ fn commas(t: &[u8], at: usize) -> u64
 {
     let mut e = 1;
     let mut n = 0;
-    let mut i = at;
-    while i < t.len() {
+    for i in at..t.len() {
         let x = t[i];
-        i += 1;
         if is_other(x) {
             continue;
         }
@@ -585,49 +542,32 @@ fn params_at(t: &[u8], at: usize) -> Word
 }
 
 // A group in place of a label.
-fn is_group(t: &[u8], at: usize, spelling: u8) -> bool
+fn is_group(t: &[u8], at: usize, spelling: Spelling) -> bool
     ensures { result ≡ is_group spelling (drop at t.now) }
 {
-    if spelling == text_write_item::AS_LABEL {
-        return starts(t, at, b'(');
-    }
-    false
+    matches!(spelling, Spelling::Label) && starts(t, at, b'(')
 }
 
 // A full stop in place of an object's namespace.
-fn is_relative(t: &[u8], at: usize, spelling: u8) -> bool
+fn is_relative(t: &[u8], at: usize, spelling: Spelling) -> bool
     ensures { result ≡ is_relative spelling (drop at t.now) }
 {
-    if spelling == text_write_item::AS_OBJECT_NAMESPACE {
-        return starts(t, at, b'.');
-    }
-    false
+    matches!(spelling, Spelling::ObjectNamespace) && starts(t, at, b'.')
 }
 
 // The two slashes before a namespace.
-fn size_before(spelling: u8) -> usize
+fn size_before(spelling: Spelling) -> usize
     ensures { result ≡ size_before spelling }
 {
     match spelling {
-        text_write_item::AS_NAMESPACE => 2,
-        text_write_item::AS_OBJECT_NAMESPACE => 2,
+        Spelling::Namespace | Spelling::ObjectNamespace => 2,
         _ => 0,
     }
 }
 
-// From labels to ids, what is spelled as names are.
-fn is_named(spelling: u8) -> bool
-    ensures { result ≡ within 4 8 spelling }
-{
-    if spelling < text_write_item::AS_LABEL {
-        return false;
-    }
-    spelling <= text_write_item::AS_OBJECT_ID
-}
-
-// All of these, so that `name_at` has one caller and stands in the walk's loop.
-fn named_at(t: &[u8], at: usize, spelling: u8, kind: u8) -> Word
-    requires { (at ≤ length t.now) × (kind ≤ 5) × (within 4 8 spelling ≡ true) }
+// From labels to ids, what is spelled as names are: all of these, so that `name_at` has one caller and stands in the walk's loop.
+fn named_at(t: &[u8], at: usize, spelling: Spelling, kind: u8) -> Word
+    requires { (at ≤ length t.now) × (kind ≤ 5) × (is_named spelling ≡ true) }
     ensures { Found t.now (take_spelled spelling kind (drop at t.now)) result }
 {
     if is_group(t, at, spelling) {
@@ -641,22 +581,22 @@ fn named_at(t: &[u8], at: usize, spelling: u8, kind: u8) -> Word
     name_at(t, p)
 }
 
-fn take_spelled(t: &[u8], at: usize, spelling: u8, kind: u8) -> Word
+fn take_spelled(t: &[u8], at: usize, spelling: Spelling, kind: u8) -> Word
     requires { (at ≤ length t.now) × (kind ≤ 5) }
     ensures { Found t.now (take_spelled spelling kind (drop at t.now)) result }
 {
     match spelling {
-        text_write_item::AS_ARI => ari_at(t, at),
-        text_write_item::AS_TYPE => type_at(t, at),
-        text_write_item::AS_VALUE => value_at(t, at, kind),
-        text_write_item::AS_PARAMETERS => params_at(t, at),
-        text_write_item::AS_KEY => literal_at(t, at),
-        _ => {
-            if is_named(spelling) {
-                return named_at(t, at, spelling, kind);
-            }
-            plain(t, cbor::SIMPLE, 22, at)
-        }
+        Spelling::Ari => ari_at(t, at),
+        Spelling::TypeName => type_at(t, at),
+        Spelling::Value => value_at(t, at, kind),
+        Spelling::Parameters => params_at(t, at),
+        Spelling::Key => literal_at(t, at),
+        Spelling::Label => named_at(t, at, spelling, kind),
+        Spelling::Namespace => named_at(t, at, spelling, kind),
+        Spelling::ObjectNamespace => named_at(t, at, spelling, kind),
+        Spelling::ObjectType => named_at(t, at, spelling, kind),
+        Spelling::ObjectId => named_at(t, at, spelling, kind),
+        Spelling::Unspelled => plain(t, cbor::SIMPLE, 22, at),
     }
 }
 
@@ -665,8 +605,7 @@ fn group_of(slot: u64) -> u8
     ensures { (result ≡ group_of slot) × (result ≤ 5) }
 {
     match slot {
-        45 => cbor::ARRAY,
-        67 => cbor::ARRAY,
+        45 | 67 => cbor::ARRAY,
         _ => cbor::MAP,
     }
 }
@@ -707,29 +646,22 @@ pub fn size_after(slot: u64, kind: u8, more: bool) -> usize
 }
 
 // The same by the slot's spelling, a byte at most.
-fn length_after(spelling: u8, kind: u8, more: bool) -> usize
+fn length_after(spelling: Spelling, kind: u8, more: bool) -> usize
     ensures { (result ≡ length (after_by spelling kind more)) × (result ≤ 1) }
 {
     match spelling {
-        text_write_item::AS_ARI => more as usize,
-        text_write_item::AS_TYPE => 1,
-        text_write_item::AS_VALUE => text_write_item::is_container(kind) as usize,
-        text_write_item::AS_LABEL => text_write_item::is_container(kind) as usize,
-        text_write_item::AS_NAMESPACE => 1,
-        text_write_item::AS_OBJECT_NAMESPACE => 1,
-        text_write_item::AS_OBJECT_TYPE => 1,
-        text_write_item::AS_PARAMETERS => 1,
-        text_write_item::AS_KEY => 1,
-        _ => 0,
+        Spelling::Ari => more as usize,
+        Spelling::Value => text_write_item::is_container(kind) as usize,
+        Spelling::Label => text_write_item::is_container(kind) as usize,
+        Spelling::ObjectId => 0,
+        Spelling::Unspelled => 0,
+        _ => 1,
     }
 }
 
 // The place behind that text, or the end.
-pub fn skip_after(t: &[u8], at: usize, spelling: u8, kind: u8, more: bool) -> usize
+pub fn skip_after(t: &[u8], at: usize, spelling: Spelling, kind: u8, more: bool) -> usize
     ensures { NextTo t.now at (length (after_by spelling kind more)) result }
 {
-    if t.len() <= at {
-        return t.len();
-    }
-    at + length_after(spelling, kind, more)
+    skip(t, at, length_after(spelling, kind, more))
 }

@@ -30,26 +30,25 @@ use Rattle.ari.specs.Rules.{Is}
 use Rattle.ari.proofs.Due.{Fit, prev_after, container_string}
 use Rattle.ari.proofs.Weight.{well_fit}
 use Rattle.ari.proofs.Demand.{stands_fit, demand_two}
-use Rattle.reader.specs.declared.End.{End}
-use Rattle.reader.specs.declared.End.TheVariants as ends
-use Rattle.reader.specs.declared.Answer.{Answer}
-use Rattle.reader.specs.declared.Answer.TheVariants as answers
-use Rattle.reader.specs.Answers.{answer_of}
+use Rattle.std.specs.Prelude.{Option, Some, None, Result, Ok, Err}
+use Rattle.ari.specs.declared.Refusal.{Refusal}
+use Rattle.ari.specs.Refusals.{refused}
+use Rattle.reader.specs.Results.{result_of}
+use Rattle.reader.proofs.Results as results
 use Rattle.reader.specs.Steps.{string_end}
 use Rattle.text.specs.Text.{Form, spelled, none_at, is_float, float_in, is_set, is_relative, form, an_ari_due}
 use Rattle.text.specs.Chars.{ascii}
-use Rattle.text.specs.Answer.{write_text}
+use Rattle.text.specs.Answer.{written, write_text}
 use Rattle.text.proofs.Leads.{no_string}
 use Rattle.buffer.specs.Put.{Put}
 use Rattle.buffer.proofs.Putting.{put_nothing, put_both}
 use Rattle.text_write.specs.declared.Outer.{Outer}
-use Rattle.text_write.specs.declared.Float.{Float}
-use Rattle.text_write.specs.declared.Float.TheVariants.{At, Nowhere}
-use Rattle.text_write.specs.declared.Spelling.TheVariants as spellings
+use Rattle.text_write.specs.declared.Outer.TheVariants.{Set, Relative, Other}
+use Rattle.text_write.specs.declared.Spelling.{Spelling}
 use Rattle.text_write.specs.declared.Pos.{Pos}
 use Rattle.text_write.specs.Walks.{Writes}
-use Rattle.text_write.specs.Forms.{set_by, neither, member_by, outer_of, is_whole, Laid, float_of, FloatAt}
-use Rattle.text_write.specs.Written.{spelling_of, scheme_of, WritesWhole}
+use Rattle.text_write.specs.Forms.{set_by, outer_as, member_by, outer_of, is_whole, Laid, float_of, FloatAt}
+use Rattle.text_write.specs.Written.{spelling_by, spelling_of, scheme_of, WritesWhole}
 use Rattle.text_write.proofs.Taking.{found, end_is, end_in}
 use Rattle.text_write.proofs.Writing.{behind}
 
@@ -67,19 +66,25 @@ module _ (n a : ℕ) where
   no_set_lem e = rw (ne_eqb n 2 e)
 
 module _ (n : ℕ) {h : Head} where
-  pub member_good : {k a q : ℕ} {x : Bool} → h ≡ Good k a q → x ≡ set_by n a → record { set = x; relative = eqb k 6 } ≡ member_by n h
-  member_good e f = rw (e, f)
+  pub member_set : {k a q : ℕ} {x : Bool} → h ≡ Good k a q → x ≡ set_by n a → x ≡ true → Set ≡ member_by n h
+  member_set e f g = rw (e, ← f, g)
 
-  pub member_bad : {r : ℕ} → h ≡ Bad r → neither ≡ member_by n h
+  pub member_relative : {k a q : ℕ} {x : Bool} → h ≡ Good k a q → x ≡ set_by n a → x ≡ false → k ≡ 6 → Relative ≡ member_by n h
+  member_relative e f g i = rw (e, ← f, g, i)
+
+  pub member_other : {k a q : ℕ} {x : Bool} → h ≡ Good k a q → x ≡ set_by n a → x ≡ false → (k ≡ 6 → ⊥) → Other ≡ member_by n h
+  member_other {k} e f g i = rw (e, ← f, g, ne_eqb k 6 i)
+
+  pub member_bad : {r : ℕ} → h ≡ Bad r → Other ≡ member_by n h
   member_bad e = rw e
 
 module _ (b : List ℕ) {h : Head} (e : h ≡ head_at b 0) where
-  pub outer_bad : {r : ℕ} → h ≡ Bad r → neither ≡ outer_of b
+  pub outer_bad : {r : ℕ} → h ≡ Bad r → Other ≡ outer_of b
   unfolding outer_of
   outer_bad q = rw (← e, q)
 
   module _ {k a q : ℕ} (g : h ≡ Good k a q) where
-    pub outer_leaf : (k ≡ 4 → ⊥) → neither ≡ outer_of b
+    pub outer_leaf : (k ≡ 4 → ⊥) → Other ≡ outer_of b
     unfolding outer_of
     outer_leaf n = rw (← e, g, ne_eqb k 4 n)
 
@@ -104,7 +109,7 @@ array_container : (k : ℕ) → k ≡ 4 → is_container k ≡ true
 unfolding is_container
 array_container k e = rw e
 
-outer_of_lem : (b : List ℕ) (g : Items) → Fit g false (due (ari alone) 0) [] → encode g ≡ b → outer_of b ≡ record { set = is_set g; relative = is_relative g }
+outer_of_lem : (b : List ℕ) (g : Items) → Fit g false (due (ari alone) 0) [] → encode g ≡ b → outer_of b ≡ outer_as (is_set g) (is_relative g)
 unfolding outer_of is_set is_relative set_by
 outer_of_lem b none f e = absurd f
 outer_of_lem b (item l s ms rs) f e = rw (found b 0 l (s ++ (encode ms ++ encode rs)) f.0.head (sym e)) (go ms refl (eqb l.kind 4) refl)
@@ -113,10 +118,10 @@ outer_of_lem b (item l s ms rs) f e = rw (found b 0 l (s ++ (encode ms ++ encode
     w = well_fit (item l s ms rs) false (due (ari alone) 0) [] f
 
     go : (m : Items) → ms ≡ m → (t : Bool) → eqb l.kind 4 ≡ t
-        → cond t (member_by l.arg (head_at b (0 + size l))) neither ≡ record { set = is_set (item l s m rs); relative = is_relative (item l s m rs) }
+        → cond t (member_by l.arg (head_at b (0 + size l))) Other ≡ outer_as (is_set (item l s m rs)) (is_relative (item l s m rs))
     go none q t h = leaf t h
       where
-        leaf : (t : Bool) → eqb l.kind 4 ≡ t → cond t (member_by l.arg (head_at b (0 + size l))) neither ≡ neither
+        leaf : (t : Bool) → eqb l.kind 4 ≡ t → cond t (member_by l.arg (head_at b (0 + size l))) Other ≡ Other
         leaf true h = absurd (always_due l.arg (rw (q, array_level l h) at f.1))
         leaf false h = refl
     go (item l₁ s₁ m₁ r₁) q true h =
@@ -132,7 +137,7 @@ outer_of_lem b (item l s ms rs) f e = rw (found b 0 l (s ++ (encode ms ++ encode
 
 -- The first float.
 pub record Onto (b : List ℕ) (p : ℕ) : Type 0 where
-  pub then : {r : Float} → FloatAt b p r → FloatAt b 0 r
+  pub then : {r : Option ℕ} → FloatAt b p r → FloatAt b 0 r
 
 pub starts : (b : List ℕ) → Onto b 0
 starts b = record { then = λ x. x }
@@ -140,18 +145,18 @@ starts b = record { then = λ x. x }
 long_enough : (b : List ℕ) (p : ℕ) (l : Lead) (y : List ℕ) → drop p b ≡ lead_bytes l ++ y → p < length b
 long_enough b p l y e = omega (arith, simp (length-drop, length-append) at (ap length e), length_lead l)
 
-pub over : (b : List ℕ) (p : ℕ) → Onto b p → length b ≤ p → FloatAt b 0 Nowhere
+pub over : (b : List ℕ) (p : ℕ) → Onto b p → length b ≤ p → FloatAt b 0 None
 over b p o h = o.then (record { first_of = go })
   where
-    go : (xs : List Spot) → Laid b p xs → Nowhere ≡ float_of (float_in xs)
+    go : (xs : List Spot) → Laid b p xs → None ≡ float_of (float_in xs)
     go [] l = refl
     go (x ∷ xs) l = absurd (omega (arith, long_enough b p x.lead _ l.3))
 
 module _ (b : List ℕ) (p : ℕ) (o : Onto b p) (i : p < length b) {h : Head} (e : h ≡ head_at b p) where
-  pub float_no_head : {r : ℕ} → h ≡ Bad r → FloatAt b 0 Nowhere
+  pub float_no_head : {r : ℕ} → h ≡ Bad r → FloatAt b 0 None
   float_no_head {r} q = o.then (record { first_of = go })
     where
-      go : (xs : List Spot) → Laid b p xs → Nowhere ≡ float_of (float_in xs)
+      go : (xs : List Spot) → Laid b p xs → None ≡ float_of (float_in xs)
       go [] l = absurd (omega arith)
       go (x ∷ xs) l =
           absurd (let y = sym q ∙ e ∙ found b p x.lead _ l.1 l.3 in let z : ◌≡◌ {A = ℕ} 0 1 = cc in omega arith)
@@ -166,32 +171,32 @@ module _ (b : List ℕ) (p : ℕ) (o : Onto b p) (i : p < length b) {h : Head} (
     next_of : (l : Lead) (y : List ℕ) → Sound l → drop p b ≡ lead_bytes l ++ y → n ≡ p + size l
     next_of l y s d = let z = sym q ∙ e ∙ found b p l y s d in cc
 
-    pub a_float : 7 ≤ k → FloatAt b 0 (At p)
+    pub a_float : 7 ≤ k → FloatAt b 0 (Some p)
     unfolding is_float
     a_float f = o.then (record { first_of = go })
       where
-        go : (xs : List Spot) → Laid b p xs → At p ≡ float_of (float_in xs)
+        go : (xs : List Spot) → Laid b p xs → Some p ≡ float_of (float_in xs)
         go [] l = absurd (omega arith)
         go (x ∷ xs) l =
             let g : 7 ≤ x.lead.kind = rw (← kind_of x.lead _ l.1 l.3) f in
             rw (le-leb 7 x.lead.kind g, l.0)
 
-    ends_of : {u : End} → u ≡ string_end b k a n → (x : Spot) (xs : List Spot) → Laid b p (x ∷ xs) → u ≡ ends.At (inside_at p x.lead x.str)
+    ends_of : {u : Option ℕ} → u ≡ string_end b k a n → (x : Spot) (xs : List Spot) → Laid b p (x ∷ xs) → u ≡ Some (inside_at p x.lead x.str)
     ends_of m x xs l =
         m ∙ rw (kind_of x.lead _ l.1 l.3, arg_of x.lead _ l.1 l.3, next_of x.lead _ l.1 l.3) (end_is b p x.lead x.str _ l.2 l.3 (omega arith))
 
-    pub float_short : {u : End} → u ≡ string_end b k a n → u ≡ ends.Short → FloatAt b 0 Nowhere
+    pub float_short : {u : Option ℕ} → u ≡ string_end b k a n → u ≡ None → FloatAt b 0 None
     float_short {u} m s = o.then (record { first_of = go })
       where
-        go : (xs : List Spot) → Laid b p xs → Nowhere ≡ float_of (float_in xs)
+        go : (xs : List Spot) → Laid b p xs → None ≡ float_of (float_in xs)
         go [] l = absurd (omega arith)
         go (x ∷ xs) l = absurd (let y = sym s ∙ ends_of m x xs l in let z : ◌≡◌ {A = ℕ} 0 1 = cc in omega arith)
 
-    pub float_on : k < 7 → {u : End} → u ≡ string_end b k a n → {j : ℕ} → u ≡ ends.At j → Onto b j
+    pub float_on : k < 7 → {u : Option ℕ} → u ≡ string_end b k a n → {j : ℕ} → u ≡ Some j → Onto b j
     unfolding is_float
     float_on f {u} m {j} s = record { then = λ r. o.then (record { first_of = go r.first_of }) }
       where
-        go : {r : Float} → ((ys : List Spot) → Laid b j ys → r ≡ float_of (float_in ys)) → (xs : List Spot) → Laid b p xs → r ≡ float_of (float_in xs)
+        go : {r : Option ℕ} → ((ys : List Spot) → Laid b j ys → r ≡ float_of (float_in ys)) → (xs : List Spot) → Laid b p xs → r ≡ float_of (float_in xs)
         go t [] l = absurd (omega arith)
         go t (x ∷ xs) l =
             let g : x.lead.kind < 7 = rw (← kind_of x.lead _ l.1 l.3) f in
@@ -206,7 +211,7 @@ module _ (b : List ℕ) (p : ℕ) (o : Onto b p) (i : p < length b) {h : Head} (
       pub next_in : n ≤ length b
       next_in = passed.1
 
-      module _ {u : End} (m : u ≡ string_end b k a n) {j : ℕ} (s : u ≡ ends.At j) where
+      module _ {u : Option ℕ} (m : u ≡ string_end b k a n) {j : ℕ} (s : u ≡ Some j) where
         pub string_in : j ≤ length b
         string_in = (end_in b k a n passed.1 (sym m ∙ s)).1
 
@@ -254,7 +259,7 @@ module _ (b : List ℕ) (p : ℕ) (o : Onto b p) (i : p < length b) {r : Bool} (
   unfolding is_float
   float_past = record { then = λ r. o.then (record { first_of = go r.first_of }) }
     where
-      go : {r : Float} → ((ys : List Spot) → Laid b (p + 1) ys → r ≡ float_of (float_in ys)) → (xs : List Spot) → Laid b p xs → r ≡ float_of (float_in xs)
+      go : {r : Option ℕ} → ((ys : List Spot) → Laid b (p + 1) ys → r ≡ float_of (float_in ys)) → (xs : List Spot) → Laid b p xs → r ≡ float_of (float_in xs)
       go t [] l = absurd (omega arith)
       go t (x ∷ xs) l =
           let (k, z, n) = whole_kind x.lead l.1 (get_or b p 0) (lead_first b p x.lead _ l.3) (sym e ∙ w) in
@@ -281,11 +286,11 @@ laid b (item h str ms rs) (due s n) prev p d ys z f e l =
     let m = laid b ms (members s h) [] q₀ (suc d) (zs ++ ys) (encode rs ++ z) f.1 d₀ r in
     (refl, f.0.head, f.0.sized, c₁ ∙ rw d₀ (simp append_assoc), rw (append_assoc xs zs ys) m)
 
-float_form : (x : Form) {p : ℕ} → float_of x ≡ At p → x ≡ none_at p
+float_form : (x : Form) {p : ℕ} → float_of x ≡ Some p → x ≡ none_at p
 float_form spelled e = absurd (let z : ◌≡◌ {A = ℕ} 0 1 = cc in omega arith)
 float_form (none_at p) e = cc
 
-no_float_form : (x : Form) → float_of x ≡ Nowhere → x ≡ spelled
+no_float_form : (x : Form) → float_of x ≡ None → x ≡ spelled
 no_float_form spelled e = refl
 no_float_form (none_at p) e = absurd (let z : ◌≡◌ {A = ℕ} 0 1 = cc in omega arith)
 
@@ -297,7 +302,7 @@ module _ (m : Limits) (b : List ℕ) (n : ℕ) (i : Is m Single b (decode b) n) 
   grammar : Fit tree false (due (ari alone) 0) []
   grammar = stands_fit i.stands
 
-  outer_right : outer_of b ≡ record { set = is_set tree; relative = is_relative tree }
+  outer_right : outer_of b ≡ outer_as (is_set tree) (is_relative tree)
   outer_right = outer_of_lem b tree grammar i.bytes
 
   all_laid : Laid b 0 (spots tree false (due (ari alone) 0) 0 0)
@@ -307,45 +312,51 @@ module _ (m : Limits) (b : List ℕ) (n : ℕ) (i : Is m Single b (decode b) n) 
       rw append-nil at (laid b tree (due (ari alone) 0) [] 0 0 [] [] grammar e (omega arith))
 
   module _ (bs : all is_byte b ≡ true) {o : Outer} (e : o ≡ outer_of b) where
-    pub a_set : o.set ≡ true → spellings.None 14 0 ≡ spelling_of m b
+    outer_is : o ≡ outer_as (is_set tree) (is_relative tree)
+    outer_is = e ∙ outer_right
+
+    set_is : (x y : Bool) → outer_as x y ≡ Set → x ≡ true
+    set_is true y q = refl
+    set_is false true q = absurd (let z : ◌≡◌ {A = ℕ} 0 1 = cc in omega arith)
+    set_is false false q = absurd (let z : ◌≡◌ {A = ℕ} 0 1 = cc in omega arith)
+
+    pub a_set : o ≡ Set → refused 14 0 ≡ spelling_of m b
     unfolding spelling_of write_text form
-    a_set s =
-        let t : is_set tree ≡ true = ap (λ (x : Outer). x.set) (sym outer_right ∙ sym e) ∙ s in
-        rw ((demand_two m Single b n bs).1 i, t)
+    a_set s = rw ((demand_two m Single b n bs).1 i, set_is (is_set tree) (is_relative tree) (sym outer_is ∙ s))
 
-    module _ (s : o.set ≡ false) {f : Float} (c : FloatAt b 0 f) where
-      unset : is_set tree ≡ false
-      unset = ap (λ (x : Outer). x.set) (sym outer_right ∙ sym e) ∙ s
+    shown : (x y z : Bool) → outer_as x y ≡ outer_as false z → (x ≡ false) × (y ≡ z)
+    shown true y true q = absurd (let z : ◌≡◌ {A = ℕ} 0 1 = cc in omega arith)
+    shown true y false q = absurd (let z : ◌≡◌ {A = ℕ} 0 1 = cc in omega arith)
+    shown false true true q = (refl, refl)
+    shown false true false q = absurd (let z : ◌≡◌ {A = ℕ} 0 1 = cc in omega arith)
+    shown false false true q = absurd (let z : ◌≡◌ {A = ℕ} 0 1 = cc in omega arith)
+    shown false false false q = (refl, refl)
 
-      pub has_float : {p : ℕ} → f ≡ At p → spellings.None 14 p ≡ spelling_of m b
+    -- no set
+    module _ (x : Bool) (s : o ≡ outer_as false x) {f : Option ℕ} (c : FloatAt b 0 f) where
+      plain : (is_set tree ≡ false) × (is_relative tree ≡ x)
+      plain = shown (is_set tree) (is_relative tree) x (sym outer_is ∙ s)
+
+      pub has_float : {p : ℕ} → f ≡ Some p → refused 14 p ≡ spelling_of m b
       unfolding spelling_of write_text form
       has_float q =
           let t = float_form (float_in (spots tree false (due (ari alone) 0) 0 0)) (sym (c.first_of (spots tree false (due (ari alone) 0) 0 0) all_laid) ∙ q) in
-          rw ((demand_two m Single b n bs).1 i, unset, t)
+          rw ((demand_two m Single b n bs).1 i, plain.0, t)
 
-      pub has_form : f ≡ Nowhere → spellings.Has o.relative n ≡ spelling_of m b
+      pub has_form : f ≡ None → Ok (record { relative = x; count = n }) ≡ spelling_of m b
       unfolding spelling_of write_text form
       has_form q =
           let t = no_float_form (float_in (spots tree false (due (ari alone) 0) 0 0)) (sym (c.first_of (spots tree false (due (ari alone) 0) 0 0) all_laid) ∙ q) in
-          let r : o.relative ≡ is_relative tree = ap (λ (x : Outer). x.relative) (e ∙ outer_right) in
-          rw ((demand_two m Single b n bs).1 i, unset, t, r)
+          rw ((demand_two m Single b n bs).1 i, plain.0, t, plain.1)
 
 -- the reading's answer
-module _ (m : Limits) (b : List ℕ) {a : Answer} (e : a ≡ answer_of (read m Single b)) where
-  accepted_by : (x : Rattle.ari.specs.Reader.Answer) {n : ℕ} → answer_of x ≡ answers.Accepted n → x ≡ accept n
-  accepted_by (refuse r p) q = absurd (let z : ◌≡◌ {A = ℕ} 0 1 = cc in omega arith)
-  accepted_by (accept n) q = cc
+module _ (m : Limits) (b : List ℕ) {a : Result ℕ Refusal} (e : a ≡ result_of (read m Single b)) where
+  pub is_accepted : {n : ℕ} → all is_byte b ≡ true → a ≡ Ok n → Is m Single b (decode b) n
+  is_accepted {n} bs q = (demand_two m Single b n bs).0 (results.is_accepted m Single b e q)
 
-  refused_by : (x : Rattle.ari.specs.Reader.Answer) {r p : ℕ} → answer_of x ≡ answers.Refused r p → x ≡ refuse r p
-  refused_by (refuse r p) q = cc
-  refused_by (accept n) q = absurd (let z : ◌≡◌ {A = ℕ} 0 1 = cc in omega arith)
-
-  pub is_accepted : {n : ℕ} → all is_byte b ≡ true → a ≡ answers.Accepted n → Is m Single b (decode b) n
-  is_accepted {n} bs q = (demand_two m Single b n bs).0 (accepted_by (read m Single b) (sym e ∙ q))
-
-  pub is_refused : {r p : ℕ} → a ≡ answers.Refused r p → spellings.None r p ≡ spelling_of m b
+  pub is_refused : {f : Refusal} → a ≡ Err f → Err f ≡ spelling_of m b
   unfolding spelling_of write_text
-  is_refused q = rw (refused_by (read m Single b) (sym e ∙ q))
+  is_refused q = results.is_refused m Single b e q (λ x. spelling_by (is_relative (decode b)) (written x (decode b))) (λ r p. refl)
 
 -- the whole text
 pub scheme_none : (room : List ℕ) (x : Bool) → x ≡ true → Put room room 0 0 (scheme_of x)
@@ -358,4 +369,4 @@ pub whole : (b : List ℕ) (d : ℕ) (x : Bool) {r : ℕ} {room room₁ room₂ 
     → WritesWhole b d x w.end room room₂
 whole b d x p s = record { text_of_lem = λ g f e. put_both p (s.text_of_lem g [] [] f (sym e ∙ sym (append-nil (encode g)))).1 }
 
-pub ruleset forming = (set_20, set_21, no_set_lem, member_good, member_bad, outer_bad, outer_leaf, outer_array, starts, over, whole_bit, float_past, float_no_head, a_float, float_short, float_on, next_in, string_in, string_on, a_set, has_float, has_form, is_accepted, is_refused, scheme_none, scheme_put, whole)
+pub ruleset forming = (set_20, set_21, no_set_lem, member_set, member_relative, member_other, member_bad, outer_bad, outer_leaf, outer_array, starts, over, whole_bit, float_past, float_no_head, a_float, float_short, float_on, next_in, string_in, string_on, a_set, has_float, has_form, is_accepted, is_refused, scheme_none, scheme_put, whole)

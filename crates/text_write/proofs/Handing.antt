@@ -23,16 +23,17 @@ use Rattle.ari.proofs.RulesFit.{here_ari}
 use Rattle.buffer.specs.Bytes.{part}
 use Rattle.buffer.proofs.ByteLaws.{all_bytes}
 use Rattle.text.specs.Text.{an_ari_due, is_relative, is_set, text_of}
+use Rattle.std.specs.Prelude.{Result, Ok, Err}
+use Rattle.ari.specs.declared.Refusal.{Refusal}
+use Rattle.ari.specs.Refusals as refusals
 use Rattle.text.specs.Answer.{Spelled, Output, refused, output, write_text, lent, cut, longest}
 use Rattle.text.proofs.Outer.{inward, texted}
 use Rattle.text.proofs.Round.{write_exactly, text_short}
 use Rattle.buffer.specs.Put.{Put}
 use Rattle.buffer.proofs.Putting.{sets_append, put_out, put_end}
 use Rattle.text_write.specs.declared.Spelling.{Spelling}
-use Rattle.text_write.specs.declared.Spelling.TheVariants.{Has, None}
 use Rattle.text_write.specs.declared.Written.{Written}
-use Rattle.text_write.specs.declared.Written.TheVariants.{Bytes, Refused}
-use Rattle.text_write.specs.Written.{written_of, room_after, spelling_by, spelling_of, WritesWhole}
+use Rattle.text_write.specs.Written.{bytes_of, written_of, room_after, spelling_by, spelling_of, WritesWhole}
 
 -- What was put from the front on, as much of it as the room holds.
 module _ {room room' : List ℕ} {r : ℕ} {u : List ℕ} (p : Put room room' 0 r u) where
@@ -75,29 +76,43 @@ record Text-of (m : Limits) (b : List ℕ) (x : Bool) (n : ℕ) : Type 0 where
   is_written : write_text m b ≡ output text n
   relative_is : x ≡ is_relative (decode b)
 
-module _ (m : Limits) (b : List ℕ) {f : Spelling} (e : f ≡ spelling_of m b) where
-  refused_output : (o : Output) {r p : ℕ} (x : Bool) → spelling_by x o ≡ None r p → o ≡ refused r p
-  refused_output (refused r p) x q = cc
+-- an answer that is this refusal
+pub record IsRefused (o : Output) (e : Refusal) : Type 0 where
+  pub number : ℕ
+  pub place : ℕ
+  pub is : o ≡ refused number place
+  pub refusal_is : e ≡ refusals.refusal_of number place
+
+module _ (m : Limits) (b : List ℕ) {f : Result Spelling Refusal} (e : f ≡ spelling_of m b) where
+  refused_output : (o : Output) {r : Refusal} (x : Bool) → spelling_by x o ≡ Err r → IsRefused o r
+  refused_output (refused k p) x q = record { number = k; place = p; is = refl; refusal_is = cc }
   refused_output (output u n) x q = absurd (let z : ◌≡◌ {A = ℕ} 0 1 = cc in omega arith)
 
-  module _ {r p : ℕ} (q : f ≡ None r p) where
-    writes_none : write_text m b ≡ refused r p
+  module _ {r : Refusal} (q : f ≡ Err r) where
+    writes_none : IsRefused (write_text m b) r
     unfolding spelling_of
     writes_none = refused_output (write_text m b) (is_relative (decode b)) (sym e ∙ q)
 
-    pub none_put : (k : ℕ) → Refused r p ≡ written_of (cut k (write_text m b))
-    none_put k = rw writes_none
+    pub none_put : (k : ℕ) → Err r ≡ written_of (cut k (write_text m b))
+    none_put k = ap Err writes_none.refusal_is ∙ ap (λ (o : Output). written_of (cut k o)) (sym writes_none.is)
 
     pub none_kept : (room : List ℕ) (k : ℕ) → room ≡ room_after room (cut k (write_text m b))
-    none_kept room k = rw writes_none
+    none_kept room k = rw writes_none.is
 
-  module _ (bytes : (j : ℕ) → Fits w8 (get_or b j 0)) {x : Bool} {n : ℕ} (q : f ≡ Has x n) where
-    output_has : (o : Output) (y : Bool) → write_text m b ≡ o → y ≡ is_relative (decode b) → spelling_by y o ≡ Has x n → Text-of m b x n
+  module _ (bytes : (j : ℕ) → Fits w8 (get_or b j 0)) {v : Spelling} (q : f ≡ Ok v) where
+    abbrev x : Bool
+    x = v.relative
+
+    abbrev n : ℕ
+    n = v.count
+
+    output_has : (o : Output) (y : Bool) → write_text m b ≡ o → y ≡ is_relative (decode b) → spelling_by y o ≡ Ok v → Text-of m b x n
     output_has (refused r p) y w k c = absurd (let z : ◌≡◌ {A = ℕ} 0 1 = cc in omega arith)
     output_has (output u i) y w k c =
-        let z : i ≡ n = cc in
-        let v : y ≡ x = cc in
-        record { text = u; is_written = w ∙ rw z; relative_is = sym v ∙ k }
+        let c : record { relative = y; count = i } ≡ v = cc in
+        let z : i ≡ n = ap (λ (s : Spelling). s.count) c in
+        let d : y ≡ x = ap (λ (s : Spelling). s.relative) c in
+        record { text = u; is_written = w ∙ rw z; relative_is = sym d ∙ k }
 
     the_text : Text-of m b x n
     unfolding spelling_of
@@ -118,23 +133,23 @@ module _ (m : Limits) (b : List ℕ) {f : Spelling} (e : f ≡ spelling_of m b) 
       unfolding text_of
       put_it = rw facts.the_text at (rw the_text.relative_is at (w.text_of_lem (decode b) stands_inside facts.is.bytes))
 
-      pub text_put : Bytes r n ≡ written_of (cut (length room) (write_text m b))
-      text_put = rw the_text.is_written (ap (λ (i : ℕ). Bytes i n) (front_end put_it))
+      pub text_put : bytes_of r n ≡ written_of (cut (length room) (write_text m b))
+      text_put = rw the_text.is_written (ap (λ (i : ℕ). bytes_of i n) (front_end put_it))
 
       pub text_stands : room' ≡ room_after room (cut (length room) (write_text m b))
       text_stands = rw the_text.is_written (front_room put_it)
 
 -- room for bytes
 module _ (b : List ℕ) (count : ℕ) (room : List ℕ) where
-  pub no_room : length room < length b → Refused 16 (length b) ≡ written_of (lent (length room) (output b count))
+  pub no_room : length room < length b → refusals.refused 16 (length b) ≡ written_of (lent (length room) (output b count))
   no_room g = rw (lt-ltb (length room) (length b) g)
 
   pub no_room_kept : length room < length b → room ≡ room_after room (lent (length room) (output b count))
   no_room_kept g = rw (lt-ltb (length room) (length b) g)
 
   module _ (g : length b ≤ length room) {r : ℕ} {room' : List ℕ} (p : Put room room' 0 r b) where
-    pub room_enough : Bytes r count ≡ written_of (lent (length room) (output b count))
-    room_enough = rw (le-ltb (length room) (length b) g) (ap (λ (x : ℕ). Bytes x count) (omega (arith, put_end p (omega arith))))
+    pub room_enough : bytes_of r count ≡ written_of (lent (length room) (output b count))
+    room_enough = rw (le-ltb (length room) (length b) g) (ap (λ (x : ℕ). bytes_of x count) (omega (arith, put_end p (omega arith))))
 
     pub room_filled : room' ≡ room_after room (lent (length room) (output b count))
     room_filled =
@@ -164,41 +179,42 @@ pub record Front (m : Limits) (b : List ℕ) (k l n : ℕ) (room' : List ℕ) : 
   pub inside : l ≤ length room'
   pub front_is : take (l - 0) room' ≡ take k text
 
-module _ (m : Limits) (b : List ℕ) (scratch : List ℕ) {w : Written} (e : w ≡ written_of (cut (length scratch) (write_text m b))) where
-  refused_is : (o : Output) → write_text m b ≡ o → {r p : ℕ} → written_of (cut (length scratch) o) ≡ Refused r p → write_text m b ≡ refused r p
-  refused_is (refused r p) i q = i ∙ cc
-  refused_is (output u n) i q = absurd (let z : ◌≡◌ {A = ℕ} 0 1 = cc in omega arith)
+module _ (m : Limits) (b : List ℕ) (scratch : List ℕ) {w : Result Written Refusal} (e : w ≡ written_of (cut (length scratch) (write_text m b))) where
+  refused_is : (o : Output) → {r : Refusal} → written_of (cut (length scratch) o) ≡ Err r → IsRefused o r
+  refused_is (refused k p) q = record { number = k; place = p; is = refl; refusal_is = cc }
+  refused_is (output u n) q = absurd (let z : ◌≡◌ {A = ℕ} 0 1 = cc in omega arith)
 
-  module _ {r p : ℕ} (q : w ≡ Refused r p) where
-    pub not_put : write_text m b ≡ refused r p
-    not_put = refused_is (write_text m b) refl (sym e ∙ q)
+  module _ {r : Refusal} (q : w ≡ Err r) where
+    pub not_put : IsRefused (write_text m b) r
+    not_put = refused_is (write_text m b) (sym e ∙ q)
 
-    pub answers_none : (k : ℕ) → w ≡ written_of (lent k (write_text m b))
-    answers_none k = q ∙ rw not_put
+    pub answers_none : (k : ℕ) → Err r ≡ written_of (lent k (write_text m b))
+    answers_none k = ap Err not_put.refusal_is ∙ ap (λ (o : Output). written_of (lent k o)) (sym not_put.is)
 
     pub keeps_room : (room : List ℕ) (k : ℕ) → room ≡ room_after room (lent k (write_text m b))
-    keeps_room room k = rw not_put
+    keeps_room room k = rw not_put.is
 
-  module _ {l n : ℕ} (q : w ≡ Bytes l n) {scratch' : List ℕ} (f : scratch' ≡ room_after scratch (cut (length scratch) (write_text m b))) where
-    front_by : (o : Output) → write_text m b ≡ o → written_of (cut (length scratch) o) ≡ Bytes l n → scratch' ≡ room_after scratch (cut (length scratch) o)
-        → Front m b (length scratch) l n scratch'
+  module _ {x : Written} (q : w ≡ Ok x) {scratch' : List ℕ} (f : scratch' ≡ room_after scratch (cut (length scratch) (write_text m b))) where
+    front_by : (o : Output) → write_text m b ≡ o → written_of (cut (length scratch) o) ≡ Ok x → scratch' ≡ room_after scratch (cut (length scratch) o)
+        → Front m b (length scratch) x.length x.count scratch'
     front_by (refused r p) i c g = absurd (let z : ◌≡◌ {A = ℕ} 0 1 = cc in omega arith)
     front_by (output u k) i c g =
         let v : List ℕ = take (length scratch) u in
-        let z : k ≡ n = cc in
-        let y : length v ≡ l = cc in
-        let x : l - 0 ≡ length v = omega arith in
+        let d : record { length = length v; count = k } ≡ x = cc in
+        let z : k ≡ x.count = ap (λ (s : Written). s.count) d in
+        let y : length v ≡ x.length = ap (λ (s : Written). s.length) d in
+        let j : x.length - 0 ≡ length v = omega arith in
         record {
           text = u;
           is = i ∙ rw z;
           inside = omega (arith, ap length g, length-append v (drop (length v) scratch));
-          front_is = rw (x, g) (take-append_seam v (drop (length v) scratch));
+          front_is = rw (j, g) (take-append_seam v (drop (length v) scratch));
         }
 
-    pub front_of : Front m b (length scratch) l n scratch'
+    pub front_of : Front m b (length scratch) x.length x.count scratch'
     front_of = front_by (write_text m b) refl (sym e ∙ q) f
 
-    pub in_scratch : l ≤ length scratch'
+    pub in_scratch : x.length ≤ length scratch'
     in_scratch = front_of.inside
 
 -- A room that holds any text.
@@ -217,7 +233,7 @@ module _ (m : Limits) (b : List ℕ) (bytes : (j : ℕ) → Fits w8 (get_or b j 
     handed_is : output (take (l - 0) scratch') n ≡ write_text m b
     handed_is = rw (c.front_is, take_all k c.text (rw c.is at short)) (sym c.is)
 
-    pub answers_text : (i : ℕ) {a : Written} → a ≡ written_of (lent i (output (take (l - 0) scratch') n)) → a ≡ written_of (lent i (write_text m b))
+    pub answers_text : (i : ℕ) {a : Result Written Refusal} → a ≡ written_of (lent i (output (take (l - 0) scratch') n)) → a ≡ written_of (lent i (write_text m b))
     answers_text i e = e ∙ ap (λ (o : Output). written_of (lent i o)) handed_is
 
     pub fills_room : (i : ℕ) (z : List ℕ) {z' : List ℕ} → z' ≡ room_after z (lent i (output (take (l - 0) scratch') n)) → z' ≡ room_after z (lent i (write_text m b))
@@ -228,7 +244,7 @@ module _ (m : Limits) (b : List ℕ) (bytes : (j : ℕ) → Fits w8 (get_or b j 
   uncut : cut k (write_text m b) ≡ lent k (write_text m b)
   uncut = same_answer m b bytes (rw e at h)
 
-  pub at_once : {a : Written} → a ≡ written_of (cut k (write_text m b)) → a ≡ written_of (lent k (write_text m b))
+  pub at_once : {a : Result Written Refusal} → a ≡ written_of (cut k (write_text m b)) → a ≡ written_of (lent k (write_text m b))
   at_once q = q ∙ ap written_of uncut
 
   pub at_once_filled : (z : List ℕ) {z' : List ℕ} → z' ≡ room_after z (cut k (write_text m b)) → z' ≡ room_after z (lent k (write_text m b))
@@ -243,7 +259,7 @@ module _ (m : Limits) (b : List ℕ) {n : ℕ} (e : n ≡ m.bytes + 1) (h : n < 
   alike : write_text m (part b 0 n) ≡ write_text m b
   alike = too_long (part b 0 n) (omega (arith, length-take (n - 0) b)) ∙ sym (too_long b (omega arith))
 
-  pub front_answers : (k : ℕ) {a : Written} → a ≡ written_of (lent k (write_text m (part b 0 n))) → a ≡ written_of (lent k (write_text m b))
+  pub front_answers : (k : ℕ) {a : Result Written Refusal} → a ≡ written_of (lent k (write_text m (part b 0 n))) → a ≡ written_of (lent k (write_text m b))
   front_answers k q = q ∙ ap (λ (o : Output). written_of (lent k o)) alike
 
   pub front_fills : (k : ℕ) (z : List ℕ) {z' : List ℕ} → z' ≡ room_after z (lent k (write_text m (part b 0 n))) → z' ≡ room_after z (lent k (write_text m b))

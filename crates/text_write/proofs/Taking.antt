@@ -16,11 +16,9 @@ use Rattle.cbor.specs.declared.Head.TheVariants as heads
 use Rattle.cbor.proofs.HeadLaws.{get_head_back, length_lead}
 use Rattle.ari.specs.Due.{Good}
 use Rattle.grammar.specs.Code.{slot_of}
-use Rattle.reader.specs.declared.End.{End}
-use Rattle.reader.specs.declared.End.TheVariants.{At, Short}
 use Rattle.reader.specs.Steps.{string_end}
-use Rattle.text_write.specs.declared.Item.TheVariants.{Taken, Nothing}
-use Rattle.text_write.specs.Walks.{ItemAt}
+use Rattle.std.specs.Prelude.{Option, Some, None}
+use Rattle.text_write.specs.Walks.{taken, ItemAt}
 
 -- a head that may be written is found as it is
 pub found : (b : List ℕ) (p : ℕ) (l : Lead) (y : List ℕ) → Rattle.cbor.specs.Head.Sound l → drop p b ≡ lead_bytes l ++ y → head_at b p ≡ heads.Good l.kind l.arg (p + size l)
@@ -29,7 +27,7 @@ found b p l y h e = rw (e, get_head_back y h)
 
 -- the end of its string
 pub end_is : (b : List ℕ) (p : ℕ) (l : Lead) (str z : List ℕ) → length str ≡ string_size l → drop p b ≡ lead_bytes l ++ (str ++ z) → p ≤ length b
-    → string_end b l.kind l.arg (p + size l) ≡ At (p + (size l + length str))
+    → string_end b l.kind l.arg (p + size l) ≡ Some (p + (size l + length str))
 unfolding string_end string_size
 end_is b p l str z e f h = go (within 2 3 l.kind) e
   where
@@ -37,22 +35,22 @@ end_is b p l str z e f h = go (within 2 3 l.kind) e
     long = omega (arith, simp (length-drop, length-append) at (ap length f), length_lead l)
 
     go : (t : Bool) → length str ≡ cond t l.arg 0
-        → cond t (cond (ltb (length b - (p + size l)) l.arg) Short (At (p + size l + l.arg))) (At (p + size l)) ≡ At (p + (size l + length str))
-    go true q = rw (le-ltb (length b - (p + size l)) l.arg (omega (arith, long))) (ap At (omega arith))
-    go false q = ap At (omega arith)
+        → cond t (cond (ltb (length b - (p + size l)) l.arg) None (Some (p + size l + l.arg))) (Some (p + size l)) ≡ Some (p + (size l + length str))
+    go true q = rw (le-ltb (length b - (p + size l)) l.arg (omega (arith, long))) (ap Some (omega arith))
+    go false q = ap Some (omega arith)
 
 -- where a string ends
-pub end_in : (b : List ℕ) (k a n : ℕ) {q : ℕ} → n ≤ length b → string_end b k a n ≡ At q → (n ≤ q) × (q ≤ length b)
+pub end_in : (b : List ℕ) (k a n : ℕ) {q : ℕ} → n ≤ length b → string_end b k a n ≡ Some q → (n ≤ q) × (q ≤ length b)
 unfolding string_end
 end_in b k a n {q} h e = go (within 2 3 k) (ltb (length b - n) a) refl e
   where
-    go : (t u : Bool) → ltb (length b - n) a ≡ u → cond t (cond u Short (At (n + a))) (At n) ≡ At q → (n ≤ q) × (q ≤ length b)
+    go : (t u : Bool) → ltb (length b - n) a ≡ u → cond t (cond u None (Some (n + a))) (Some n) ≡ Some q → (n ≤ q) × (q ≤ length b)
     go true true f g = absurd (let z : ◌≡◌ {A = ℕ} 0 1 = cc in omega arith)
     go true false f g = let z : n + a ≡ q = cc in (omega arith, omega (arith, ltb-false (length b - n) a f))
     go false u f g = let z : n ≡ q = cc in (omega arith, omega arith)
 
 module _ (b : List ℕ) (p i d : ℕ) {x : Head} (e : x ≡ head_at b p) where
-  pub no_head : {r : ℕ} → x ≡ Bad r → ItemAt b p i d Nothing
+  pub no_head : {r : ℕ} → x ≡ Bad r → ItemAt b p i d None
   no_head {r} q = record {
     inside = tt;
     takes = λ l str z prev g s f. absurd (let y = sym q ∙ e ∙ found b p l (str ++ z) g.head f in let z : ◌≡◌ {A = ℕ} 0 1 = cc in omega arith);
@@ -71,7 +69,7 @@ module _ (b : List ℕ) (p i d : ℕ) {x : Head} (e : x ≡ head_at b p) where
     same_next : (l : Lead) (y : List ℕ) → Rattle.cbor.specs.Head.Sound l → drop p b ≡ lead_bytes l ++ y → n ≡ p + size l
     same_next l y h f = let z = same l y h f in cc
 
-    pub too_deep : {t : Bool} → t ≡ (is_container k && eqb d 0) → t ≡ true → ItemAt b p i d Nothing
+    pub too_deep : {t : Bool} → t ≡ (is_container k && eqb d 0) → t ≡ true → ItemAt b p i d None
     too_deep {t} m h = record {
       inside = tt;
       takes = λ l str z prev g s f. absurd (true≢false (sym h ∙ m ∙ rw (same_kind l (str ++ z) g.head f) s));
@@ -84,19 +82,19 @@ module _ (b : List ℕ) (p i d : ℕ) {x : Head} (e : x ≡ head_at b p) where
       pub head_in : n ≤ length b
       head_in = passed.1
 
-      ends : {u : End} → u ≡ string_end b k a n → (l : Lead) (str z prev : List ℕ) → Good (slot_of i) prev l str → drop p b ≡ lead_bytes l ++ (str ++ z)
-          → u ≡ At (p + (size l + length str))
+      ends : {u : Option ℕ} → u ≡ string_end b k a n → (l : Lead) (str z prev : List ℕ) → Good (slot_of i) prev l str → drop p b ≡ lead_bytes l ++ (str ++ z)
+          → u ≡ Some (p + (size l + length str))
       ends m l str z prev g f = m ∙ rw (same_kind l (str ++ z) g.head f, same_arg l (str ++ z) g.head f, same_next l (str ++ z) g.head f)
           (end_is b p l str z g.sized f (omega (arith, passed.0, passed.1)))
 
-      pub too_short : {u : End} → u ≡ string_end b k a n → u ≡ Short → ItemAt b p i d Nothing
+      pub too_short : {u : Option ℕ} → u ≡ string_end b k a n → u ≡ None → ItemAt b p i d None
       too_short {u} m h = record {
         inside = tt;
         takes = λ l str z prev g s f. absurd (let y = sym h ∙ ends m l str z prev g f in let z : ◌≡◌ {A = ℕ} 0 1 = cc in omega arith);
       }
 
-      pub is_taken : {t : Bool} {u : End} {j : ℕ} → t ≡ (is_container k && eqb d 0) → t ≡ false → u ≡ string_end b k a n → u ≡ At j
-          → ItemAt b p i d (Taken k a n j)
+      pub is_taken : {t : Bool} {u : Option ℕ} {j : ℕ} → t ≡ (is_container k && eqb d 0) → t ≡ false → u ≡ string_end b k a n → u ≡ Some j
+          → ItemAt b p i d (taken k a n j)
       is_taken {t} {u} {j} mt ht mu hu =
           let w = end_in b k a n passed.1 (sym mu ∙ hu) in
           record {

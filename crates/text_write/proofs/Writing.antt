@@ -1,6 +1,6 @@
 -- The walk that writes: an item with its members, the end of a level; one law for each way that a turn ends.
 use Prim.Native.Nat.{ℕ, pred, ◌+◌, ◌-◌, ◌≤◌, ◌<◌}
-use mathlib.Core.Path.{◌≡◌, refl, sym, ◌∙◌}
+use mathlib.Core.Path.{◌≡◌, refl, sym, ◌∙◌, ap}
 use mathlib.Core.Bool.{Bool, true, false, ◌&&◌}
 use mathlib.Core.List.{List, [], ◌++◌, append_assoc}
 use native.Mathlib.Omega.{arith}
@@ -28,19 +28,13 @@ use Rattle.buffer.specs.Put.{Put}
 use Rattle.text_write_item.specs.Spellings.{spelling_at, before_by, after_by}
 use Rattle.buffer.proofs.Putting.{put_nothing, put_both}
 use Rattle.text_write_item.proofs.Spelled.{is_due, before_is, after_is}
+use Rattle.std.specs.Prelude.{Option, None}
 use Rattle.text_write.specs.declared.Item.{Item}
-use Rattle.text_write.specs.declared.Item.TheVariants.{Taken, Nothing}
 use Rattle.text_write.specs.declared.Pos.{Pos}
-use Rattle.text_write.specs.Walks.{Inside, ItemAt, Writes}
+use Rattle.text_write.specs.Walks.{Inside, taken, ItemAt, Writes}
 
 abbrev pub pos : ℕ → ℕ → Pos
 pos p r = record { next = p; end = r }
-
-pub before_spelling : {a b : List ℕ} {at r w : ℕ} (i k n : ℕ) (s : List ℕ) → w ≡ spelling_at i → Put a b at r (before_by w k n s) → Put a b at r (before_by (spelling_at i) k n s)
-before_spelling i k n s e p = rw e at p
-
-pub after_spelling : {a b : List ℕ} {at r w : ℕ} (i k : ℕ) (m : Bool) → w ≡ spelling_at i → Put a b at r (after_by w k m) → Put a b at r (after_by (spelling_at i) k m)
-after_spelling i k m e p = rw e at p
 
 -- the level has ended
 pub ended : (b : List ℕ) (d p at : ℕ) (room : List ℕ) → p ≤ length b → Writes b done d p at (pos p at) room room
@@ -51,7 +45,7 @@ ended b d p at room h = record { on = omega arith; within = h; text_of_lem = go 
     go (item l s ms rs) prev z f e = absurd f
 
 -- no head may stand here
-halted : (b : List ℕ) (i n d p at : ℕ) (room : List ℕ) {x : Item} → ItemAt b p i d x → x ≡ Nothing → p ≤ length b → Writes b (due (slot_of i) n) d p at (pos p at) room room
+halted : (b : List ℕ) (i n d p at : ℕ) (room : List ℕ) {x : Option Item} → ItemAt b p i d x → x ≡ None → p ≤ length b → Writes b (due (slot_of i) n) d p at (pos p at) room room
 halted b i n d p at room {x} y q h = record { on = omega arith; within = h; text_of_lem = go }
   where
     go : (g : Items) (prev z : List ℕ) → fit.Due g (push (due (slot_of i) n) prev d end) → drop p b ≡ encode g ++ z
@@ -60,6 +54,11 @@ halted b i n d p at room {x} y q h = record { on = omega arith; within = h; text
     go (item l s ms rs) prev z f e =
         let t = sym q ∙ y.takes l s ((encode ms ++ encode rs) ++ z) prev f.0 f.1 (e ∙ simp append_assoc) in
         absurd (let z : ◌≡◌ {A = ℕ} 0 1 = cc in omega arith)
+
+same_item : {k a f t k' a' f' t' : ℕ} → taken k a f t ≡ taken k' a' f' t' → (k ≡ k') × (a ≡ a') × (f ≡ f') × (t ≡ t')
+same_item {k} {a} {f} {t} {k'} {a'} {f'} {t'} e =
+    let d : ◌≡◌ {A = Item} (record { kind = k; arg = a; from = f; to = t }) (record { kind = k'; arg = a'; from = f'; to = t' }) = cc in
+    (ap (λ (x : Item). x.kind) d, ap (λ (x : Item). x.arg) d, ap (λ (x : Item). x.from) d, ap (λ (x : Item). x.to) d)
 
 inside_is : (i : ℕ) (l : Lead) → inside_level (slot_of i) l.kind l.arg ≡ members (slot_of i) l
 unfolding members
@@ -75,8 +74,8 @@ sound_kind (a_simple e g h i) = omega arith
 sound_kind (a_float h g i a b) = omega arith
 
 -- A turn: the head was taken, what it writes was put around its members.
-module _ (b : List ℕ) (i n d p at : ℕ) {x : Item} (y : ItemAt b p i d x) {k a f t : ℕ} (e : x ≡ Taken k a f t) where
-  abbrev shown : Inside b p d (Taken k a f t)
+module _ (b : List ℕ) (i n d p at : ℕ) {x : Option Item} (y : ItemAt b p i d x) {k a f t : ℕ} (e : x ≡ taken k a f t) where
+  abbrev shown : Inside b p d (taken k a f t)
   shown = rw e at y.inside
 
   pub taken_on : p < f
@@ -110,11 +109,7 @@ module _ (b : List ℕ) (i n d p at : ℕ) {x : Item} (y : ItemAt b p i d x) {k 
       onward_text {u} {room'} s (item l str ms rs) prev z g c =
           let rest : List ℕ = encode ms ++ (encode rs ++ z) in
           let c₁ : drop p b ≡ lead_bytes l ++ (str ++ rest) = c ∙ simp append_assoc in
-          let tk = sym e ∙ y.takes l str rest prev g.0 g.1 c₁ in
-          let ek : k ≡ l.kind = cc in
-          let ea : a ≡ l.arg = cc in
-          let ef : f ≡ p + size l = cc in
-          let et : t ≡ p + (size l + length str) = cc in
+          let (ek, ea, ef, et) = same_item (sym e ∙ y.takes l str rest prev g.0 g.1 c₁) in
           let ll : length (lead_bytes l) ≡ size l = length_lead l in
           let df : drop f b ≡ str ++ rest = rw (ef, ← ll) (behind b p (lead_bytes l) (str ++ rest) c₁) in
           let eft : t ≡ f + length str = omega arith in
@@ -144,11 +139,11 @@ pub begins : (b : List ℕ) (v : Level) (d p at : ℕ) (room : List ℕ) → Lea
 begins b v d p at room = record { then = λ w. w }
 
 module _ (b : List ℕ) (v₀ : Level) (d p₀ at₀ : ℕ) (room₀ : List ℕ) (i n p at : ℕ) (room : List ℕ) (lead : Leads b v₀ d p₀ at₀ room₀ (due (slot_of i) n) p at room)
-    {x : Item} (y : ItemAt b p i d x) where
-  pub halts : x ≡ Nothing → p ≤ length b → Writes b v₀ d p₀ at₀ (pos p at) room₀ room
+    {x : Option Item} (y : ItemAt b p i d x) where
+  pub halts : x ≡ None → p ≤ length b → Writes b v₀ d p₀ at₀ (pos p at) room₀ room
   halts q h = lead.then (halted b i n d p at room y q h)
 
-  module _ {k a f t : ℕ} (e : x ≡ Taken k a f t) (v : IsSlot i) {nx : Next} (nn : nx ≡ next_code i a n) {room₁ room₂ room₃ : List ℕ} {q q₃ : ℕ} {w : Pos}
+  module _ {k a f t : ℕ} (e : x ≡ taken k a f t) (v : IsSlot i) {nx : Next} (nn : nx ≡ next_code i a n) {room₁ room₂ room₃ : List ℕ} {q q₃ : ℕ} {w : Pos}
       (before : Put room room₁ at q (before_by (spelling_at i) k a (part b f t))) (m : Writes b (inside_level (slot_of i) k a) (pred d) t q w room₁ room₂) where
     pub ends : nx ≡ Done → Put room₂ room₃ w.end q₃ (after_by (spelling_at i) k false) → Writes b v₀ d p₀ at₀ (pos w.next q₃) room₀ room₃
     ends z after =
@@ -176,4 +171,4 @@ module _ (i k a : ℕ) {x : Next} (e : x ≡ inside_code i k a) (v : IsSlot i) w
 pub falls_on : (n p f t q : ℕ) → p < f → f ≤ t → t ≤ q → q ≤ n → n - q < n - p
 falls_on n p f t q h g k l = omega arith
 
-pub ruleset writing = (before_spelling, after_spelling, taken_on, taken_order, taken_in, taken_shallow, next_slotted, begins, halts, ends, again, nothing_inside, opened)
+pub ruleset writing = (taken_on, taken_order, taken_in, taken_shallow, next_slotted, begins, halts, ends, again, nothing_inside, opened)

@@ -1,7 +1,10 @@
--- What writing a text, or reading one, answers, and what the lent room holds then: R48, R49. Interface: written_of, room_after. Private to src/: spelling_by,
+-- What writing a text, or reading one, answers, and what the lent room holds then: R48, R49. Interface: bytes_of, written_of, room_after. Private to src/: spelling_by,
 -- spelling_of, scheme_of, WritesWhole, small.
 use Rattle.std.specs.Prelude.{ℕ, ◌≡◌, Bool, cond, List, [], ◌++◌, length, drop}
+use Rattle.std.specs.Prelude.{Result, Ok}
 use Rattle.ari.specs.declared.Limits.{Limits}
+use Rattle.ari.specs.declared.Refusal.{Refusal}
+use Rattle.ari.specs.Refusals as refusals
 use Rattle.ari.specs.Reader.{end, push}
 use Rattle.ari.specs.Items.{Items, encode}
 use Rattle.ari.specs.Decode.{decode}
@@ -11,14 +14,16 @@ use Rattle.text.specs.Text.{texts, an_ari_due, is_relative}
 use Rattle.text.specs.Answer.{Output, refused, output, write_text}
 use Rattle.buffer.specs.Put.{Put}
 use Rattle.text_write.specs.declared.Spelling.{Spelling}
-use Rattle.text_write.specs.declared.Spelling.TheVariants.{Has, None}
 use Rattle.text_write.specs.declared.Written.{Written}
-use Rattle.text_write.specs.declared.Written.TheVariants.{Bytes, Refused}
 
--- the bytes written by their length, with the item count; or a refusal's number and place
-abbrev pub written_of : Output → Written
-written_of (refused r p) = Refused r p
-written_of (output u n) = Bytes (length u) n
+-- so many bytes, of so many items
+abbrev pub bytes_of : ℕ → ℕ → Result Written Refusal
+bytes_of n count = Ok (record { length = n; count = count })
+
+-- the bytes written by their length, with the item count; or the refusal
+abbrev pub written_of : Output → Result Written Refusal
+written_of (refused r p) = refusals.refused r p
+written_of (output u n) = bytes_of (length u) n
 
 -- the bytes stand at the front, and the rest is as it was; a refusal leaves all as it was
 abbrev pub room_after : List ℕ → Output → List ℕ
@@ -26,11 +31,11 @@ room_after room (refused r p) = room
 room_after room (output u n) = u ++ drop (length u) room
 
 -- whether an ARI has a text form, and then whether it is a relative reference
-abbrev pub spelling_by : Bool → Output → Spelling
-spelling_by x (refused r p) = None r p
-spelling_by x (output u n) = Has x n
+abbrev pub spelling_by : Bool → Output → Result Spelling Refusal
+spelling_by x (refused r p) = refusals.refused r p
+spelling_by x (output u n) = Ok (record { relative = x; count = n })
 
-unfoldable pub spelling_of : Limits → List ℕ → Spelling
+unfoldable pub spelling_of : Limits → List ℕ → Result Spelling Refusal
 spelling_of m b = spelling_by (is_relative (decode b)) (write_text m b)
 
 -- R99: the scheme, which only a relative reference lacks

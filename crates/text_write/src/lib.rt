@@ -20,19 +20,15 @@ ghost use Rattle.text.specs.Answer.{output, write_text, lent, cut, longest};
 ghost use Rattle.text_write.specs.Forms.{set_by, member_by, outer_of, is_whole, FloatAt};
 ghost use Rattle.text_write.specs.Written.{written_of, room_after, spelling_of, scheme_of, WritesWhole, small};
 
-use ari::{Input, Limits};
-use reader::Answer;
+use ari::{Fault, Input, Limits, Refusal};
 
-// A head with the place of its string; or nothing that may stand there.
+// A head with the place of its string.
 #[derive(Clone, Copy)]
-pub enum Item {
-    Taken {
-        kind: u8,
-        arg: u64,
-        from: usize,
-        to: usize,
-    },
-    Nothing,
+pub struct Item {
+    pub kind: u8,
+    pub arg: u64,
+    pub from: usize,
+    pub to: usize,
 }
 
 // Where a walk stands: in the input, and in the room that it writes into.
@@ -42,33 +38,31 @@ pub struct Pos {
     pub end: usize,
 }
 
-fn take_item(s: &[u8], at: usize, slot: u64, depth: usize) -> Item
+// The item at a place, if its head may stand there.
+fn take_item(s: &[u8], at: usize, slot: u64, depth: usize) -> Option<Item>
     ensures { ItemAt s.now at slot depth result }
 {
     let h = cbor::head_again(s, at);
     let cbor::Head::Good { kind, arg, next } = h else {
-        return Item::Nothing;
+        return None;
     };
     if reader::is_too_deep(kind, depth) {
-        return Item::Nothing;
+        return None;
     }
-    let e = reader::string_end(s, kind, arg, next);
-    let reader::End::At(end) = e else {
-        return Item::Nothing;
-    };
-    Item::Taken {
+    let end = reader::string_end(s, kind, arg, next)?;
+    Some(Item {
         kind,
         arg,
         from: next,
         to: end,
-    }
+    })
 }
 
 // What a head writes, before its members and after them; the slot's spelling is looked up once for both.
 fn write_before(
     s: &[u8],
     slot: u64,
-    spelling: u8,
+    spelling: text_write_item::Spelling,
     kind: u8,
     arg: u64,
     from: usize,
@@ -82,7 +76,14 @@ fn write_before(
     text_write_item::put_before(out, at, spelling, kind, arg, &s[from..to])
 }
 
-fn write_after(slot: u64, spelling: u8, kind: u8, more: bool, out: &mut [u8], at: usize) -> usize
+fn write_after(
+    slot: u64,
+    spelling: text_write_item::Spelling,
+    kind: u8,
+    more: bool,
+    out: &mut [u8],
+    at: usize,
+) -> usize
     requires { spelling ≡ spelling_at slot }
     ensures { Put out.old out.new at result (after_by (spelling_at slot) kind more) }
 {
@@ -111,7 +112,7 @@ fn write_inside(
     }
 }
 
-// The items of a level from the slot on.
+// The items of a level from the slot on. No `for`: what is due next is known only behind an item.
 #[cycle(write_inside_write_level)]
 fn write_level(
     s: &[u8],
@@ -132,12 +133,14 @@ fn write_level(
     loop {
         let spelling = text_write_item::spelling_of(place);
         let t = take_item(s, p, place, depth);
-        let Item::Taken {
-            kind,
-            arg,
-            from,
-            to,
-        } = t
+        let Some(
+            Item {
+                kind,
+                arg,
+                from,
+                to,
+            },
+        ) = t
         else {
             return Pos { next: p, end: r };
         };
@@ -158,11 +161,12 @@ fn write_level(
     }
 }
 
-// What the outermost ARI is: a set, which has no text form; a relative reference, which has no scheme.
+// What the outermost ARI is: a set, which has no text form; a relative reference, which has no scheme; or another.
 #[derive(Clone, Copy)]
-pub struct Outer {
-    pub set: bool,
-    pub relative: bool,
+pub enum Outer {
+    Set,
+    Relative,
+    Other,
 }
 
 // A typed literal's members, the type and the value; and the types of the sets.
@@ -175,29 +179,23 @@ const RPTSET: u64 = 21;
 fn is_set(length: u64, arg: u64) -> bool
     ensures { result ≡ set_by length arg }
 {
-    if length == TYPED {
-        if arg == EXECSET {
-            return true;
-        }
-        return arg == RPTSET;
-    }
-    false
+    length == TYPED && (arg == EXECSET || arg == RPTSET)
 }
 
 // By the length of an array and the head of its first member.
 fn outer_by(length: u64, h: cbor::Head) -> Outer
     ensures { result ≡ member_by length h }
 {
-    match h {
-        cbor::Head::Good { kind, arg, next: _ } => Outer {
-            set: is_set(length, arg),
-            relative: kind == cbor::SIMPLE,
-        },
-        cbor::Head::Bad(_) => Outer {
-            set: false,
-            relative: false,
-        },
+    let cbor::Head::Good { kind, arg, .. } = h else {
+        return Outer::Other;
+    };
+    if is_set(length, arg) {
+        return Outer::Set;
     }
+    if kind == cbor::SIMPLE {
+        return Outer::Relative;
+    }
+    Outer::Other
 }
 
 fn outermost(s: &[u8]) -> Outer
@@ -205,25 +203,12 @@ fn outermost(s: &[u8]) -> Outer
 {
     let h = cbor::head_again(s, 0);
     let cbor::Head::Good { kind, arg, next } = h else {
-        return Outer {
-            set: false,
-            relative: false,
-        };
+        return Outer::Other;
     };
     if kind == cbor::ARRAY {
         return outer_by(arg, cbor::head_again(s, next));
     }
-    Outer {
-        set: false,
-        relative: false,
-    }
-}
-
-// The first float's head, if there is a float.
-#[derive(Clone, Copy)]
-pub enum Float {
-    At(usize),
-    Nowhere,
+    Outer::Other
 }
 
 // The bytes that are a head of one byte without a string, and no float: a bit for each eight of them.
@@ -235,7 +220,8 @@ fn is_whole(b: u8) -> bool
     (WHOLE >> (b / 8) as u64) % 2 == 1
 }
 
-fn first_float(s: &[u8]) -> Float
+// The place of the first float's head, if there is a float. No `for`: a step is as long as an item's head with its string.
+fn first_float(s: &[u8]) -> Option<usize>
     ensures { FloatAt s.now 0 result }
 {
     let mut p = 0;
@@ -246,58 +232,54 @@ fn first_float(s: &[u8]) -> Float
         }
         let h = cbor::head_again(s, p);
         let cbor::Head::Good { kind, arg, next } = h else {
-            return Float::Nowhere;
+            return None;
         };
         if cbor::HALF <= kind {
-            return Float::At(p);
+            return Some(p);
         }
-        let e = reader::string_end(s, kind, arg, next);
-        let reader::End::At(end) = e else {
-            return Float::Nowhere;
-        };
+        let end = reader::string_end(s, kind, arg, next)?;
         p = end;
     }
-    Float::Nowhere
+    None
 }
 
-// An ARI has a text form, and is a relative reference or not; or it is refused.
+// The text form of an ARI of so many items: whether it is a relative reference's.
 #[derive(Clone, Copy)]
-pub enum Spelling {
-    Has { relative: bool, count: usize },
-    None { number: u8, place: usize },
+pub struct Spelling {
+    pub relative: bool,
+    pub count: usize,
 }
 
 // An accepted ARI: test 14.
-fn form_of(limits: Limits, s: &[u8], count: usize) -> Spelling
+fn form_of(limits: Limits, s: &[u8], count: usize) -> Result<Spelling, Refusal>
     requires { (all is_byte s.now ≡ true) × Is limits Single s.now (decode s.now) count }
     ensures { result ≡ spelling_of limits s.now }
 {
-    let o = outermost(s);
-    if o.set {
-        return Spelling::None {
-            number: 14,
-            place: 0,
-        };
-    }
-    let f = first_float(s);
-    match f {
-        Float::At(place) => Spelling::None { number: 14, place },
-        Float::Nowhere => Spelling::Has {
-            relative: o.relative,
-            count,
-        },
+    let relative = match outermost(s) {
+        Outer::Set => {
+            return Err(Refusal {
+                fault: Fault::NoText,
+                place: 0,
+            });
+        }
+        Outer::Relative => true,
+        Outer::Other => false,
+    };
+    match first_float(s) {
+        Some(place) => Err(Refusal {
+            fault: Fault::NoText,
+            place,
+        }),
+        None => Ok(Spelling { relative, count }),
     }
 }
 
 // The tests 1 to 14.
-fn judge(limits: Limits, s: &[u8]) -> Spelling
+fn judge(limits: Limits, s: &[u8]) -> Result<Spelling, Refusal>
     ensures { result ≡ spelling_of limits s.now }
 {
-    let a = reader::check(Input::Single, limits, s);
-    match a {
-        Answer::Refused { number, place } => Spelling::None { number, place },
-        Answer::Accepted(count) => form_of(limits, s, count),
-    }
+    let count = reader::check(Input::Single, limits, s)?;
+    form_of(limits, s, count)
 }
 
 fn put_scheme(relative: bool, out: &mut [u8]) -> usize
@@ -318,53 +300,50 @@ fn put_whole(s: &[u8], containers: usize, relative: bool, out: &mut [u8]) -> usi
     w.end
 }
 
-// So many bytes were written, of an ARI of so many items; or a refusal.
+// So many bytes were written, of an ARI of so many items.
 #[derive(Clone, Copy)]
-pub enum Written {
-    Bytes { length: usize, count: usize },
-    Refused { number: u8, place: usize },
+pub struct Written {
+    pub length: usize,
+    pub count: usize,
 }
 
 // The text of a single ARI in binary form at the front of lent room: as much of it as there is room for.
-pub fn put_text(limits: Limits, s: &[u8], out: &mut [u8]) -> Written
+pub fn put_text(limits: Limits, s: &[u8], out: &mut [u8]) -> Result<Written, Refusal>
     ensures value { result ≡ written_of (cut (length out.old) (write_text limits s.now)) }
     ensures out_after { out.new ≡ room_after out.old (cut (length out.old) (write_text limits s.now)) }
 {
-    let f = judge(limits, s);
-    match f {
-        Spelling::None { number, place } => Written::Refused { number, place },
-        Spelling::Has { relative, count } => {
-            let length = put_whole(s, limits.containers, relative, out);
-            Written::Bytes { length, count }
-        }
-    }
+    let Spelling { relative, count } = judge(limits, s)?;
+    let length = put_whole(s, limits.containers, relative, out);
+    Ok(Written { length, count })
 }
 
 // Bytes are handed over, if the room holds them: test 16.
-pub fn hand_over(b: &[u8], count: usize, out: &mut [u8]) -> Written
+pub fn hand_over(b: &[u8], count: usize, out: &mut [u8]) -> Result<Written, Refusal>
     ensures value { result ≡ written_of (lent (length out.old) (output b.now count)) }
     ensures out_after { out.new ≡ room_after out.old (lent (length out.old) (output b.now count)) }
 {
     if out.len() < b.len() {
-        return Written::Refused {
-            number: 16,
+        return Err(Refusal {
+            fault: Fault::NoRoom,
             place: b.len(),
-        };
+        });
     }
-    let end = buffer::put_block(out, 0, b);
-    Written::Bytes { length: end, count }
+    let length = buffer::put_block(out, 0, b);
+    Ok(Written { length, count })
 }
 
 // The text goes into the scratch, which holds any, and from there into the room: a refusal leaves that as it was.
-fn write_in(limits: Limits, s: &[u8], scratch: &mut [u8], out: &mut [u8]) -> Written
+fn write_in(
+    limits: Limits,
+    s: &[u8],
+    scratch: &mut [u8],
+    out: &mut [u8],
+) -> Result<Written, Refusal>
     requires { longest limits (length s.now) ≤ length scratch.old }
     ensures value { result ≡ written_of (lent (length out.old) (write_text limits s.now)) }
     ensures out_after { out.new ≡ room_after out.old (lent (length out.old) (write_text limits s.now)) }
 {
-    let w = put_text(limits, s, scratch);
-    let Written::Bytes { length, count } = w else {
-        return w;
-    };
+    let Written { length, count } = put_text(limits, s, scratch)?;
     hand_over(&scratch[0..length], count, out)
 }
 
@@ -375,7 +354,7 @@ const SMALL: usize = 64;
 const SMALL_TEXT: usize = 4 + 19 * SMALL;
 
 // A small ARI needs a small scratch, which is cleared in a fraction of the time.
-fn write_small(limits: Limits, s: &[u8], out: &mut [u8]) -> Written
+fn write_small(limits: Limits, s: &[u8], out: &mut [u8]) -> Result<Written, Refusal>
     requires { length s.now ≤ small }
     ensures value { result ≡ written_of (lent (length out.old) (write_text limits s.now)) }
     ensures out_after { out.new ≡ room_after out.old (lent (length out.old) (write_text limits s.now)) }
@@ -384,7 +363,7 @@ fn write_small(limits: Limits, s: &[u8], out: &mut [u8]) -> Written
     write_in(limits, s, &mut scratch, out)
 }
 
-fn write_large(limits: Limits, s: &[u8], out: &mut [u8]) -> Written
+fn write_large(limits: Limits, s: &[u8], out: &mut [u8]) -> Result<Written, Refusal>
     requires { (limits.bytes ≤ gate_limits.bytes) × (limits.items ≤ gate_limits.items) }
     ensures value { result ≡ written_of (lent (length out.old) (write_text limits s.now)) }
     ensures out_after { out.new ≡ room_after out.old (lent (length out.old) (write_text limits s.now)) }
@@ -404,7 +383,7 @@ fn longest(limits: Limits, size: usize) -> usize
 // Within limits of which none is above the gate's own; at once, if the room holds any text of such an ARI. An input that is too long is refused as its
 // front is. By that call of itself this stays a function without the large scratch: LLVM leaves large arrays out of what calls itself, and with
 // them each call would touch all pages of the scratch first.
-fn write_capped(limits: Limits, s: &[u8], out: &mut [u8]) -> Written
+fn write_capped(limits: Limits, s: &[u8], out: &mut [u8]) -> Result<Written, Refusal>
     requires { (limits.bytes ≤ gate_limits.bytes) × (limits.items ≤ gate_limits.items) }
     ensures value { result ≡ written_of (lent (length out.old) (write_text limits s.now)) }
     ensures out_after { out.new ≡ room_after out.old (lent (length out.old) (write_text limits s.now)) }
@@ -423,7 +402,7 @@ fn write_capped(limits: Limits, s: &[u8], out: &mut [u8]) -> Written
 }
 
 // The text of a single ARI in binary form, within these limits, none above the gate's own, is written into lent room.
-pub fn write_text_within(limits: Limits, s: &[u8], out: &mut [u8]) -> Written
+pub fn write_text_within(limits: Limits, s: &[u8], out: &mut [u8]) -> Result<Written, Refusal>
     ensures value { result ≡ written_of (lent (length out.old) (write_text (capped limits) s.now)) }
     ensures out_after { out.new ≡ room_after out.old (lent (length out.old) (write_text (capped limits) s.now)) }
 {
@@ -432,7 +411,7 @@ pub fn write_text_within(limits: Limits, s: &[u8], out: &mut [u8]) -> Written
 }
 
 // The text of a single ARI in binary form is written into lent room.
-pub fn write_text(s: &[u8], out: &mut [u8]) -> Written
+pub fn write_text(s: &[u8], out: &mut [u8]) -> Result<Written, Refusal>
     ensures value { result ≡ written_of (lent (length out.old) (write_text gate_limits s.now)) }
     ensures out_after { out.new ≡ room_after out.old (lent (length out.old) (write_text gate_limits s.now)) }
 {

@@ -1,12 +1,12 @@
 -- The ways through the functions that spell a head; and the spellings are those of the slots.
 use Prim.Native.Nat.{ℕ, zero, suc, ◌-◌, ◌*◌, ◌/◌, ◌%◌, ◌^◌, ◌≤◌, ◌<◌}
 use mathlib.Core.Path.{◌≡◌, refl, sym, ◌∙◌}
-use mathlib.Core.Bool.{Bool, true, false, ◌||◌, cond, true≢false}
+use mathlib.Core.Bool.{Bool, true, false, ◌&&◌, cond}
 use mathlib.Core.List.{List, [], ◌∷◌, ◌++◌, map}
 use native.Mathlib.Omega.{arith}
 use lib.ListN.{get_or, get_or-eq_default}
 use lib.Dec.{leb, eqb}
-use borrow.Author.Tests.{lt-leb, le-leb, eqb-true, ne_eqb}
+use borrow.Author.Tests.{leb-true, ne_eqb}
 use Rattle.cbor.proofs.Computed.{all_at}
 use Rattle.cbor.specs.Head.{Lead, is_container}
 use Rattle.ari.specs.Table.{Slot, version, ari, type, value, namespace, object_namespace, object_type, object_id, params, key, entry, nonce, set_time, target, report, report_time, report_source, Level, done, due}
@@ -15,16 +15,30 @@ use Rattle.text.specs.Chars.{ascii, literal_text, name_text}
 use Rattle.text.specs.Text.{type_name, spell}
 use Rattle.buffer.specs.Put.{Put}
 use Rattle.text_write_item.specs.Head.{head_of}
+use Rattle.text_write_item.specs.declared.Spelling.{Spelling}
+use Rattle.text_write_item.specs.declared.Spelling.TheVariants.{Unspelled, Ari, TypeName, Value, Label, Namespace, ObjectNamespace, ObjectType, ObjectId, Parameters, Key}
 use Rattle.text_write_item.specs.Spellings.{spellings, spelling_at, ari_text, opening, space_text, before_by, closing, after_by}
 use Rattle.buffer.proofs.Putting.{put_nothing, put_both}
 
-pub no_container : (k : ℕ) → k < 4 → false ≡ is_container k
-unfolding is_container
-no_container k h = rw (lt-leb 4 k h)
+module _ (k : ℕ) where
+  pub list_container : k ≡ 4 → true ≡ is_container k
+  unfolding is_container
+  list_container e = rw e
 
-pub a_container : (k : ℕ) → 4 ≤ k → leb k 5 ≡ is_container k
-unfolding is_container
-a_container k h = rw (le-leb 4 k h)
+  pub map_container : k ≡ 5 → true ≡ is_container k
+  unfolding is_container
+  map_container e = rw e
+
+  pub no_container : (k ≡ 4 → ⊥) → (k ≡ 5 → ⊥) → false ≡ is_container k
+  unfolding is_container
+  no_container n m = go (leb 4 k) refl (leb k 5) refl
+    where
+      go : (x : Bool) → leb 4 k ≡ x → (y : Bool) → leb k 5 ≡ y → false ≡ (x && y)
+      go true e true f = absurd (let h = leb-true 4 k e in let g = leb-true k 5 f in omega (arith, n, m))
+      go true e false f = refl
+      go false e y f = refl
+
+pub ruleset containers = (list_container, map_container, no_container)
 
 module _ {a b : List ℕ} {at r : ℕ} (k n : ℕ) (s : List ℕ) where
   pub typed_literal : k ≡ 4 → n ≡ 2 → Put a b at r (47 ∷ []) → Put a b at r (ari_text k n s)
@@ -74,46 +88,47 @@ a_comma m e p = rw e p
 pub no_comma : (room : List ℕ) (at : ℕ) (m : Bool) → m ≡ false → Put room room at at (cond m (44 ∷ []) [])
 no_comma room at m e = rw e (put_nothing room at)
 
--- by the number of the spelling
-pub before_by_lem : {a b : List ℕ} {at r : ℕ} (w i k n : ℕ) (s : List ℕ) {u : List ℕ} → w ≡ i → Put a b at r u → u ≡ before_by i k n s → Put a b at r (before_by w k n s)
+-- by the spelling
+pub before_by_lem : {a b : List ℕ} {at r : ℕ} (w i : Spelling) (k n : ℕ) (s : List ℕ) {u : List ℕ} → w ≡ i → Put a b at r u → u ≡ before_by i k n s → Put a b at r (before_by w k n s)
 before_by_lem w i k n s e p q = rw (e, ← q) p
 
-pub after_by_lem : {a b : List ℕ} {at r : ℕ} (w i k : ℕ) (m : Bool) {u : List ℕ} → w ≡ i → Put a b at r u → u ≡ after_by i k m → Put a b at r (after_by w k m)
+pub after_by_lem : {a b : List ℕ} {at r : ℕ} (w i : Spelling) (k : ℕ) (m : Bool) {u : List ℕ} → w ≡ i → Put a b at r u → u ≡ after_by i k m → Put a b at r (after_by w k m)
 after_by_lem w i k m e p q = rw (e, ← q) p
 
-pub nothing_before : (room : List ℕ) (at w k n : ℕ) (s : List ℕ) → (w ≡ 1 → ⊥) → (w ≡ 2 → ⊥) → (w ≡ 3 → ⊥) → (w ≡ 4 → ⊥) → (w ≡ 5 → ⊥) → (w ≡ 6 → ⊥)
-    → (w ≡ 7 → ⊥) → (w ≡ 8 → ⊥) → (w ≡ 9 → ⊥) → (w ≡ 10 → ⊥) → Put room room at at (before_by w k n s)
-unfolding before_by
-nothing_before room at w k n s a b c d e f g h i j =
-    rw (ne_eqb w 1 a, ne_eqb w 2 b, ne_eqb w 3 c, ne_eqb w 4 d, ne_eqb w 5 e, ne_eqb w 6 f, ne_eqb w 7 g, ne_eqb w 8 h, ne_eqb w 9 i, ne_eqb w 10 j) (put_nothing room at)
+module _ (room : List ℕ) (at : ℕ) (w : Spelling) (k : ℕ) where
+  pub nothing_before : (n : ℕ) (s : List ℕ) → w ≡ Unspelled → Put room room at at (before_by w k n s)
+  unfolding before_by
+  nothing_before n s e = rw e (put_nothing room at)
 
-pub nothing_after : (room : List ℕ) (at w k : ℕ) (m : Bool) → (w ≡ 1 → ⊥) → (w ≡ 2 → ⊥) → (w ≡ 3 → ⊥) → (w ≡ 4 → ⊥) → (w ≡ 5 → ⊥) → (w ≡ 6 → ⊥)
-    → (w ≡ 7 → ⊥) → (w ≡ 9 → ⊥) → (w ≡ 10 → ⊥) → Put room room at at (after_by w k m)
-unfolding after_by
-nothing_after room at w k m a b c d e f g h i =
-    rw (ne_eqb w 1 a, ne_eqb w 2 b, ne_eqb w 3 c, ne_eqb w 4 d, ne_eqb w 5 e, ne_eqb w 6 f, ne_eqb w 7 g, ne_eqb w 9 h, ne_eqb w 10 i) (put_nothing room at)
+  pub nothing_after : (m : Bool) → w ≡ Unspelled → Put room room at at (after_by w k m)
+  unfolding after_by
+  nothing_after m e = rw e (put_nothing room at)
+
+  pub nothing_after_id : (m : Bool) → w ≡ ObjectId → Put room room at at (after_by w k m)
+  unfolding after_by
+  nothing_after_id m e = rw e (put_nothing room at)
 
 -- the spelling of a slot
-unfoldable pub spelling_of : Slot → ℕ
-spelling_of version = 0
-spelling_of (ari w) = 1
-spelling_of (type w) = 2
-spelling_of (value t w) = cond (eqb t 14) 4 3
-spelling_of namespace = 5
-spelling_of (object_namespace p) = 6
-spelling_of (object_type p) = 7
-spelling_of (object_id p) = 8
-spelling_of params = 9
-spelling_of (key w) = 10
-spelling_of (entry w) = 1
-spelling_of (nonce t) = 0
-spelling_of set_time = 0
-spelling_of target = 0
-spelling_of report = 0
-spelling_of report_time = 0
-spelling_of report_source = 0
+unfoldable pub spelling_of : Slot → Spelling
+spelling_of version = Unspelled
+spelling_of (ari w) = Ari
+spelling_of (type w) = TypeName
+spelling_of (value t w) = cond (eqb t 14) Label Value
+spelling_of namespace = Namespace
+spelling_of (object_namespace p) = ObjectNamespace
+spelling_of (object_type p) = ObjectType
+spelling_of (object_id p) = ObjectId
+spelling_of params = Parameters
+spelling_of (key w) = Key
+spelling_of (entry w) = Ari
+spelling_of (nonce t) = Unspelled
+spelling_of set_time = Unspelled
+spelling_of target = Unspelled
+spelling_of report = Unspelled
+spelling_of report_time = Unspelled
+spelling_of report_source = Unspelled
 
-spelling_map : (ss : List Slot) (i : ℕ) → spelling_of (get_or ss i version) ≡ get_or (map spelling_of ss) i 0
+spelling_map : (ss : List Slot) (i : ℕ) → spelling_of (get_or ss i version) ≡ get_or (map spelling_of ss) i Unspelled
 unfolding spelling_of
 spelling_map [] i = refl
 spelling_map (s ∷ ss) zero = refl
@@ -130,7 +145,7 @@ before_of (ari w) l u = refl
 before_of (type w) l u = refl
 before_of (value t w) l u = go (eqb t 14) refl
   where
-    go : (x : Bool) → eqb t 14 ≡ x → (spell (value t w)).before l u ≡ before_by (cond x 4 3) l.kind l.arg u
+    go : (x : Bool) → eqb t 14 ≡ x → (spell (value t w)).before l u ≡ before_by (cond x Label Value) l.kind l.arg u
     go true e = rw e
     go false e = rw e
 before_of namespace l u = refl
@@ -163,7 +178,7 @@ after_of (ari w) l v = comma_is v
 after_of (type w) l v = refl
 after_of (value t w) l v = go (eqb t 14)
   where
-    go : (x : Bool) → (spell (value t w)).after l v ≡ after_by (cond x 4 3) l.kind (is_due v)
+    go : (x : Bool) → (spell (value t w)).after l v ≡ after_by (cond x Label Value) l.kind (is_due v)
     go true = refl
     go false = refl
 after_of namespace l v = refl
@@ -186,37 +201,4 @@ before_is i l u = before_of (slot_of i) l u ∙ rw (spelling_is i)
 pub after_is : (i : ℕ) (l : Lead) (v : Level) → (spell (slot_of i)).after l v ≡ after_by (spelling_at i) l.kind (is_due v)
 after_is i l v = after_of (slot_of i) l v ∙ rw (spelling_is i)
 
--- the spelling of a slot, as the code finds it
-module _ (i : ℕ) where
-  pub low_spelling : i < 16 → 9833440814332711184 / 2 ^ (i * 4) % 16 ≡ spelling_at i
-  low_spelling h =
-      eqb-true (9833440814332711184 / 2 ^ (i * 4) % 16) (spelling_at i)
-      (all_at 16 0 (λ j. eqb (9833440814332711184 / 2 ^ (j * 4) % 16) (spelling_at j)) refl i (omega arith) (omega arith))
-
-  pub next_spelling : 16 ≤ i → i < 28 → 72361 / 2 ^ ((i - 16) * 4) % 16 ≡ spelling_at i
-  next_spelling h g =
-      eqb-true (72361 / 2 ^ ((i - 16) * 4) % 16) (spelling_at i)
-      (all_at 12 16 (λ j. eqb (72361 / 2 ^ ((j - 16) * 4) % 16) (spelling_at j)) refl i (omega arith) (omega arith))
-
-  pub no_spelling : 72 ≤ i → 0 ≡ spelling_at i
-  no_spelling h = sym (get_or-eq_default spellings 0 h)
-
-  pub label_spelling : i ≡ 42 → 4 ≡ spelling_at i
-  label_spelling e = rw e
-
-  pub label_spelling_param : i ≡ 64 → 4 ≡ spelling_at i
-  label_spelling_param e = rw e
-
-  pub value_spelling : 28 ≤ i → i < 72 → (i ≡ 42 → ⊥) → (i ≡ 64 → ⊥) → 3 ≡ spelling_at i
-  value_spelling h g n m =
-      go (eqb i 42) (ne_eqb i 42 n) (eqb i 64) (ne_eqb i 64 m)
-      (all_at 44 28 (λ j. eqb j 42 || (eqb j 64 || eqb (spelling_at j) 3)) refl i (omega arith) (omega arith))
-    where
-      go : (x : Bool) → x ≡ false → (y : Bool) → y ≡ false → (x || (y || eqb (spelling_at i) 3)) ≡ true → 3 ≡ spelling_at i
-      go true e y f t = absurd (true≢false e)
-      go false e true f t = absurd (true≢false f)
-      go false e false f t = sym (eqb-true (spelling_at i) 3 t)
-
-pub ruleset slot_spellings = (low_spelling, next_spelling, no_spelling, label_spelling, label_spelling_param, value_spelling)
-
-pub ruleset ways_through = (no_container, a_container, typed_literal, untyped_literal, relative_space, absolute_space, a_reference, absolute_name, opens, leaves, closes, stays, a_comma, no_comma, nothing_before, nothing_after)
+pub ruleset ways_through = (typed_literal, untyped_literal, relative_space, absolute_space, a_reference, absolute_name, opens, leaves, closes, stays, a_comma, no_comma, nothing_before, nothing_after, nothing_after_id)

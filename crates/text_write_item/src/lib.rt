@@ -32,10 +32,7 @@ fn put_hex(out: &mut [u8], at: usize, ten: u8, x: u8) -> usize
 fn is_bare(x: u8) -> bool
     ensures { result ≡ bare x }
 {
-    if grammar::continues_name(x) {
-        return true;
-    }
-    x == b'~'
+    grammar::continues_name(x) || x == b'~'
 }
 
 // A byte of a text string.
@@ -53,10 +50,8 @@ fn put_escapes(out: &mut [u8], at: usize, s: &[u8]) -> usize
     ensures { Put out.old out.new at result (each escape s.now) }
 {
     let mut r = at;
-    let mut i = 0;
-    while i < s.len() {
-        r = put_escaped(out, r, s[i]);
-        i += 1;
+    for x in s {
+        r = put_escaped(out, r, *x);
     }
     r
 }
@@ -65,10 +60,8 @@ fn put_hexes(out: &mut [u8], at: usize, s: &[u8]) -> usize
     ensures { Put out.old out.new at result (each (hexes 97) s.now) }
 {
     let mut r = at;
-    let mut i = 0;
-    while i < s.len() {
-        r = put_hex(out, r, b'a', s[i]);
-        i += 1;
+    for x in s {
+        r = put_hex(out, r, b'a', *x);
     }
     r
 }
@@ -94,16 +87,16 @@ fn put_negative(out: &mut [u8], at: usize, arg: u64) -> usize
     ensures { Put out.old out.new at result (integer 1 arg) }
 {
     let q = buffer::put(out, at, b'-');
-    if arg == 18446744073709551615 {
-        return buffer::put_all(out, q, b"18446744073709551616");
+    match arg.checked_add(1) {
+        Some(n) => buffer::put_decimal(out, q, n),
+        None => buffer::put_all(out, q, b"18446744073709551616"),
     }
-    buffer::put_decimal(out, q, arg + 1)
 }
 
 fn put_integer(out: &mut [u8], at: usize, kind: u8, arg: u64) -> usize
     ensures { Put out.old out.new at result (integer kind arg) }
 {
-    if kind == 1 {
+    if kind == cbor::NEGATIVE {
         return put_negative(out, at, arg);
     }
     buffer::put_decimal(out, at, arg)
@@ -125,11 +118,11 @@ fn put_literal(out: &mut [u8], at: usize, kind: u8, arg: u64, s: &[u8]) -> usize
     ensures { Put out.old out.new at result (literal_text (head_of kind arg) s.now) }
 {
     match kind {
-        0 => put_integer(out, at, kind, arg),
-        1 => put_integer(out, at, kind, arg),
-        2 => put_bytes(out, at, s),
-        3 => put_text(out, at, s),
-        6 => put_simple(out, at, arg),
+        cbor::UNSIGNED => put_integer(out, at, kind, arg),
+        cbor::NEGATIVE => put_integer(out, at, kind, arg),
+        cbor::BYTES => put_bytes(out, at, s),
+        cbor::TEXT => put_text(out, at, s),
+        cbor::SIMPLE => put_simple(out, at, arg),
         _ => at,
     }
 }
@@ -138,7 +131,7 @@ fn put_literal(out: &mut [u8], at: usize, kind: u8, arg: u64, s: &[u8]) -> usize
 fn put_name(out: &mut [u8], at: usize, kind: u8, arg: u64, s: &[u8]) -> usize
     ensures { Put out.old out.new at result (name_text (head_of kind arg) s.now) }
 {
-    if kind == 3 {
+    if kind == cbor::TEXT {
         return buffer::put_all(out, at, s);
     }
     put_integer(out, at, kind, arg)
@@ -173,69 +166,116 @@ fn put_type(out: &mut [u8], at: usize, arg: u64) -> usize
 }
 
 // How the heads of a slot are spelled, by what is due there. What stands in sets alone has no text.
-pub const NOT_SPELLED: u8 = 0;
-
-pub const AS_ARI: u8 = 1;
-
-pub const AS_TYPE: u8 = 2;
-
-pub const AS_VALUE: u8 = 3;
-
-pub const AS_LABEL: u8 = 4;
-
-pub const AS_NAMESPACE: u8 = 5;
-
-pub const AS_OBJECT_NAMESPACE: u8 = 6;
-
-pub const AS_OBJECT_TYPE: u8 = 7;
-
-pub const AS_OBJECT_ID: u8 = 8;
-
-pub const AS_PARAMETERS: u8 = 9;
-
-pub const AS_KEY: u8 = 10;
-
-// How the values of types are spelled: a LABEL is bare.
-fn value_spelling(slot: u64) -> u8
-    requires { (28 ≤ slot) × (slot < 72) }
-    ensures { result ≡ spelling_at slot }
-{
-    match slot {
-        42 => AS_LABEL,
-        64 => AS_LABEL,
-        _ => AS_VALUE,
-    }
+#[derive(Clone, Copy)]
+pub enum Spelling {
+    Unspelled,
+    Ari,
+    TypeName,
+    Value,
+    Label,
+    Namespace,
+    ObjectNamespace,
+    ObjectType,
+    ObjectId,
+    Parameters,
+    Key,
 }
 
-// How a slot's heads are spelled: four bits a slot, up to the values of types.
-pub fn spelling_of(slot: u64) -> u8
+// By the slot's number, up to the values of types: a LABEL is bare.
+const SPELLINGS: [Spelling; 72] = [
+    Spelling::Unspelled,
+    Spelling::Ari,
+    Spelling::Ari,
+    Spelling::Ari,
+    Spelling::Ari,
+    Spelling::TypeName,
+    Spelling::TypeName,
+    Spelling::TypeName,
+    Spelling::TypeName,
+    Spelling::Namespace,
+    Spelling::ObjectNamespace,
+    Spelling::ObjectNamespace,
+    Spelling::ObjectType,
+    Spelling::ObjectType,
+    Spelling::ObjectId,
+    Spelling::ObjectId,
+    Spelling::Parameters,
+    Spelling::Key,
+    Spelling::Key,
+    Spelling::Ari,
+    Spelling::Ari,
+    Spelling::Unspelled,
+    Spelling::Unspelled,
+    Spelling::Unspelled,
+    Spelling::Unspelled,
+    Spelling::Unspelled,
+    Spelling::Unspelled,
+    Spelling::Unspelled,
+    Spelling::Value,
+    Spelling::Value,
+    Spelling::Value,
+    Spelling::Value,
+    Spelling::Value,
+    Spelling::Value,
+    Spelling::Value,
+    Spelling::Value,
+    Spelling::Value,
+    Spelling::Value,
+    Spelling::Value,
+    Spelling::Value,
+    Spelling::Value,
+    Spelling::Value,
+    Spelling::Label,
+    Spelling::Value,
+    Spelling::Value,
+    Spelling::Value,
+    Spelling::Value,
+    Spelling::Value,
+    Spelling::Value,
+    Spelling::Value,
+    Spelling::Value,
+    Spelling::Value,
+    Spelling::Value,
+    Spelling::Value,
+    Spelling::Value,
+    Spelling::Value,
+    Spelling::Value,
+    Spelling::Value,
+    Spelling::Value,
+    Spelling::Value,
+    Spelling::Value,
+    Spelling::Value,
+    Spelling::Value,
+    Spelling::Value,
+    Spelling::Label,
+    Spelling::Value,
+    Spelling::Value,
+    Spelling::Value,
+    Spelling::Value,
+    Spelling::Value,
+    Spelling::Value,
+    Spelling::Value,
+];
+
+pub fn spelling_of(slot: u64) -> Spelling
     ensures { result ≡ spelling_at slot }
 {
-    if slot < 16 {
-        return ((0x8877665222211110u64 >> (slot * 4)) % 16) as u8;
+    if 72 <= slot {
+        return Spelling::Unspelled;
     }
-    if slot < 28 {
-        return ((0x11aa9u64 >> ((slot - 16) * 4)) % 16) as u8;
-    }
-    if slot < 72 {
-        return value_spelling(slot);
-    }
-    NOT_SPELLED
+    SPELLINGS[slot as usize]
 }
 
 pub fn is_container(kind: u8) -> bool
     ensures { result ≡ is_container kind }
 {
-    if kind < 4 {
-        return false;
-    }
-    kind <= 5
+    matches!(kind, cbor::ARRAY | cbor::MAP)
 }
 
 fn put_ari(out: &mut [u8], at: usize, kind: u8, arg: u64, s: &[u8]) -> usize
     ensures { Put out.old out.new at result (ari_text kind arg s.now) }
 {
-    if kind == 4 {
+    if kind == cbor::ARRAY {
         if arg == 2 {
             return buffer::put(out, at, b'/');
         }
@@ -272,28 +312,35 @@ fn put_absolute(out: &mut [u8], at: usize, kind: u8, arg: u64, s: &[u8]) -> usiz
 fn put_space(out: &mut [u8], at: usize, kind: u8, arg: u64, s: &[u8]) -> usize
     ensures { Put out.old out.new at result (space_text kind arg s.now) }
 {
-    if kind == 6 {
+    if kind == cbor::SIMPLE {
         return buffer::put(out, at, b'.');
     }
     put_absolute(out, at, kind, arg, s)
 }
 
 // What a head, with its string, writes before its members.
-pub fn put_before(out: &mut [u8], at: usize, spelling: u8, kind: u8, arg: u64, s: &[u8]) -> usize
+pub fn put_before(
+    out: &mut [u8],
+    at: usize,
+    spelling: Spelling,
+    kind: u8,
+    arg: u64,
+    s: &[u8],
+) -> usize
     ensures { Put out.old out.new at result (before_by spelling kind arg s.now) }
 {
     match spelling {
-        AS_ARI => put_ari(out, at, kind, arg, s),
-        AS_TYPE => put_type(out, at, arg),
-        AS_VALUE => put_value(out, at, kind, arg, s),
-        AS_LABEL => put_label(out, at, kind, s),
-        AS_NAMESPACE => put_absolute(out, at, kind, arg, s),
-        AS_OBJECT_NAMESPACE => put_space(out, at, kind, arg, s),
-        AS_OBJECT_TYPE => put_name(out, at, kind, arg, s),
-        AS_OBJECT_ID => put_name(out, at, kind, arg, s),
-        AS_PARAMETERS => buffer::put(out, at, b'('),
-        AS_KEY => put_literal(out, at, kind, arg, s),
-        _ => at,
+        Spelling::Ari => put_ari(out, at, kind, arg, s),
+        Spelling::TypeName => put_type(out, at, arg),
+        Spelling::Value => put_value(out, at, kind, arg, s),
+        Spelling::Label => put_label(out, at, kind, s),
+        Spelling::Namespace => put_absolute(out, at, kind, arg, s),
+        Spelling::ObjectNamespace => put_space(out, at, kind, arg, s),
+        Spelling::ObjectType => put_name(out, at, kind, arg, s),
+        Spelling::ObjectId => put_name(out, at, kind, arg, s),
+        Spelling::Parameters => buffer::put(out, at, b'('),
+        Spelling::Key => put_literal(out, at, kind, arg, s),
+        Spelling::Unspelled => at,
     }
 }
 
@@ -316,19 +363,20 @@ fn put_closing(out: &mut [u8], at: usize, kind: u8) -> usize
 }
 
 // What it writes after them; whether more is due beside it.
-pub fn put_after(out: &mut [u8], at: usize, spelling: u8, kind: u8, more: bool) -> usize
+pub fn put_after(out: &mut [u8], at: usize, spelling: Spelling, kind: u8, more: bool) -> usize
     ensures { Put out.old out.new at result (after_by spelling kind more) }
 {
     match spelling {
-        AS_ARI => put_comma(out, at, more),
-        AS_TYPE => buffer::put(out, at, b'/'),
-        AS_VALUE => put_closing(out, at, kind),
-        AS_LABEL => put_closing(out, at, kind),
-        AS_NAMESPACE => buffer::put(out, at, b'/'),
-        AS_OBJECT_NAMESPACE => buffer::put(out, at, b'/'),
-        AS_OBJECT_TYPE => buffer::put(out, at, b'/'),
-        AS_PARAMETERS => buffer::put(out, at, b')'),
-        AS_KEY => buffer::put(out, at, b'='),
-        _ => at,
+        Spelling::Ari => put_comma(out, at, more),
+        Spelling::TypeName => buffer::put(out, at, b'/'),
+        Spelling::Value => put_closing(out, at, kind),
+        Spelling::Label => put_closing(out, at, kind),
+        Spelling::Namespace => buffer::put(out, at, b'/'),
+        Spelling::ObjectNamespace => buffer::put(out, at, b'/'),
+        Spelling::ObjectType => buffer::put(out, at, b'/'),
+        Spelling::Parameters => buffer::put(out, at, b')'),
+        Spelling::Key => buffer::put(out, at, b'='),
+        Spelling::ObjectId => at,
+        Spelling::Unspelled => at,
     }
 }

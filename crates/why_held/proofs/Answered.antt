@@ -17,9 +17,12 @@ use Rattle.ari.specs.Reader.{read, refuse, accept}
 use Rattle.ari.specs.Reader as reader
 use Rattle.ari.specs.Listing.{Space, Entry, listing}
 use Rattle.item_table.specs.Entries.{Tabled}
-use Rattle.reader.specs.declared.Answer.{Answer}
-use Rattle.reader.specs.declared.Answer.TheVariants as answers
-use Rattle.reader.specs.Answers.{answer_of}
+use Rattle.std.specs.Prelude.{IfOk}
+use Rattle.std.specs.declared.result.Result.{Result}
+use Rattle.std.specs.declared.result.Result.TheVariants.{Ok, Err}
+use Rattle.ari.specs.declared.Refusal.{Refusal}
+use Rattle.ari.specs.Refusals as refusals
+use Rattle.reader.specs.Results.{result_of}
 use Rattle.names.specs.declared.Names.{Names}
 use Rattle.names.specs.declared.Names.TheVariants as lists
 use Rattle.names.specs.Names.{check_names}
@@ -27,18 +30,18 @@ use Rattle.names.specs.Translated.{translate, translated}
 use Rattle.grants.specs.Grants.{granted}
 use Rattle.grants.specs.Bytes.{rows, ragged}
 use Rattle.release.specs.declared.Released.{Released}
-use Rattle.release.specs.declared.Released.TheVariants as released
-use Rattle.release.specs.Release.{Release, refused, yes, no, judge_from, judge, release, after_lists, release_bytes, answer_of as answered}
+use Rattle.release.specs.declared.Released.TheVariants.{Yes, No}
+use Rattle.release.specs.Release.{Release, refused, yes, no, judge_from, judge, release, after_lists, release_bytes}
 use Rattle.release.specs.Compared.{compared, counted, counted_bytes}
 use Rattle.why_held.specs.declared.Link.{Link}
 use Rattle.why_held.specs.declared.Chain.{Chain}
 use Rattle.why_held.specs.declared.Place.{Place}
 use Rattle.why_held.specs.declared.Outcome.{Outcome}
-use Rattle.why_held.specs.declared.Outcome.TheVariants.{Held, Refused}
+use Rattle.why_held.specs.declared.Outcome.TheVariants.{Held}
 use Rattle.why_held.specs.declared.Outcome.TheVariants as outcomes
 use Rattle.why_held.specs.declared.Why.{Why}
 use Rattle.why_held.specs.Chain.{chain}
-use Rattle.why_held.specs.Why.{reason_of, no_entry, no_link, in_room, outcome_of, links_of, why_by, why, Few, outcome_in, room_after, why_room}
+use Rattle.why_held.specs.Why.{reason_of, no_entry, no_link, in_room, outcome_of, links_of, why_by, why, Few, answer_of, outcome_in, room_after, why_room}
 use Rattle.why_held.specs.Code.{chain_by, place_of, IsListed, IsHeld, written_by}
 use Rattle.why_held.proofs.Going.{few_links}
 
@@ -68,7 +71,7 @@ module _ (b published own : List ℕ) (k : ℕ) (h : k < length (listing b)) {p 
       }
 
   module _ {c : Chain} (f : c ≡ chain_by b p.first p.after) where
-    pub held_is : ◌≡◌ {A = Why} (record { outcome = Held k p.reason c.count; links = c.links }) (why_by b published own (no k))
+    pub held_is : ◌≡◌ {A = Result Why Refusal} (Ok (record { outcome = Held k p.reason c.count; links = c.links })) (why_by b published own (no k))
     held_is = rw (f, e)
 
     pub held_few : {m : Limits} {n : ℕ} {t : List ℕ} → Tabled m Message b n t → m.containers ≤ gate_limits.containers
@@ -108,76 +111,41 @@ module _ (m : Limits) (b t published own : List ℕ) (s k : ℕ) where
   unfolding release_bytes
   is_held e = held_by (read m Message b) refl (check_names published own) e
 
--- the code's answer without its count
-without : (z : Release) (c : ℕ) → answered (counted z c) ≡ z
-without yes c = refl
-without (no k) c = refl
-without (refused r p) c = refl
+-- what release answers, from the code's answer
+yes_of : (z : Release) (c : ℕ) {d : ℕ} → Ok (Yes d) ≡ counted z c → z ≡ yes
+yes_of yes c e = refl
+yes_of (no k) c e = absurd (let z : ◌≡◌ {A = ℕ} 0 1 = cc in omega arith)
+yes_of (refused r p) c e = absurd (let z : ◌≡◌ {A = ℕ} 0 1 = cc in omega arith)
 
-module _ (m : Limits) (b t published own : List ℕ) (s : ℕ) {x : Released} (e : x ≡ counted_bytes m b t published own s) where
+no_of : (z : Release) (c : ℕ) {k d : ℕ} → Ok (No k d) ≡ counted z c → z ≡ no k
+no_of yes c e = absurd (let z : ◌≡◌ {A = ℕ} 0 1 = cc in omega arith)
+no_of (no j) c {k} e = let q : k ≡ j = cc in ap no (sym q)
+no_of (refused r p) c e = absurd (let z : ◌≡◌ {A = ℕ} 0 1 = cc in omega arith)
+
+refusal_of : (b published own : List ℕ) (z : Release) (c : ℕ) {e : Refusal} → Err e ≡ counted z c → Err e ≡ why_by b published own z
+refusal_of b published own yes c q = absurd (let z : ◌≡◌ {A = ℕ} 0 1 = cc in omega arith)
+refusal_of b published own (no k) c q = absurd (let z : ◌≡◌ {A = ℕ} 0 1 = cc in omega arith)
+refusal_of b published own (refused r p) c {e} q = let f : e ≡ refusals.refusal_of r p = cc in ap Err f
+
+module _ (m : Limits) (b t published own : List ℕ) (s : ℕ) {x : Result Released Refusal} (e : x ≡ counted_bytes m b t published own s) where
   abbrev r : Release
   r = release_bytes m b t published own s
 
-  said : r ≡ answered x
+  pub why_released : {c : ℕ} → x ≡ Ok (Yes c) → {w : Why} → w.outcome ≡ outcomes.Released → w.links ≡ in_room [] → Ok w ≡ why m b t published own s
+  unfolding why counted_bytes
+  why_released f g h = rw (yes_of r _ (sym f ∙ e)) (rw (g, h))
+
+  pub why_refused : {z : Refusal} → x ≡ Err z → Err z ≡ why m b t published own s
+  unfolding why counted_bytes
+  why_refused f = refusal_of b published own r _ (sym f ∙ e)
+
+  pub why_held : {k c : ℕ} → x ≡ Ok (No k c) → {w : Result Why Refusal} → w ≡ why_by b published own (no k) → w ≡ why m b t published own s
+  unfolding why counted_bytes
+  why_held f g = g ∙ rw (no_of r _ (sym f ∙ e))
+
+  pub held_needs : {k c : ℕ} {m' : Limits} → m' ≡ m → x ≡ Ok (No k c) → IsHeld m' b k
   unfolding counted_bytes
-  said = sym (rw e (without r (compared (rows t) b published own s)))
-
-  pub why_released : {c : ℕ} → x ≡ released.Yes c → {w : Why} → w.outcome ≡ outcomes.Released → w.links ≡ in_room [] → w ≡ why m b t published own s
-  unfolding why
-  why_released f g h = rw (said, f) (rw (g, h))
-
-  pub why_refused : {n p : ℕ} → x ≡ released.Refused n p → {w : Why} → w.outcome ≡ Refused n p → w.links ≡ in_room [] → w ≡ why m b t published own s
-  unfolding why
-  why_refused f g h = rw (said, f) (rw (g, h))
-
-  pub why_held : {k c : ℕ} → x ≡ released.No k c → {w : Why} → w ≡ why_by b published own (no k) → w ≡ why m b t published own s
-  unfolding why
-  why_held f g = g ∙ rw (said, f)
-
-  pub held_needs : {k c : ℕ} {m' : Limits} → m' ≡ m → x ≡ released.No k c → IsHeld m' b k
-  held_needs {k} q f = rw q (is_held m b t published own s k (said ∙ ap answered f))
-
-pub few_released : {w : Why} → w.outcome ≡ outcomes.Released → w.links ≡ in_room [] → Few w
-few_released g h = record { links = rw g tt; room = rw h }
-
-pub few_refused : {w : Why} {n p : ℕ} → w.outcome ≡ Refused n p → w.links ≡ in_room [] → Few w
-few_refused g h = record { links = rw g tt; room = rw h }
-
-pub ruleset whys = (why_released, why_refused, why_held, held_needs, few_released, few_refused)
-
--- a held message is accepted again
-module _ {m : Limits} {b : List ℕ} {k : ℕ} (h : IsHeld m b k) {a : Answer} (e : a ≡ answer_of (read m Message b)) where
-  pub not_refused : {n p : ℕ} → a ≡ answers.Refused n p → ⊥
-  not_refused f = let z : answer_of (accept h.items) ≡ answers.Refused _ _ = rw h.accepted at (sym e ∙ f) in (let y : ◌≡◌ {A = ℕ} 0 1 = cc in omega arith)
-
--- what is held, in the lent room
-module _ {w : Why} (few : Few w) {k r n : ℕ} (e : w.outcome ≡ Held k r n) where
-  few_is : n ≤ gate_limits.containers
-  few_is = rw e at few.links
-
-  pub need_fits : Fits w64 (n * 24)
-  need_fits = let z = few_is in omega arith
-
-  pub links_there : n ≤ length w.links
-  links_there = let z = few_is in omega (arith, few.room)
-
-module _ {o : Outcome} {k r n room : ℕ} (e : o ≡ Held k r n) where
-  pub too_short : room < n * 24 → Refused 16 (n * 24) ≡ outcome_in o room
-  too_short h = let q : n * 24 ≡ 24 * n = omega arith in rw (e, q, lt-ltb room (24 * n) (omega arith))
-
-  pub enough : n * 24 ≤ room → Held k r n ≡ outcome_in o room
-  enough h = rw (e, le-ltb room (24 * n) (omega arith))
-
-  pub links_fit : n * 24 ≤ room → 24 * n ≤ room
-  links_fit h = omega arith
-
-pub refused_alike : (o : Outcome) (room : ℕ) {n p : ℕ} → o ≡ Refused n p → Refused n p ≡ outcome_in o room
-refused_alike o room e = rw e
-
-pub released_alike : (o : Outcome) (room : ℕ) → o ≡ outcomes.Released → outcomes.Released ≡ outcome_in o room
-released_alike o room e = rw e
-
-pub ruleset writings = (need_fits, links_there, too_short, enough, links_fit, refused_alike, released_alike)
+  held_needs {k} q f = rw q (is_held m b t published own s k (no_of r _ (sym f ∙ e)))
 
 -- the room after it, in the terms of the definition
 first_links : (ls : List Link) → take (length ls) (in_room ls) ≡ ls
@@ -194,18 +162,33 @@ module _ (b published own : List ℕ) where
       ls : List Link
       ls = links_of b published own (no k)
 
-      go : (t : Bool)
-          → written_by (cond t (Refused 16 (24 * length ls)) (Held k (reason_of (get_or (translated published own b) k no_entry).space) (length ls))) (in_room ls) out
-          ≡ room_after (cond t (Refused 16 (24 * length ls)) (Held k (reason_of (get_or (translated published own b) k no_entry).space) (length ls))) ls out
+      held : Result Outcome Refusal
+      held = Ok (Held k (reason_of (get_or (translated published own b) k no_entry).space) (length ls))
+
+      go : (t : Bool) → written_by (cond t (refusals.refused 16 (24 * length ls)) held) (in_room ls) out ≡ room_after (cond t (refusals.refused 16 (24 * length ls)) held) ls out
       go true = refl
       go false = rw (first_links ls)
 
-module _ (m : Limits) (b t published own : List ℕ) (s : ℕ) {w : Why} (e : w ≡ why m b t published own s) (out : List ℕ) {o : Outcome} where
-  pub same_outcome : o ≡ outcome_in w.outcome (length out) → o ≡ outcome_in (why m b t published own s).outcome (length out)
-  same_outcome f = f ∙ rw e
+module _ (m : Limits) (b t published own : List ℕ) (s : ℕ) {a : Result Why Refusal} (e : a ≡ why m b t published own s) (out : List ℕ) where
+  same_room_after : (x : Release) {z : Refusal} → Err z ≡ why_by b published own x → out ≡ room_after (outcome_in (outcome_of b published own x) (length out)) (links_of b published own x) out
+  same_room_after yes q = absurd (let z : ◌≡◌ {A = ℕ} 0 1 = cc in omega arith)
+  same_room_after (no k) q = absurd (let z : ◌≡◌ {A = ℕ} 0 1 = cc in omega arith)
+  same_room_after (refused r p) q = refl
 
-  pub same_room : o ≡ outcome_in w.outcome (length out) → {out' : List ℕ} → out' ≡ written_by o w.links out → out' ≡ why_room m b t published own s out
+  pub no_room : {x : Refusal} → a ≡ Err x → out ≡ why_room m b t published own s out
   unfolding why why_room
-  same_room f g = g ∙ rw (f, e) (written_is b published own (release_bytes m b t published own s) out)
+  no_room f = same_room_after (release_bytes m b t published own s) (sym f ∙ e)
 
-pub ruleset rooms = (same_outcome, same_room)
+  module _ {w : Why} (f : a ≡ Ok w) {o : Result Outcome Refusal} where
+    written_by_why : (x : Release) → Ok w ≡ why_by b published own x → o ≡ outcome_in (Ok w.outcome) (length out) → {out' : List ℕ} → out' ≡ written_by o w.links out
+        → out' ≡ room_after (outcome_in (outcome_of b published own x) (length out)) (links_of b published own x) out
+    written_by_why yes q g h = let z : w ≡ record { outcome = outcomes.Released; links = in_room [] } = cc in h ∙ rw (g, z)
+    written_by_why (refused r p) q g h = absurd (let z : ◌≡◌ {A = ℕ} 0 1 = cc in omega arith)
+    written_by_why (no k) q g h =
+        let y = get_or (translated published own b) k no_entry in
+        let z : w ≡ record { outcome = Held k (reason_of y.space) (length (chain b y.first y.after)); links = in_room (chain b y.first y.after) } = cc in
+        h ∙ rw (g, z) (written_is b published own (no k) out)
+
+    pub same_room : o ≡ outcome_in (Ok w.outcome) (length out) → {out' : List ℕ} → out' ≡ written_by o w.links out → out' ≡ why_room m b t published own s out
+    unfolding why why_room
+    same_room g h = written_by_why (release_bytes m b t published own s) (sym f ∙ e) g h

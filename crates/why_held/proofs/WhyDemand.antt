@@ -23,9 +23,16 @@ use Rattle.item_table.specs.Entries.{no_spot}
 use Rattle.release.specs.Release.{Release, refused, yes, no, release_bytes}
 use Rattle.why_held.specs.declared.Link.{Link}
 use Rattle.why_held.specs.declared.Outcome.{Outcome}
-use Rattle.why_held.specs.declared.Outcome.TheVariants.{Released, Held, Refused}
+use Rattle.why_held.specs.declared.Outcome.TheVariants.{Released, Held}
+use Rattle.std.specs.declared.result.Result.{Result}
+use Rattle.std.specs.declared.result.Result.TheVariants.{Ok, Err}
+use Rattle.ari.specs.declared.Refusal.{Refusal}
+use Rattle.ari.specs.Refusals.{number_of}
+use Rattle.ari.specs.Refusals as refusals
+use Rattle.ari.proofs.Refusals.{number_of-fault_of}
+use Rattle.release.proofs.Compared.{Numbered, refusal, bytes_numbered}
 use Rattle.why_held.specs.Chain.{a_set, map_value, member_of, slot_meaning, meaning_of, link_of, chain_from, chain}
-use Rattle.why_held.specs.Why.{no_entry, outcome_of, why}
+use Rattle.why_held.specs.Why.{no_entry, outcome_of, answer_of, why_by, why}
 use Rattle.why_held.proofs.Paths.{Path, tops, holders, way_down}
 use Rattle.why_held.proofs.Keys.{is_key, is_value, InTurn, spot_turns}
 use Rattle.why_held.proofs.Going.{reference_mem}
@@ -138,32 +145,33 @@ module _ (m : Limits) (b t published own : List ℕ) (s : ℕ) where
   abbrev r : Release
   r = release_bytes m b t published own s
 
-  abbrev outcome : Outcome
-  outcome = (why m b t published own s).outcome
+  abbrev outcome : Result Outcome Refusal
+  outcome = answer_of (why m b t published own s)
 
-  pub released_alike : (r ≡ yes → outcome ≡ Released) × (outcome ≡ Released → r ≡ yes)
+  pub released_alike : (r ≡ yes → outcome ≡ Ok Released) × (outcome ≡ Ok Released → r ≡ yes)
   unfolding why
   released_alike = (λ e. rw e, λ e. go r e)
     where
-      go : (x : Release) → outcome_of b published own x ≡ Released → x ≡ yes
+      go : (x : Release) → answer_of (why_by b published own x) ≡ Ok Released → x ≡ yes
       go yes q = refl
       go (no k) q = absurd (let z : ◌≡◌ {A = ℕ} 0 1 = cc in omega arith)
       go (refused n p) q = absurd (let z : ◌≡◌ {A = ℕ} 0 1 = cc in omega arith)
 
-  pub refused_alike : (n p : ℕ) → (r ≡ refused n p → outcome ≡ Refused n p) × (outcome ≡ Refused n p → r ≡ refused n p)
+  pub refused_alike : ((n p : ℕ) → r ≡ refused n p → outcome ≡ refusals.refused n p) × ((e : Refusal) → outcome ≡ Err e → r ≡ refused (number_of e.fault) e.place)
   unfolding why
-  refused_alike n p = (λ e. rw e, λ e. go r e)
+  refused_alike = (λ n p e. rw e, λ e q. go r (bytes_numbered m b published own s t) q)
     where
-      go : (x : Release) → outcome_of b published own x ≡ Refused n p → x ≡ refused n p
-      go yes q = absurd (let z : ◌≡◌ {A = ℕ} 0 1 = cc in omega arith)
-      go (no k) q = absurd (let z : ◌≡◌ {A = ℕ} 0 1 = cc in omega arith)
-      go (refused n' p') q = let y : n' ≡ n = cc in let w : p' ≡ p = cc in rw (y, w)
+      go : (x : Release) → Numbered x → {e : Refusal} → answer_of (why_by b published own x) ≡ Err e → x ≡ refused (number_of e.fault) e.place
+      go yes h q = absurd (let z : ◌≡◌ {A = ℕ} 0 1 = cc in omega arith)
+      go (no k) h q = absurd (let z : ◌≡◌ {A = ℕ} 0 1 = cc in omega arith)
+      go (refused n p) (refusal i) {e} q =
+          let f : refusals.refusal_of n p ≡ e = cc in rw (← f) (ap (λ (k : ℕ). refused k p) (sym (number_of-fault_of n i)))
 
-  pub held_alike : (k q i : ℕ) → outcome ≡ Held k q i → r ≡ no k
+  pub held_alike : (k q i : ℕ) → outcome ≡ Ok (Held k q i) → r ≡ no k
   unfolding why
   held_alike k q i e = go r e
     where
-      go : (x : Release) → outcome_of b published own x ≡ Held k q i → x ≡ no k
+      go : (x : Release) → answer_of (why_by b published own x) ≡ Ok (Held k q i) → x ≡ no k
       go yes e = absurd (let z : ◌≡◌ {A = ℕ} 0 1 = cc in omega arith)
       go (no k') e = let y : k' ≡ k = cc in ap no y
       go (refused n p) e = absurd (let z : ◌≡◌ {A = ℕ} 0 1 = cc in omega arith)

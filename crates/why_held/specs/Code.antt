@@ -12,7 +12,10 @@ use Rattle.why_held.specs.declared.Link.{Link}
 use Rattle.why_held.specs.declared.Chain.{Chain}
 use Rattle.why_held.specs.declared.Place.{Place}
 use Rattle.why_held.specs.declared.Outcome.{Outcome}
-use Rattle.why_held.specs.declared.Outcome.TheVariants.{Released, Held, Refused}
+use Rattle.why_held.specs.declared.Outcome.TheVariants.{Released, Held}
+use Rattle.std.specs.declared.result.Result.{Result}
+use Rattle.std.specs.declared.result.Result.TheVariants.{Ok, Err}
+use Rattle.ari.specs.declared.Refusal.{Refusal}
 use Rattle.why_held.specs.Chain.{slot_meaning, meaning_of, chain}
 use Rattle.why_held.specs.Why.{reason_of, in_room, links_bytes}
 
@@ -49,7 +52,7 @@ pub record IsHeld (m : Limits) (b : List ℕ) (entry : ℕ) : Type 0 where
   pub below : entry < length (listing b)
 
 -- the room after an outcome, from the links that a room of links has in front
-abbrev pub written_by : Outcome → List Link → List ℕ → List ℕ
-written_by Released ls out = out
-written_by (Held k r n) ls out = links_bytes (take n ls) ++ drop (24 * n) out
-written_by (Refused r p) ls out = out
+abbrev pub written_by : Result Outcome Refusal → List Link → List ℕ → List ℕ
+written_by (Ok Released) ls out = out
+written_by (Ok (Held k r n)) ls out = links_bytes (take n ls) ++ drop (24 * n) out
+written_by (Err e) ls out = out

@@ -6,10 +6,14 @@ use Rattle.ari.specs.Limits.{gate_limits}
 use Rattle.ari.specs.declared.Limits.{Limits}
 use Rattle.ari.specs.Listing.{Space, number, name, relative, Entry}
 use Rattle.names.specs.Translated.{translated}
-use Rattle.release.specs.Release.{Release, refused, yes, no, release_bytes}
+use Rattle.std.specs.declared.result.Result.{Result}
+use Rattle.std.specs.declared.result.Result.TheVariants.{Ok, Err}
+use Rattle.ari.specs.declared.Refusal.{Refusal}
+use Rattle.ari.specs.Refusals.{refused}
+use Rattle.release.specs.Release.{Release, yes, no, release_bytes}
 use Rattle.why_held.specs.declared.Link.{Link}
 use Rattle.why_held.specs.declared.Outcome.{Outcome}
-use Rattle.why_held.specs.declared.Outcome.TheVariants.{Released, Held, Refused}
+use Rattle.why_held.specs.declared.Outcome.TheVariants.{Released, Held}
 use Rattle.why_held.specs.declared.Why.{Why}
 use Rattle.why_held.specs.Chain.{chain}
 
@@ -29,28 +33,31 @@ no_link = record { first = 0; after = 0; meaning = 0; key = max64 }
 abbrev pub in_room : List Link → List Link
 in_room ls = ls ++ replicate (gate_limits.containers - length ls) no_link
 
-abbrev pub outcome_of : List ℕ → List ℕ → List ℕ → Release → Outcome
-outcome_of b published own yes = Released
-outcome_of b published own (refused r p) = Refused r p
-outcome_of b published own (no k) = let e = get_or (translated published own b) k no_entry in Held k (reason_of e.space) (length (chain b e.first e.after))
+abbrev pub outcome_of : List ℕ → List ℕ → List ℕ → Release → Result Outcome Refusal
+outcome_of b published own yes = Ok Released
+outcome_of b published own (Release.refused r p) = refused r p
+outcome_of b published own (no k) = let e = get_or (translated published own b) k no_entry in Ok (Held k (reason_of e.space) (length (chain b e.first e.after)))
 
 abbrev pub links_of : List ℕ → List ℕ → List ℕ → Release → List Link
 links_of b published own yes = []
-links_of b published own (refused r p) = []
+links_of b published own (Release.refused r p) = []
 links_of b published own (no k) = let e = get_or (translated published own b) k no_entry in chain b e.first e.after
 
-abbrev pub why_by : List ℕ → List ℕ → List ℕ → Release → Why
-why_by b published own r = record { outcome = outcome_of b published own r; links = in_room (links_of b published own r) }
+abbrev pub with_links : Result Outcome Refusal → List Link → Result Why Refusal
+with_links (Ok o) ls = Ok (record { outcome = o; links = in_room ls })
+with_links (Err e) ls = Err e
+
+abbrev pub why_by : List ℕ → List ℕ → List ℕ → Release → Result Why Refusal
+why_by b published own r = with_links (outcome_of b published own r) (links_of b published own r)
 
 -- R176: what release refuses is refused alike, what it releases is released, and what it holds is held with the chain to the entry that it names
-unfoldable pub why : Limits → List ℕ → List ℕ → List ℕ → List ℕ → ℕ → Why
+unfoldable pub why : Limits → List ℕ → List ℕ → List ℕ → List ℕ → ℕ → Result Why Refusal
 why m b t published own s = why_by b published own (release_bytes m b t published own s)
 
 -- R174: the links of a chain are no more than containers may be open, so they have room
 abbrev pub FewBy : Outcome → Type 0
 FewBy Released = Unit {0}
 FewBy (Held k r n) = n ≤ gate_limits.containers
-FewBy (Refused r p) = Unit {0}
 
 pub record Few (w : Why) : Type 0 where
   pub links : FewBy w.outcome
@@ -64,16 +71,21 @@ abbrev pub links_bytes : List Link → List ℕ
 links_bytes [] = []
 links_bytes (l ∷ ls) = link_bytes l ++ links_bytes ls
 
--- R178: 16 with the bytes of the chain, where the room has fewer; a refusal and a release leave the room as it was
-abbrev pub outcome_in : Outcome → ℕ → Outcome
-outcome_in Released room = Released
-outcome_in (Held k r n) room = cond (ltb room (24 * n)) (Refused 16 (24 * n)) (Held k r n)
-outcome_in (Refused r p) room = Refused r p
+-- the answer without the links
+abbrev pub answer_of : Result Why Refusal → Result Outcome Refusal
+answer_of (Ok w) = Ok w.outcome
+answer_of (Err e) = Err e
 
-abbrev pub room_after : Outcome → List Link → List ℕ → List ℕ
-room_after Released ls out = out
-room_after (Held k r n) ls out = links_bytes ls ++ drop (24 * length ls) out
-room_after (Refused r p) ls out = out
+-- R178: 16 with the bytes of the chain, where the room has fewer; a refusal and a release leave the room as it was
+abbrev pub outcome_in : Result Outcome Refusal → ℕ → Result Outcome Refusal
+outcome_in (Ok Released) room = Ok Released
+outcome_in (Ok (Held k r n)) room = cond (ltb room (24 * n)) (refused 16 (24 * n)) (Ok (Held k r n))
+outcome_in (Err e) room = Err e
+
+abbrev pub room_after : Result Outcome Refusal → List Link → List ℕ → List ℕ
+room_after (Ok Released) ls out = out
+room_after (Ok (Held k r n)) ls out = links_bytes ls ++ drop (24 * length ls) out
+room_after (Err e) ls out = out
 
 unfoldable pub why_room : Limits → List ℕ → List ℕ → List ℕ → List ℕ → ℕ → List ℕ → List ℕ
 why_room m b t published own s out =

@@ -1,7 +1,8 @@
 // Why a message is held: the listed entry that release names, the chain of containers from the outermost down to it, and the reason.
 #![tactic(auto)]
 
-ghost use Rattle.std.specs.Prelude.{◌≡◌, [], ◌++◌, ◌*◌, ◌<◌, ◌≤◌, min, length, take, drop, get_or};
+ghost use Rattle.std.specs.Prelude.{◌≡◌, [], ◌++◌, ◌*◌, ◌<◌, ◌≤◌, min, length, take, drop, get_or, IfOk};
+ghost use Rattle.std.specs.declared.result.Result.TheVariants.{Ok};
 ghost use Rattle.ari.specs.declared.Input.TheVariants as input;
 ghost use Rattle.ari.specs.Limits.{gate_limits, capped};
 ghost use Rattle.buffer.specs.Put.{Put};
@@ -10,12 +11,11 @@ ghost use Rattle.item_table.specs.Entries.{Tabled};
 ghost use Rattle.names.specs.Translated.{translated};
 ghost use Rattle.release.specs.Release.{no};
 ghost use Rattle.why_held.specs.Chain.{member_of, link_by};
-ghost use Rattle.why_held.specs.Why.{no_entry, in_room, why_by, why, Few, link_bytes, links_bytes, outcome_in, why_room};
+ghost use Rattle.why_held.specs.Why.{no_entry, in_room, why_by, why, Few, link_bytes, links_bytes, answer_of, outcome_in, why_room};
 ghost use Rattle.why_held.specs.Code.{slot_meaning_by, meaning_by, chain_by, reason_by, place_of, IsListed, IsHeld, written_by};
 
-use ari::{Input, Limits};
+use ari::{Fault, Input, Limits, Refusal};
 use listing::{Namespace, Reference};
-use reader::Answer;
 use release::Released;
 
 // What a container in the chain means.
@@ -67,18 +67,14 @@ const NO_LINK: Link = Link {
     key: NO_KEY,
 };
 
-// Released; held, with the number of the entry, the reason and the number of links; or what release refuses.
-#[derive(Clone, Copy)]
+// Released; or held, with the number of the entry, the reason and the number of links.
+#[derive(Clone, Copy, PartialEq, Eq)]
 pub enum Outcome {
     Released,
     Held {
         entry: usize,
         reason: u64,
         links: usize,
-    },
-    Refused {
-        number: u8,
-        place: usize,
     },
 }
 
@@ -317,7 +313,7 @@ fn held_table<'a>(
     requires tabled { Tabled limits input.Message s.now count entries.now }
     requires containers_le_containers { limits.containers ≤ gate_limits.containers }
     requires in_bounds { entry < length (listing s.now) }
-    ensures value { result ≡ why_by s.now published.now own.now (no entry) }
+    ensures value { Ok result ≡ why_by s.now published.now own.now (no entry) }
     ensures few { Few result }
 {
     let at = find(s, limits, count, entries, published, own, entry);
@@ -349,24 +345,28 @@ fn held_in<'a>(
     own: &'a [u8],
     entry: usize,
     entries: &mut [u64],
-) -> Why
+) -> Result<Why, Refusal>
     requires s_in_bounds { (min limits.items (length s.now) ≤ length entries.old) × (limits.bytes < 65536) × (limits.containers < 256) }
     requires containers_le_containers { limits.containers ≤ gate_limits.containers }
     requires held { IsHeld limits s.now entry }
     ensures value { result ≡ why_by s.now published.now own.now (no entry) }
-    ensures few { Few result }
+    ensures few { IfOk result Few }
 {
-    match reader::keep(Input::Message, limits, s, entries) {
-        Answer::Accepted(count) => held_table(s, limits, count, entries, published, own, entry),
-        Answer::Refused { number, place } => without_links(Outcome::Refused { number, place }), // release has accepted it
-    }
+    let count = reader::keep(Input::Message, limits, s, entries)?; // release has accepted it
+    Ok(held_table(s, limits, count, entries, published, own, entry))
 }
 
-fn held<'a>(s: &[u8], limits: Limits, published: &'a [u8], own: &'a [u8], entry: usize) -> Why
+fn held<'a>(
+    s: &[u8],
+    limits: Limits,
+    published: &'a [u8],
+    own: &'a [u8],
+    entry: usize,
+) -> Result<Why, Refusal>
     requires bytes_le_bytes { (limits.bytes ≤ gate_limits.bytes) × (limits.items ≤ gate_limits.items) × (limits.containers ≤ gate_limits.containers) }
     requires held { IsHeld limits s.now entry }
     ensures value { result ≡ why_by s.now published.now own.now (no entry) }
-    ensures few { Few result }
+    ensures few { IfOk result Few }
 {
     // A message has no more items than bytes: a table of 128 serves a small one, and is cleared in a fraction of the time.
     if s.len() <= 128 {
@@ -385,13 +385,12 @@ pub fn why_within<'a>(
     published: &'a [u8],
     own: &'a [u8],
     subscriber: u64,
-) -> Why
+) -> Result<Why, Refusal>
     ensures value { result ≡ why (capped limits) s.now grants.now published.now own.now subscriber }
-    ensures few { Few result }
+    ensures few { IfOk result Few }
 {
-    match release::release_within(limits, s, grants, published, own, subscriber) {
-        Released::Yes { .. } => without_links(Outcome::Released),
-        Released::Refused { number, place } => without_links(Outcome::Refused { number, place }),
+    match release::release_within(limits, s, grants, published, own, subscriber)? {
+        Released::Yes { .. } => Ok(without_links(Outcome::Released)),
         Released::No { entry, .. } => held(s, ari::cap(limits), published, own, entry),
     }
 }
@@ -403,9 +402,9 @@ pub fn why_message<'a>(
     published: &'a [u8],
     own: &'a [u8],
     subscriber: u64,
-) -> Why
+) -> Result<Why, Refusal>
     ensures value { result ≡ why gate_limits s.now grants.now published.now own.now subscriber }
-    ensures few { Few result }
+    ensures few { IfOk result Few }
 {
     why_within(ari::LIMITS, s, grants, published, own, subscriber)
 }
@@ -435,36 +434,23 @@ fn put_links(out: &mut [u8], links: [Link; ari::CONTAINERS], count: usize)
 }
 
 // What an outcome with its links answers and writes in the lent room.
-fn write_why(w: Why, out: &mut [u8]) -> Outcome
+fn write_why(w: Why, out: &mut [u8]) -> Result<Outcome, Refusal>
     requires { Few w }
-    ensures value { result ≡ outcome_in w.outcome (length out.old) }
+    ensures value { result ≡ outcome_in (Ok w.outcome) (length out.old) }
     ensures out_after { out.new ≡ written_by result w.links out.old }
 {
-    let o = w.outcome;
-    match o {
-        Outcome::Released => Outcome::Released,
-        Outcome::Refused { number, place } => Outcome::Refused { number, place },
-        Outcome::Held {
-            entry,
-            reason,
-            links,
-        } => {
-            let need = links * LINK;
-            if out.len() < need {
-                return Outcome::Refused {
-                    number: 16,
-                    place: need,
-                };
-            }
-            let l = w.links;
-            put_links(out, l, links);
-            Outcome::Held {
-                entry,
-                reason,
-                links,
-            }
+    if let Outcome::Held { links, .. } = w.outcome {
+        let need = links * LINK;
+        if out.len() < need {
+            return Err(Refusal {
+                fault: Fault::NoRoom,
+                place: need,
+            });
         }
+        let l = w.links;
+        put_links(out, l, links);
     }
+    Ok(w.outcome)
 }
 
 // Why a message within these limits is held, its links as bytes in the lent room; 16 with the bytes that they need, if it has fewer.
@@ -476,11 +462,11 @@ pub fn why_bytes_within<'a>(
     own: &'a [u8],
     subscriber: u64,
     out: &mut [u8],
-) -> Outcome
-    ensures value { result ≡ outcome_in (why (capped limits) s.now grants.now published.now own.now subscriber).outcome (length out.old) }
+) -> Result<Outcome, Refusal>
+    ensures value { result ≡ outcome_in (answer_of (why (capped limits) s.now grants.now published.now own.now subscriber)) (length out.old) }
     ensures out_after { out.new ≡ why_room (capped limits) s.now grants.now published.now own.now subscriber out.old }
 {
-    let w = why_within(limits, s, grants, published, own, subscriber);
+    let w = why_within(limits, s, grants, published, own, subscriber)?;
     write_why(w, out)
 }
 
@@ -491,8 +477,8 @@ pub fn why_bytes<'a>(
     own: &'a [u8],
     subscriber: u64,
     out: &mut [u8],
-) -> Outcome
-    ensures value { result ≡ outcome_in (why gate_limits s.now grants.now published.now own.now subscriber).outcome (length out.old) }
+) -> Result<Outcome, Refusal>
+    ensures value { result ≡ outcome_in (answer_of (why gate_limits s.now grants.now published.now own.now subscriber)) (length out.old) }
     ensures out_after { out.new ≡ why_room gate_limits s.now grants.now published.now own.now subscriber out.old }
 {
     why_bytes_within(ari::LIMITS, s, grants, published, own, subscriber, out)

@@ -1,5 +1,4 @@
 -- `ari::cap` meets its contract: each limit by itself.
-use mathlib.Core.Path.{◌≡◌, refl}
 use borrow.Author.Rules.{rules}
 use Rattle.ari.proofs.cap.Statement.{statement}
 use Rattle.ari.proofs.cap.Tie as tie

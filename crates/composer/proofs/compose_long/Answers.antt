@@ -6,14 +6,14 @@ use Rattle.composer.proofs.compose_long.Goals as goal
 pub finish-requires : goal.finish-requires
 finish-requires c = search (orders, orders_left, rules)
 
-pub returns-in-Right-clause-value : goal.returns-in-Right-clause-value
-returns-in-Right-clause-value c = search (orders, orders_left, rules)
+pub returns-in-None-clause-value : goal.returns-in-None-clause-value
+returns-in-None-clause-value c = search (orders, orders_left, rules)
 
-pub returns-in-Right-clause-out_after : goal.returns-in-Right-clause-out_after
-returns-in-Right-clause-out_after c = search (orders, orders_left, rules)
+pub returns-in-None-clause-out_after : goal.returns-in-None-clause-out_after
+returns-in-None-clause-out_after c = search (orders, orders_left, rules)
 
-pub returns-in-Whole-clause-value : goal.returns-in-Whole-clause-value
-returns-in-Whole-clause-value c = search (orders, orders_left, rules)
+pub returns-in-Ok-clause-value : goal.returns-in-Ok-clause-value
+returns-in-Ok-clause-value c = search (orders, orders_left, rules)
 
-pub returns-in-Whole-clause-out_after : goal.returns-in-Whole-clause-out_after
-returns-in-Whole-clause-out_after c = search (orders, orders_left, rules)
+pub returns-in-Ok-clause-out_after : goal.returns-in-Ok-clause-out_after
+returns-in-Ok-clause-out_after c = search (orders, orders_left, rules)

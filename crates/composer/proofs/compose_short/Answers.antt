@@ -6,8 +6,8 @@ use Rattle.composer.proofs.compose_short.Goals as goal
 pub finish-requires : goal.finish-requires
 finish-requires c = search (orders, orders_left, rules)
 
-pub returns-in-Whole-clause-value : goal.returns-in-Whole-clause-value
-returns-in-Whole-clause-value c = search (orders, orders_left, rules)
+pub returns-in-Ok-clause-value : goal.returns-in-Ok-clause-value
+returns-in-Ok-clause-value c = search (orders, orders_left, rules)
 
-pub returns-in-Whole-clause-out_after : goal.returns-in-Whole-clause-out_after
-returns-in-Whole-clause-out_after c = search (orders, orders_left, rules)
+pub returns-in-Ok-clause-out_after : goal.returns-in-Ok-clause-out_after
+returns-in-Ok-clause-out_after c = search (orders, orders_left, rules)

@@ -1,11 +1,9 @@
--- `month::count_message` meets its contract: by the reader's answer.
-use Rattle.month.proofs.Walking.{messages, message_counted}
-use Rattle.reader.proofs.Kept.{tabled}
-use borrow.Author.Rules.{rules}
+use Rattle.reader.proofs.Results.{tabled}
+use Rattle.month.proofs.Walking.{message_counted}
 use Rattle.month.proofs.count_message.Goals as goal
 
 pub count_table-requires-clause-tabled : goal.count_table-requires-clause-tabled
-count_table-requires-clause-tabled c = search (messages, tabled, rules)
+count_table-requires-clause-tabled c = tabled _ _ _ c.keep.ensures.value c.keep.ensures.kept c.keep.auto.entries c.type_inv.s c.requires.s_in_bounds c.in_ok-count.was
 
-pub returns-in-Accepted : goal.returns-in-Accepted
-returns-in-Accepted c = message_counted _ _ _ _ _ _ _ c.keep.ensures.value c.type_inv.s c.in-Accepted.is c.with_size-u.ensures c.count_table.ensures
+pub returns : goal.returns
+returns c = message_counted _ _ _ _ _ _ _ c.keep.ensures.value c.type_inv.s c.in_ok-count.was c.with_size-sized.ensures c.count_table.ensures

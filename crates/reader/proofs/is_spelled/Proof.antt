@@ -1,6 +1,5 @@
 -- `reader::is_spelled` meets its contract: one spelling for each number.
 use borrow.Author.Rules.{rules}
-use mathlib.Core.Path.{◌≡◌, refl, sym, ◌∙◌, ap}
 use Rattle.reader.proofs.Keys.{spelled_by, spelled_else}
 use Rattle.reader.proofs.is_spelled.Statement.{statement}
 use Rattle.reader.proofs.is_spelled.Tie as tie

@@ -27,18 +27,18 @@ is_unordered-requires c = search (content_ways, rules)
 
 pub returns-then-is_unordered-clause-value : goal.returns-then-is_unordered-clause-value
 returns-then-is_unordered-clause-value c =
-    is_unordered _ _ _ _ (search rules) (search rules) c.string_end-e.ensures c.in-At.is c.is_misspelt.ensures c.if-is_misspelt.false (search rules)
+    is_unordered _ _ _ _ (search rules) (search rules) c.string_end.ensures c.in-Some.is c.is_misspelt.ensures c.if-is_misspelt.false (search rules)
     (search (fits_slot, rules)) c.wrong_version.ensures c.if-wrong_version.false c.is_unordered.ensures c.if-is_unordered.true
 
 pub returns-then-is_empty-clause-value : goal.returns-then-is_empty-clause-value
 returns-then-is_empty-clause-value c =
-    is_blank _ _ _ _ (search rules) (search rules) c.string_end-e.ensures c.in-At.is c.is_misspelt.ensures c.if-is_misspelt.false (search rules)
+    is_blank _ _ _ _ (search rules) (search rules) c.string_end.ensures c.in-Some.is c.is_misspelt.ensures c.if-is_misspelt.false (search rules)
     (search (fits_slot, rules)) c.wrong_version.ensures c.if-wrong_version.false c.is_unordered.ensures c.if-is_unordered.false c.is_empty.ensures
     c.if-is_empty.true
 
 pub returns-clause-value : goal.returns-clause-value
 returns-clause-value c =
-    is_taken _ _ _ _ (search rules) (search rules) c.string_end-e.ensures c.in-At.is c.is_misspelt.ensures c.if-is_misspelt.false (search rules)
+    is_taken _ _ _ _ (search rules) (search rules) c.string_end.ensures c.in-Some.is c.is_misspelt.ensures c.if-is_misspelt.false (search rules)
     (search (fits_slot, rules)) c.wrong_version.ensures c.if-wrong_version.false c.is_unordered.ensures c.if-is_unordered.false c.is_empty.ensures
     c.if-is_empty.false
 

@@ -1,54 +1,49 @@
 -- `release::release_table` meets its contract.
-use mathlib.Core.Path.{◌∙◌}
 use native.Mathlib.Omega.{arith}
 use borrow.Author.Rules.{rules}
-use Rattle.release.proofs.Search.{all_passed, no_number, search_rows, started, next_row, rows_passed, others_there, no_row, a_row, searches}
-use Rattle.release.proofs.release_table.Goals.{else-entries-test, then-entries-test+in-To+then-not-n, then-entries-test+in-To+else-not-n+then-grants-at-lt16}
+use Rattle.release.proofs.Search.{passed_none, passed_over, no_number, not_found, found, all_passed}
+use Rattle.release.proofs.release_table.Goals.{in-To+in-Some+in-Some-row_from, in_default}
 use Rattle.release.proofs.release_table.Goals as goal
 
-pub entries-init : goal.entries-init
-entries-init c = search (searches, rules)
-
-pub entries-preserved-in-Nothing : goal.entries-preserved-in-Nothing
-entries-preserved-in-Nothing c = search (searches, rules)
-
-pub rows-init : goal.rows-init
-rows-init c =
+pub loop-item-init : goal.loop-item-init
+loop-item-init c =
     let a = c.args in
-    let at = started a.grants.now a.subscriber c.entries.invariant.3 c.start-at.ensures in
-    let searched = search_rows c.requires a.grants.now a.published.now a.own.now a.subscriber c.entries.invariant.2 in
-    (search rules, search rules, at.inside, search (searched, at, c.settled-compared.ensures, rules))
+    record { fewer = omega arith; passed = passed_none c.requires a.grants.now a.published.now a.own.now a.subscriber; last = tt }
 
-pub rows-preserved-then-others-gt0 : goal.rows-preserved-then-others-gt0
-rows-preserved-then-others-gt0 c =
-    let e = c.rows.invariant in
-    let o = c.others_from-others.ensures in
-    (e.0, e.1, others_there e.2 o, rows_passed e.3 o)
-
-pub rows-preserved : goal.rows-preserved
-rows-preserved c = let e = c.rows.invariant in (search (e.0, rules), search (e.1, rules), search (e.2, rules), search (e.3, next_row, rules))
-
-pub entries-preserved : goal.entries-preserved
-entries-preserved c =
-    let e = c.rows.invariant in
-    (search (e.0, rules), search (e.1, rules), a_row e.3 c.if-grants-at-lt16.false c.holds_at.ensures c.if-holds_at.true, e.3.before)
-
-pub returns-then-k-count : goal.returns-then-k-count
-returns-then-k-count c =
+pub returns-in_default-sought : goal.returns-in_default-sought
+returns-in_default-sought c =
     let a = c.args in
-    let none = no_number c.requires a.grants.now a.published.now a.own.now a.subscriber c.entries.invariant.2 in
-    elim c.entries-test.branch [
-      | else-entries-test w ↦ absurd (omega arith)
-      | then-entries-test+in-To+then-not-n w ↦ search (none, w.compared-is ∙ w.settled-compared.ensures, rules)
-      | then-entries-test+in-To+else-not-n+then-grants-at-lt16 w ↦ no_row w.rows.invariant.3 w.if-grants-at-lt16.true w.saturating_add-compared.ensures w.compared-is
+    no_number c.requires a.grants.now a.published.now a.own.now a.subscriber c.loop-item.invariant.passed c.loop-item-test.true c.reference_at.ensures c.in-To.is
+    c.sought.ensures c.settled-compared.ensures c.in_default-sought.is
+
+pub returns-in_default-row_from : goal.returns-in_default-row_from
+returns-in_default-row_from c =
+    let a = c.args in
+    not_found c.requires a.grants.now a.published.now a.own.now a.subscriber c.loop-item.invariant.passed c.loop-item-test.true c.reference_at.ensures c.in-To.is
+    c.sought.ensures c.settled-compared.ensures c.in-Some.is c.in_default-row_from.ensures (search rules)
+
+pub loop-item-preserved : goal.loop-item-preserved
+loop-item-preserved c =
+    let a = c.args in
+    let e = c.loop-item.invariant in
+    elim c.match-reference_at.branch [
+      | in-To+in-Some+in-Some-row_from w ↦ record {
+        fewer = omega arith;
+        passed = rw (w.entry-is, w.compared-is, w.last-is)
+            (found c.requires a.grants.now a.published.now a.own.now a.subscriber e.passed c.loop-item-test.true c.reference_at.ensures w.in-To.is w.sought.ensures
+            w.settled-compared.ensures w.in-Some.is w.in-Some-row_from.ensures);
+        last = rw w.last-is w.in-Some-row_from.ensures.before;
+      }
+      | in_default w ↦ record {
+        fewer = omega arith;
+        passed = rw (w.entry-is, w.compared-is, w.last-is)
+            (passed_over c.requires a.grants.now a.published.now a.own.now a.subscriber e.passed c.loop-item-test.true c.reference_at.ensures w.in_default.is);
+        last = rw w.last-is e.last;
+      }
     ]
 
 pub returns : goal.returns
 returns c =
     let a = c.args in
-    let e = c.entries.invariant in
-    elim c.entries-test.branch [
-      | else-entries-test w ↦ all_passed c.requires a.grants.now a.published.now a.own.now a.subscriber e.2 w.entries-test.false e.0 (rw (← w.compared-is) c.settled.ensures)
-      | then-entries-test+in-To+then-not-n w ↦ absurd (omega arith)
-      | then-entries-test+in-To+else-not-n+then-grants-at-lt16 w ↦ absurd (omega arith)
-    ]
+    all_passed c.requires a.grants.now a.published.now a.own.now a.subscriber c.loop-item.invariant.passed c.loop-item-test.false c.loop-item.auto.item-index-end
+    c.settled.ensures

@@ -1,5 +1,5 @@
 -- By the depth; and in the loop whatever is read from here on finishes what was begun.
-use Prim.Native.Nat.{◌+◌, ◌*◌, ◌≤◌}
+use Prim.Native.Nat.{◌+◌, ◌-◌, ◌*◌, ◌≤◌}
 use mathlib.Core.Path.{◌≡◌}
 use lib.ListN.{length, drop}
 use Rattle.ari.specs.Table.{due}
@@ -14,10 +14,7 @@ decreases-read_inside l = l.depth * 2
 abbrev pub decreases-read_level : goal.decreases-read_level
 decreases-read_level l = l.depth * 2 + 1
 
-abbrev pub invariant-read_level-loop-fuel : goal.invariant-read_level-loop-fuel
-invariant-read_level-loop-fuel l =
-    Toward l.t (level (parse l.items l.depth) l.items (due (slot_of l.slot) l.more) (drop l.at l.t)) l.end l.initial.out (level (parse l.items l.depth) l.fuel (due (slot_of l.place) l.left) (drop l.p l.t)) l.r l.out
+abbrev pub invariant-read_level-loop-turn : goal.invariant-read_level-loop-turn
+invariant-read_level-loop-turn l =
+    Toward l.t (level (parse l.items l.depth) l.items (due (slot_of l.slot) l.more) (drop l.at l.t)) l.end l.initial.out (level (parse l.items l.depth) (l.items - l._turn) (due (slot_of l.place) l.left) (drop l.p l.t)) l.r l.out
     × IsSlot l.place × (l.p ≤ length l.t) × (length l.out ≡ length l.initial.out)
-
-abbrev pub decreases-read_level-loop-fuel : goal.decreases-read_level-loop-fuel
-decreases-read_level-loop-fuel l = l.fuel

@@ -28,14 +28,14 @@ write_level-returns-in_default t c =
 pub write_level-returns-in_default-n : goal.write_level-returns-in_default-n
 write_level-returns-in_default-n t c =
     let l = c.loop-kind.invariant in
-    ends _ _ _ _ _ _ _ _ _ _ _ l.0 c.take_item-t.ensures c.in-Taken.is l.1 c.next_slot-n.ensures c.write_before-q.ensures c.write_inside-w.ensures
+    ends _ _ _ _ _ _ _ _ _ _ _ l.0 c.take_item-t.ensures c.in-Some.is l.1 c.next_slot-n.ensures c.write_before-q.ensures c.write_inside-w.ensures
     c.in_default-n.is c.write_after-e.ensures
 
 pub write_level-loop-kind-preserved : goal.write_level-loop-kind-preserved
 write_level-loop-kind-preserved t c =
     let l = c.loop-kind.invariant in
     let y = c.take_item-t.ensures in
-    let e = c.in-Taken.is in
+    let e = c.in-Some.is in
     let p = c.write_before-q.ensures in
     let m = c.write_inside-w.ensures in
     let n = c.next_slot-n.ensures in

@@ -1,7 +1,0 @@
--- `answer_codes::month_code` meets its contract: by the answer.
-use borrow.Author.Rules.{rules}
-use Rattle.answer_codes.proofs.month_code.Statement.{statement}
-use Rattle.answer_codes.proofs.month_code.Tie as tie
-
-pub month_code_spec : {M : Type 1} → statement M
-month_code_spec = tie.close (tie.spec (λ c. search rules) (λ c. search rules) (λ c κs. search rules) (λ c. search rules) (λ c. cc))

@@ -1,9 +1,0 @@
--- `buffer::put2` meets its contract: the higher half, then the lower.
-use Rattle.buffer.proofs.Numbers.{numbers}
-use borrow.Author.Rules.{rules}
-use Rattle.buffer.proofs.put2.Statement.{statement}
-use Rattle.buffer.proofs.put2.Tie as tie
-
-pub put2_spec : {M : Type 1} → statement M
-put2_spec =
-    tie.close (tie.spec (λ c. search rules) (λ c κs. search rules) (λ c. search rules) (λ c κs. search rules) (λ c. search rules) (λ c. search (numbers, rules)))

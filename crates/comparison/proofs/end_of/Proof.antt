@@ -1,7 +1,0 @@
--- `comparison::end_of` meets its contract.
-use borrow.Author.Rules.{rules}
-use Rattle.comparison.proofs.end_of.Statement.{statement}
-use Rattle.comparison.proofs.end_of.Tie as tie
-
-pub end_of_spec : {M : Type 1} → statement M
-end_of_spec = tie.close (tie.spec (λ c κs. search rules) (λ c. cc))

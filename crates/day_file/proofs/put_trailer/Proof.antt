@@ -1,9 +1,0 @@
--- `day_file::put_trailer` meets its contract: piece by piece.
-use Rattle.day_file.proofs.Adding.{puts}
-use borrow.Author.Rules.{rules}
-use Rattle.day_file.proofs.put_trailer.Statement.{statement}
-use Rattle.day_file.proofs.put_trailer.Tie as tie
-
-pub put_trailer_spec : {M : Type 1} → statement M
-put_trailer_spec = tie.close (tie.spec (λ c κs. search (puts, rules)) (λ c κs. search (puts, rules)) (λ c. search (puts, rules))
-    (λ c κs. search (puts, rules)) (λ c. search (puts, rules)) (λ c κs. search (puts, rules)) (λ c. search (puts, rules)) (λ c. search (puts, rules)))

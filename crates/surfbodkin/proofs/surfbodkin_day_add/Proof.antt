@@ -1,8 +1,0 @@
--- `surfbodkin::surfbodkin_day_add` meets its contract: the answer's code, and the room.
-use borrow.Author.Rules.{rules}
-use Rattle.surfbodkin.proofs.surfbodkin_day_add.Statement.{statement}
-use Rattle.surfbodkin.proofs.surfbodkin_day_add.Tie as tie
-
-pub surfbodkin_day_add_spec : {M : Type 1} → statement M
-surfbodkin_day_add_spec = tie.close (tie.spec (λ c κs. search rules) (λ c κs. search rules) (λ c κs. search rules) (λ c κs. search rules)
-    (λ c. search rules) (λ c. (cc, cc)))
