@@ -84,15 +84,36 @@ put_start t room at = put_nothing room at
 pub copied : (at k n : ℕ) (room u : List ℕ) → k ≡ n → length u ≡ n → at + n ≤ length room → put_mid at k room u ≡ sets room at u
 copied at k n room u e l h = rw (sets-eq u room at (omega arith), drop-drop k at room, e, l, append_assoc)
 
+-- the same for a loop that knows how much fits
+pub put_next : (t : List ℕ) (i : ℕ) {a b : List ℕ} {at : ℕ} → Put a b at (at + i) (take i t) → i < length t → at + i < length a
+    → Put a (set b (at + i) (get_or t i 0)) at (at + (i + 1)) (take (i + 1) t)
+put_next t i {a} {b} {at} p h g =
+    let e : at + (i + 1) ≡ at + i + 1 = omega arith in
+    rw e (put_turn t i p h (put_byte b (at + i) (get_or t i 0) (omega (arith, put_size p))))
+
+pub put_first : (t room : List ℕ) (at : ℕ) → Put room room at (at + 0) (take 0 t)
+put_first t room at = let e : at + 0 ≡ at = omega arith in rw e (put_nothing room at)
+
 -- all of it, or as much as there is room for
-pub put_most : (room u : List ℕ) (at n : ℕ) → at < length room → n ≡ min (length u) (length room - at) → Put room (sets room at (take n u)) at (at + n) u
-put_most room u at n g e = go (leb (length u) n) refl
+pub put_most : (t : List ℕ) (n i : ℕ) {a b : List ℕ} {at : ℕ} → Put a b at (at + i) (take i t) → i ≤ n → n ≤ i → at < length a → n ≡ min (length t) (length a - at)
+    → Put a b at (at + n) t
+put_most t n i {a} {b} {at} p h g l e = let z : i ≡ n = omega arith in go (leb (length t) n) refl (rw z at p)
   where
-    go : (x : Bool) → leb (length u) n ≡ x → Put room (sets room at (take n u)) at (at + n) u
-    go true y = record { bytes = ap (sets room at) (take_all n u (leb-true (length u) n y)); place = omega (arith, leb-true (length u) n y) }
-    go false y =
-        let o : n < length u = leb-false (length u) n y in
-        record {
-          bytes = sym (ap (sets room at) (sym (take-append-drop n u)) ∙ sets_append room at (take n u) (drop n u) ∙ sets_out (drop n u) (sets room at (take n u)) (at + length (take n u)) (rw (length-sets, length-take-le n u (omega arith)) (omega arith)));
-          place = omega arith;
-        }
+    go : (x : Bool) → leb (length t) n ≡ x → Put a b at (at + n) (take n t) → Put a b at (at + n) t
+    go true y p = rw (take_all n t (leb-true (length t) n y)) at p
+    go false y p =
+        let o : n < length t = leb-false (length t) n y in
+        rw (take-append-drop n t) at (put_both p (put_out b (at + n) (drop n t) (omega (arith, put_size p))))
+
+-- how far the loop may go
+module _ (n : ℕ) (t a : List ℕ) (at : ℕ) (e : n ≡ min (length t) (length a - at)) where
+  pub in_text_lem : (i : ℕ) → i < n → i < length t
+  in_text_lem i h = omega arith
+
+  pub in_room : (i : ℕ) → i < n → at + i < length a
+  in_room i h = omega arith
+
+  pub in_lent : {b u : List ℕ} {q : ℕ} → Put a b at q u → (i : ℕ) → i < n → at + i < length b
+  in_lent p i h = omega (arith, put_size p)
+
+pub ruleset copying = (put_out, put_next, put_first, put_most, in_text_lem, in_room, in_lent, put_size)

@@ -52,7 +52,8 @@ pub fn put_all(out: &mut [u8], at: usize, s: &[u8]) -> usize
     r
 }
 
-// The same for long runs, by one copy. For a word or a name the call would cost more than it saves.
+// The same for long runs: what fits is known before the loop, which so becomes one copy. No `copy_from_slice`: in an archive that calls `memmove`, a name
+// that hosts would have to bring.
 pub fn put_block(out: &mut [u8], at: usize, s: &[u8]) -> usize
     ensures { Put out.old out.new at result s.now }
 {
@@ -60,7 +61,9 @@ pub fn put_block(out: &mut [u8], at: usize, s: &[u8]) -> usize
         return at;
     }
     let n = s.len().min(out.len() - at);
-    out[at..at + n].copy_from_slice(&s[..n]);
+    for i in 0..n {
+        out[at + i] = s[i];
+    }
     at + n
 }
 
@@ -162,7 +165,11 @@ pub fn store8(out: &mut [u8], at: usize, x: u64)
 fn bytes_at<const N: usize>(s: &[u8], at: usize) -> Option<[u8; N]>
     ensures { result ≡ cond (leb (at + N) (length s.now)) (Some (take N (drop at s.now))) None }
 {
-    s.get(at..)?.get(..N)?.try_into().ok()
+    // Told so, a loop tests no place twice.
+    if s.len() < N || s.len() - N < at {
+        return None;
+    }
+    s[at..at + N].try_into().ok()
 }
 
 // The big-endian number of the 2, 4 or 8 bytes from a place on, or 0 where there are not so many.

@@ -1,11 +1,11 @@
--- Words in a row. The idea: the last of those in use is moved before the others, and gives way to the new one.
-use Prim.Native.Nat.{ℕ, zero, suc, ◌+◌, ◌-◌, ◌<◌, ◌≤◌}
+-- Words in a row. The idea: a word that is carried up still has to be inserted, and that gives the whole.
+use Prim.Native.Nat.{ℕ, zero, suc, ◌+◌, ◌<◌, ◌≤◌}
 use mathlib.Core.Path.{◌≡◌, sym, ◌∙◌, ap, refl}
-use mathlib.Core.List.{List, [], ◌∷◌, ◌++◌, append_assoc}
-use borrow.Rule.Slice.PartMut.{put_mid}
+use mathlib.Core.List.{List, [], ◌∷◌, ◌++◌}
 use native.Mathlib.Omega.{arith}
-use lib.ListN.{length, take, drop, get_or, set, length-drop}
-use lib.Seq.{take-append-add, drop-drop, length-take-le}
+use native.Mathlib.Numerals.{add-one}
+use lib.ListN.{length, take, drop, get_or, set, drop_of_length-le}
+use lib.Seq.{append_snoc, set_split, drop-set-lt, take_all, length-take-le}
 use Rattle.month_lines.specs.Code.{inserted, shifted}
 
 -- the insertion
@@ -31,47 +31,18 @@ module _ {ℓ} {A : Type ℓ} where
   insert_length [] (suc i) c = refl
   insert_length (y ∷ l) (suc i) c = ap suc (insert_length l i c)
 
--- the last word of some, moved before the others
-last_of : (d : List ℕ) (k : ℕ) → k < length d → drop k (take (suc k) d) ≡ get_or d k 0 ∷ []
-last_of [] k h = absurd (omega arith)
-last_of (x ∷ d) zero h = refl
-last_of (x ∷ d) (suc k) h = last_of d k (omega arith)
+module _ (ws : List ℕ) (n : ℕ) where
+  -- the whole, x, is what is left to insert
+  pub shift_on : (i c : ℕ) (x : List ℕ) → shifted n i c ws ≡ x → i < n → n < length ws → shifted n (i + 1) (get_or ws i 0) (set ws i c) ≡ x
+  unfolding shifted
+  shift_on i c x e h l = rw (add-one i, insert_step 0 ws i c (omega arith), drop-set-lt (suc n) ws i c (omega arith)) e
 
-others : (d : List ℕ) (k : ℕ) → take k (take (suc k) d) ≡ take k d
-others [] zero = refl
-others [] (suc k) = refl
-others (x ∷ d) zero = refl
-others (x ∷ d) (suc k) = ap (λ (r : List ℕ). x ∷ r) (others d k)
-
-turned : (d : List ℕ) (k : ℕ) → k < length d
-    → drop (length (take (suc k) d) - 1) (take (suc k) d) ++ take (length (take (suc k) d) - 1) (take (suc k) d) ≡ get_or d k 0 ∷ take k d
-turned d k h =
-    let z : length (take (suc k) d) - 1 ≡ k = omega (arith, length-take-le (suc k) d (omega arith)) in
-    rw (z, last_of d k h, others d k)
-
-set_behind : (xs r : List ℕ) (y c i : ℕ) → length xs ≡ i → set (xs ++ y ∷ r) i c ≡ xs ++ c ∷ r
-set_behind [] r y c zero e = refl
-set_behind [] r y c (suc i) e = absurd (omega arith)
-set_behind (x ∷ xs) r y c zero e = absurd (omega arith)
-set_behind (x ∷ xs) r y c (suc i) e = ap (λ (l : List ℕ). x ∷ l) (set_behind xs r y c i (omega arith))
-
-pub moved_up : (ws : List ℕ) (n i c : ℕ) → i ≤ n → n < length ws → {rot : List ℕ}
-    → rot ≡ drop (length (take (n + 1 - i) (drop i ws)) - 1) (take (n + 1 - i) (drop i ws)) ++ take (length (take (n + 1 - i) (drop i ws)) - 1) (take (n + 1 - i) (drop i ws))
-    → set (put_mid i (n + 1 - i) ws rot) i c ≡ shifted n i c ws
-unfolding shifted
-moved_up ws n i c le l {rot} e =
-    let m : n + 1 - i ≡ suc (n - i) = omega arith in
-    let s : i + suc (n - i) ≡ suc n = omega arith in
-    let h : n - i < length (drop i ws) = rw length-drop (omega arith) in
-    let r : rot ≡ get_or (drop i ws) (n - i) 0 ∷ take (n - i) (drop i ws) = (rw m at e) ∙ turned (drop i ws) (n - i) h in
-    let w : length (take i ws) ≡ i = length-take-le i ws (omega arith) in
-    let q : suc n ≡ length (take i ws) + suc (n - i) = omega (arith, w) in
-    let t : take (suc n) (take i ws ++ c ∷ drop i ws) ≡ take i ws ++ c ∷ take (n - i) (drop i ws) =
-    ap (λ (j : ℕ). take j (take i ws ++ c ∷ drop i ws)) q ∙ take-append-add (take i ws) (c ∷ drop i ws) (suc (n - i))
-    in
-    let u : drop (suc (n - i)) (drop i ws) ≡ drop (suc n) ws = drop-drop (suc (n - i)) i ws ∙ ap (λ (j : ℕ). drop j ws) s in
-    let v : take (suc n) (inserted i c ws) ≡ take i ws ++ c ∷ take (n - i) (drop i ws) = ap (take (suc n)) (insert_split ws i c (omega arith)) ∙ t in
-    let put : set (put_mid i (suc (n - i)) ws (get_or (drop i ws) (n - i) 0 ∷ take (n - i) (drop i ws))) i c ≡ take i ws ++ c ∷ (take (n - i) (drop i ws) ++ drop (suc (n - i)) (drop i ws)) =
-    set_behind (take i ws) (take (n - i) (drop i ws) ++ drop (suc (n - i)) (drop i ws)) (get_or (drop i ws) (n - i) 0) c i w
-    in
-    rw (m, r) (put ∙ rw (u, v) (sym (append_assoc (take i ws) (c ∷ take (n - i) (drop i ws)) (drop (suc n) ws))))
+  pub shift_done : (i c : ℕ) (x : List ℕ) → shifted n i c ws ≡ x → n ≤ i → i ≤ n → n < length ws → set ws i c ≡ x
+  unfolding shifted
+  shift_done i c x e h k l =
+      let at_end : i ≡ n = omega arith in
+      let size : length (take n ws) ≡ n = length-take-le n ws (omega arith) in
+      let front : take (suc n) (inserted n c ws) ≡ take n ws ++ (c ∷ []) =
+      insert_take ws n n c (omega arith) (omega arith) ∙ insert_split (take n ws) n c (omega arith) ∙ rw (take_all n (take n ws) (omega arith), drop_of_length-le (take n ws) {i = n} (omega arith)) in
+      let whole : set ws n c ≡ take (suc n) (inserted n c ws) ++ drop (suc n) ws = set_split ws n c l ∙ sym (rw front (append_snoc (take n ws) c (drop (suc n) ws))) in
+      rw at_end (whole ∙ rw at_end at e)

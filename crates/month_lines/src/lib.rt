@@ -22,8 +22,14 @@ fn insert(words: &mut [u64], lines: usize, at: usize, word: u64)
     requires { (at ≤ lines) × (lines < length words.old) }
     ensures { words.new ≡ shifted lines at word words.old }
 {
-    words[at..lines + 1].rotate_right(1);
-    words[at] = word;
+    // No `rotate_right`, which is `memmove` in an archive.
+    let mut carried = word;
+    for i in at..lines {
+        let moved = words[i];
+        words[i] = carried;
+        carried = moved;
+    }
+    words[lines] = carried;
 }
 
 // One reference more to the namespace at a place; answers how many lines there are then. Of less room than for all lines nothing is promised.

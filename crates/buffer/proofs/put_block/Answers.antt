@@ -1,19 +1,17 @@
-use Rattle.std.proofs.Common.{◌-◌, ◌+◌, ◌≡◌, take, arith}
-use lib.Seq.{length-take-le}
-use Rattle.std.proofs.lemmas.List.Edits.{sets}
-use borrow.Rule.Slice.PartMut.{put_mid}
-use Rattle.buffer.proofs.Putting.{put_out, put_most, copied}
+use Rattle.std.proofs.Common.{◌≡◌, length, min, ◌-◌, arith}
+use Rattle.buffer.proofs.Putting.{put_out, put_next, put_most, in_text_lem, in_room}
 use Rattle.buffer.proofs.put_block.Goals as goal
 
 pub returns-then-out-at : goal.returns-then-out-at
 returns-then-out-at c = put_out c.args.out.now c.args.at c.args.s.now c.if-out-at.true
 
+pub loop-i-preserved : goal.loop-i-preserved
+loop-i-preserved c =
+    let e : c.min-n.result ≡ min (length c.args.s.now) (length c.args.out.now - c.args.at) = omega (arith, c.min-n.ensures) in
+    put_next c.args.s.now c.loop-i.i c.loop-i.invariant (in_text_lem c.min-n.result c.args.s.now c.args.out.now c.args.at e c.loop-i.i c.loop-i-test.true)
+    (in_room c.min-n.result c.args.s.now c.args.out.now c.args.at e c.loop-i.i c.loop-i-test.true)
+
 pub returns : goal.returns
 returns c =
-    let n = c.min-n.result in
-    let at = c.args.at in
-    let e : put_mid at (at + n - at) c.args.out.now c.copy_from_slice.new.self ≡ sets c.args.out.now at (take n c.args.s.now) =
-    rw c.copy_from_slice.ensures.after
-    (copied at (at + n - at) n c.args.out.now (take n c.args.s.now) (omega arith) (length-take-le n c.args.s.now (omega (arith, c.min-n.ensures))) (omega (arith, c.min-n.ensures)))
-    in
-    rw e (put_most c.args.out.now c.args.s.now at n c.if-out-at.false c.min-n.ensures)
+    let e : c.min-n.result ≡ min (length c.args.s.now) (length c.args.out.now - c.args.at) = omega (arith, c.min-n.ensures) in
+    put_most c.args.s.now c.min-n.result c.loop-i.i c.loop-i.invariant c.loop-i.auto.i-end (omega (arith, c.loop-i-test.false)) (omega (arith, c.if-out-at.false)) e
