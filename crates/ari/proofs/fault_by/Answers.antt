@@ -1,12 +1,14 @@
--- A number's fault is that of the table, or the last.
-use Rattle.std.proofs.Common.{arith, ◌≤◌, ◌-◌, ◌<◌, sym}
-use Rattle.std.proofs.lemmas.List.{get_or_past, get_or_default}
+-- At each number the fault is that of the table; beyond them all it is the last.
+use Prim.Native.Nat.{ℕ, ◌-◌, ◌≤◌}
+use mathlib.Core.Path.{◌≡◌, sym}
+use Rattle.std.proofs.Common.{arith, rules}
+use Rattle.std.proofs.lemmas.List.{get_or_past}
 use Rattle.ari.specs.declared.Fault.TheVariants.{NoSuchTarget}
-use Rattle.ari.specs.Refusals.{faults}
+use Rattle.ari.specs.Refusals.{faults, fault_of}
 use Rattle.ari.proofs.fault_by.Goals as goal
 
-pub returns-then-k-ge27 : goal.returns-then-k-ge27
-returns-then-k-ge27 c = sym (get_or_past faults (c.args.number - 1) NoSuchTarget (let h : 27 ≤ c.args.number - 1 = omega (arith, c.if-k-ge27.true) in h))
+beyond : (n : ℕ) → 28 ≤ n → NoSuchTarget ≡ fault_of n
+beyond n h = sym (get_or_past faults (n - 1) NoSuchTarget (let g : 27 ≤ n - 1 = omega (arith, h) in g))
 
-pub returns : goal.returns
-returns c = get_or_default faults (c.args.number - 1) _ NoSuchTarget (let h : c.args.number - 1 < 27 = omega (arith, c.if-k-ge27.false) in h)
+pub returns-in_default : goal.returns-in_default
+returns-in_default c = search (beyond, rules)
