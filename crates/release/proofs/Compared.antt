@@ -5,7 +5,6 @@ use mathlib.Core.Path.{◌≡◌, refl, ap}
 use mathlib.Core.Bool.{Bool, true, false, cond}
 use mathlib.Core.List.{List, [], ◌∷◌}
 use native.Mathlib.Omega.{arith}
-use native.Mathlib.Nat.{mul_comm}
 use lib.ListN.{length, length-map}
 use Rattle.ari.specs.declared.Limits.{Limits}
 use Rattle.ari.specs.Listing.{Space, number, name, relative, Entry, listing}
@@ -13,14 +12,20 @@ use Rattle.names.specs.Translated.{translate, translated}
 use Rattle.grants.specs.Grants.{Grant, holds, granted}
 use Rattle.grants.specs.Bytes.{rows, ragged}
 use Rattle.ari.specs.declared.Input.TheVariants.{Message}
-use Rattle.ari.specs.Reader.{Answer, read}
+use Rattle.ari.specs.Reader.{Answer}
 use Rattle.ari.proofs.Refusals.{IsNumber, number_of-fault_of, read_numbered}
 use Rattle.ari.proofs.Refusals as answers
 use Rattle.names.specs.declared.Names.{Names}
 use Rattle.names.specs.declared.Names.TheVariants.{Passes, Refused}
 use Rattle.names.specs.Names.{check_names}
 use Rattle.release.specs.Release.{Release, refused, yes, no, judge_from, judge, release, after_lists, release_rows, release_bytes, answer_of}
-use Rattle.release.specs.Compared.{rows_up_to, compared_for, compared_over, within64, compared, counted, counted_rows, counted_bytes}
+use Rattle.release.specs.Compared.{rows_up_to, compared_for, compared_over, compared, with_count, release_of, counted, counted_rows, counted_bytes}
+
+-- The yes, the no and its entry, and the refusals are those of the release without its count.
+pub without_count : (x : Release) (c : ℕ) → release_of (with_count x c) ≡ x
+without_count yes c = refl
+without_count (no k) c = refl
+without_count (refused r p) c = refl
 
 -- a refusal with a number that the rules have, or none
 pub data Numbered : Release → Type 0 where
@@ -28,7 +33,7 @@ pub data Numbered : Release → Type 0 where
   released : Numbered yes
   held : {k : ℕ} → Numbered (no k)
 
--- The yes, the no and its entry, and the refusals are those without the count, where a refusal has a number that the rules have.
+-- So they are of what the code answers, where a refusal has a number that the rules have.
 pub counted_back : {x : Release} → Numbered x → (c : ℕ) → answer_of (counted x c) ≡ x
 counted_back released c = refl
 counted_back held c = refl
@@ -78,9 +83,9 @@ module _ (m : Limits) (b published own : List ℕ) (s : ℕ) where
   bytes_without_count t = counted_back (bytes_numbered t) (compared (rows t) b published own s)
 
   -- So it is of every release.
-  pub without_count : ((t : List Grant) → answer_of (counted_rows m b t published own s) ≡ release_rows m b t published own s)
+  pub of_every_release : ((t : List Grant) → answer_of (counted_rows m b t published own s) ≡ release_rows m b t published own s)
       × ((t : List ℕ) → answer_of (counted_bytes m b t published own s) ≡ release_bytes m b t published own s)
-  without_count = (rows_without_count, bytes_without_count)
+  of_every_release = (rows_without_count, bytes_without_count)
 
 -- each row once
 rows_at_most : (p : Grant → Bool) (t : List Grant) → rows_up_to p t ≤ length t

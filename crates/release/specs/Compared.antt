@@ -37,10 +37,30 @@ unfoldable pub compared : List Grant → List ℕ → List ℕ → List ℕ → 
 compared t b published own s = within64 (compared_over t s (translated published own b))
 
 -- R153: yes and no have the count, a refusal has none
+pub data Counted : Type 0 where
+  yes_after : ℕ → Counted  -- rows compared
+  no_after : ℕ → ℕ → Counted  -- entry, rows compared
+  uncounted : ℕ → ℕ → Counted  -- number, place
+
+abbrev pub with_count : Release → ℕ → Counted
+with_count yes c = yes_after c
+with_count (no k) c = no_after k c
+with_count (refused r p) c = uncounted r p
+
+-- the release without its count
+abbrev pub release_of : Counted → Release
+release_of (yes_after c) = yes
+release_of (no_after k c) = no k
+release_of (uncounted r p) = refused r p
+
+-- what the code answers for it
+abbrev pub answered : Counted → Result Released Refusal
+answered (yes_after c) = Ok (Yes c)
+answered (no_after k c) = Ok (No k c)
+answered (uncounted r p) = refusals.refused r p
+
 abbrev pub counted : Release → ℕ → Result Released Refusal
-counted yes c = Ok (Yes c)
-counted (no k) c = Ok (No k c)
-counted (refused r p) c = refusals.refused r p
+counted x c = answered (with_count x c)
 
 -- a lent number after a release: the count, and as it was where there is none
 abbrev pub count_after : Result Released Refusal → ℕ → ℕ

@@ -1,7 +1,7 @@
 // Release: whether a message may be handed on for a subscriber, by the grants that a table of bytes has for it and the numbers that two lists have for names.
 #![tactic(auto)]
 
-ghost use Rattle.std.specs.Prelude.{◌≡◌, ◌+◌, ◌<◌, ◌≤◌, min, length, true, IfSome, MatchOption};
+ghost use Rattle.std.specs.Prelude.{◌≡◌, ◌+◌, ◌<◌, ◌≤◌, min, length, true};
 ghost use Rattle.std.specs.declared.result.Result.TheVariants.{Ok};
 ghost use Rattle.ari.specs.declared.Input.TheVariants as input;
 ghost use Rattle.ari.specs.Limits.{gate_limits, capped};
@@ -9,7 +9,7 @@ ghost use Rattle.item_table.specs.Entries.{Tabled};
 ghost use Rattle.names.specs.Translated.{stands_by, translated};
 ghost use Rattle.grants.specs.Bytes.{rows};
 ghost use Rattle.release.specs.Compared.{judged_over, counted_bytes};
-ghost use Rattle.release.specs.Rows.{sought_by, start_by, Other, Others, last_rows, Before, NoRow, RowAt};
+ghost use Rattle.release.specs.Rows.{sought_by, start_by, Other, Others, last_rows};
 
 use ari::{Fault, Input, Limits, Refusal};
 use listing::{Namespace, Reference};
@@ -84,25 +84,6 @@ fn others_from(grants: &[u8], at: usize, subscriber: u64) -> usize
     16
 }
 
-// The place of the first row that grants a number to a subscriber, from a place on before which no row does.
-fn row_from(grants: &[u8], from: usize, subscriber: u64, word: u64) -> Option<usize>
-    requires { Before grants.now subscriber word from }
-    ensures { MatchOption result (NoRow grants.now subscriber word) (RowAt grants.now subscriber word) }
-{
-    let mut at = from;
-    while 16 <= grants.len() - at {
-        let others = others_from(grants, at, subscriber);
-        if 0 < others {
-            at += others;
-        } else if grants::holds_at(grants, at, subscriber, word) {
-            return Some(at);
-        } else {
-            at += 16;
-        }
-    }
-    None
-}
-
 // Entries by rows. The search is left at the first entry that no row grants: a number to the subscriber, an unknown name or a relative one to nobody.
 fn release_table<'a>(
     s: &[u8],
@@ -120,28 +101,44 @@ fn release_table<'a>(
     let mut entry = 0;
     let mut compared = 0;
     let mut last = None;
-    for item in &entries[..count] {
+    let mut held: Option<usize> = None;
+    // Two nested loops in one function, the outer one left by its label: the form that docs/DECISIONS.md names for this search.
+    'entries: for item in &entries[..count] {
         if let Reference::To { namespace, .. } = listing::reference_at(s, *item) {
             compared = settled(compared, last);
             let Some(word) = sought(published, own, s, namespace) else {
-                return Released::No { entry, compared };
+                held = Some(entry);
+                break 'entries;
             };
-            let Some(place) = row_from(grants, start(word, last), subscriber, word) else {
-                let all = (grants.len() / 16) as u64;
-                return Released::No {
-                    entry,
-                    compared: compared.saturating_add(all),
-                };
-            };
-            last = Some(LastRow { word, place });
+            let mut at = start(word, last);
+            'rows: loop {
+                if grants.len() - at < 16 {
+                    compared = compared.saturating_add((grants.len() / 16) as u64);
+                    held = Some(entry);
+                    break 'entries;
+                }
+                let others = others_from(grants, at, subscriber);
+                if 0 < others {
+                    at += others;
+                } else if grants::holds_at(grants, at, subscriber, word) {
+                    break 'rows;
+                } else {
+                    at += 16;
+                }
+            }
+            last = Some(LastRow { word, place: at });
             entry += 1;
         }
+    }
+    if let Some(entry) = held {
+        return Released::No { entry, compared };
     }
     Released::Yes {
         compared: settled(compared, last),
     }
 }
 
+#[tactic(auto, using(crate::proofs::Search::release_ragged))]
 fn release_in<'a>(
     s: &[u8],
     limits: Limits,

@@ -14,9 +14,6 @@ returns-in_err-count c =
 pub returns-in-Refused : goal.returns-in-Refused
 returns-in-Refused c = search (outcomes, rules)
 
-pub returns-then-grants-ne0 : goal.returns-then-grants-ne0
-returns-then-grants-ne0 c = search (outcomes, rules)
-
 pub release_table-requires : goal.release_table-requires
 release_table-requires c = tabled _ _ _ c.keep.ensures.value c.keep.ensures.kept c.keep.auto.entries c.type_inv.s c.requires c.in_ok-count.was
 
