@@ -1,7 +1,7 @@
 // A list of names from a file into lent room. What is wrong is said on standard error, after the file's name.
 #![tactic(auto)]
 
-ghost use Rattle.std.specs.Prelude.{◌≡◌, ◌≤◌, length, IfSome};
+ghost use Rattle.std.specs.Prelude.{◌≡◌, ◌≤◌, Some, None, cond, ltb, length, IfSome};
 
 use std::env::Env;
 use std::fs::Files;
@@ -13,6 +13,13 @@ pub fn buffer() -> [u8; 262145]
     [0; 262145]
 }
 
+// What was loaded of a list, if it leaves a byte of the room: one that fills it goes on.
+fn whole(loaded: usize, room: usize) -> Option<usize>
+    ensures { result ≡ cond (ltb loaded room) (Some loaded) None }
+{
+    if loaded < room { Some(loaded) } else { None }
+}
+
 // The file that argument k names, if it leaves a byte of the room; no bytes where there is no such argument.
 pub fn load_argument(rt: &(impl Env + Files), k: usize, text: &mut [u8]) -> Option<usize>
     ensures { IfSome result (λ n. n ≤ length text.old) }
@@ -20,10 +27,10 @@ pub fn load_argument(rt: &(impl Env + Files), k: usize, text: &mut [u8]) -> Opti
     if !arguments::is_given(rt, k) {
         return Some(0);
     }
-    let n = input_file::load(rt, k, text)?;
-    if n < text.len() {
-        return Some(n);
+    let loaded = input_file::load(rt, k, text)?;
+    let list = whole(loaded, text.len());
+    if list.is_none() {
+        input_file::say(rt, k, b": more than 262144 bytes\n");
     }
-    input_file::say(rt, k, b": more than 262144 bytes\n");
-    None
+    list
 }
