@@ -1,6 +1,6 @@
 -- From the answer and what was kept to the tables of an accepted input.
 use Prim.Native.Nat.{ℕ, ◌*◌, ◌≤◌, ◌<◌, min}
-use mathlib.Core.Path.{◌≡◌, sym, ◌∙◌}
+use mathlib.Core.Path.{◌≡◌, sym, ◌∙◌, ap}
 use mathlib.Core.List.{List}
 use native.Mathlib.Omega.{arith}
 use lib.ListN.{length, get_or, set, length-map}
@@ -25,7 +25,9 @@ use Rattle.item_table.proofs.References.{noted_table}
 use Rattle.std.specs.declared.result.Result.{Result}
 use Rattle.std.specs.declared.result.Result.TheVariants.{Ok, Err}
 use Rattle.ari.specs.declared.Refusal.{Refusal}
-use Rattle.ari.specs.Refusals.{refused}
+use Rattle.ari.specs.Refusals.{number_of, refusal_of, refused}
+use Rattle.ari.proofs.Refusals.{Numbered, number_of-fault_of, read_numbered}
+use Rattle.ari.proofs.Refusals as numbers
 use Rattle.reader.specs.Results.{result_of, Keeps, Notes}
 use Rattle.buffer.proofs.ByteLaws.{all_bytes}
 
@@ -37,6 +39,11 @@ was_refused : (x : reader.Answer) {e : Refusal} → Err e ≡ result_of x → {A
 was_refused (refuse r p) q f h = let z : refused r p ≡ f (refuse r p) = sym (h r p) in cc
 was_refused (accept m) q f h = absurd (let z : ◌≡◌ {A = ℕ} 0 1 = cc in omega arith)
 
+refused_back : (x : reader.Answer) → Numbered x → {e : Refusal} → Err e ≡ result_of x → x ≡ refuse (number_of e.fault) e.place
+refused_back (refuse r p) (numbers.refused i) {e} q =
+    let f : refusal_of r p ≡ e = cc in rw (← f) (ap (λ (k : ℕ). refuse k p) (sym (number_of-fault_of r i)))
+refused_back (accept m) h q = absurd (let z : ◌≡◌ {A = ℕ} 0 1 = cc in omega arith)
+
 -- What is answered of a refused input is its refusal, by whatever definition hands refusals on.
 module _ (m : Limits) (i : Input) (b : List ℕ) {a : Result ℕ Refusal} (q : a ≡ result_of (read m i b)) where
   pub is_accepted : {n : ℕ} → a ≡ Ok n → read m i b ≡ accept n
@@ -44,6 +51,10 @@ module _ (m : Limits) (i : Input) (b : List ℕ) {a : Result ℕ Refusal} (q : a
 
   pub is_refused : {e : Refusal} → a ≡ Err e → {A : Type 0} (f : reader.Answer → Result A Refusal) → ((r p : ℕ) → f (refuse r p) ≡ refused r p) → Err e ≡ f (read m i b)
   is_refused g f h = was_refused (read m i b) (sym g ∙ q) f h
+
+  -- with the rules' number
+  pub read_refused : {e : Refusal} → a ≡ Err e → read m i b ≡ refuse (number_of e.fault) e.place
+  read_refused g = refused_back (read m i b) (read_numbered m i b) (sym g ∙ q)
 
   pub tabled : {t t' : List ℕ} → Keeps i b a t t' → length t' ≡ length t → ((j : ℕ) → Fits w8 (get_or b j 0))
       → (min m.items (length b) ≤ length t) × (m.bytes < 65536) × (m.containers < 256) → {n : ℕ} → a ≡ Ok n → Tabled m i b n t'

@@ -32,7 +32,8 @@ beyond_number (refuse r q) {n} {p} f g = go (open_ended r) g
     go true g = let z : 1 ≡ n = cc in rw (← z) refl
     go false g = let z : r ≡ n = cc in rw (← z) (f r q refl)
 
-closing_number : (m : Limits) (b : List ℕ) {n p : ℕ} → closing m b ≡ refuse n p → number_of (fault_of n) ≡ n
+-- The numbers of refusals are the rules' own: where the code gives one, it has this number.
+pub closing_number : (m : Limits) (b : List ℕ) {n p : ℕ} → closing m b ≡ refuse n p → number_of (fault_of n) ≡ n
 unfolding closing
 closing_number m b {n} {p} g = go (ltb m.bytes (length b)) g
   where
@@ -40,7 +41,7 @@ closing_number m b {n} {p} g = go (ltb m.bytes (length b)) g
     go true g = beyond_number (read m Message (take m.bytes b)) (λ r q h. read_number m Message (take m.bytes b) h) g
     go false g = read_number m Message b g
 
-standing_number : (m : Limits) (b : List ℕ) {n p : ℕ} → standing m b ≡ stands n p → number_of (fault_of n) ≡ n
+pub standing_number : (m : Limits) (b : List ℕ) {n p : ℕ} → standing m b ≡ stands n p → number_of (fault_of n) ≡ n
 standing_number m b {n} {p} e = closing_number m b (stands_closes m b n p e)
 
 -- The state ws began as zeros or was opened, and went through these calls only; since a fresh message began it was fed the bytes b, and the room holds
