@@ -17,6 +17,7 @@ use Rattle.names.specs.Names.{check_names}
 use Rattle.day_file.specs.declared.Format.{Format}
 use Rattle.std.specs.declared.result.Result.{Result}
 use Rattle.std.specs.declared.result.Result.TheVariants.{Ok, Err}
+use Rattle.std.specs.Result.{result_and}
 use Rattle.ari.specs.declared.Refusal.{Refusal}
 use Rattle.ari.specs.Refusals.{refused}
 use Rattle.day_file.specs.Day.{messages_from, messages_in, message_stands, first_not, Sized, outline_day, check_day}
@@ -132,10 +133,17 @@ module _ (f : Format) (m : Limits) (b published own ws : List ℕ) (room : words
       );
     }
 
+    pub add_wrong : {r : Result (Unit {0}) Refusal} → r ≡ result_and d (refused 19 p) → Adds m ws source r ws
+    add_wrong {r} h = go d refl
+      where
+        go : (y : Result ℕ Refusal) → d ≡ y → Adds m ws source r ws
+        go (Err i) j = rw (h, j) (add_wrong_file j)
+        go (Ok n) j = rw (h, j) (add_wrong_list j)
+
 pub add_short : (m : Limits) (ws : List ℕ) (s : Source) → length ws < words → Adds m ws s (refused 16 4144) ws
 add_short m ws s h = record { short = λ _. refl; kept = λ _. refl; after = λ xs held. absurd (omega (arith, held.room)) }
 
-pub ruleset adds = (add_passed, add_wrong_file, add_wrong_list)
+pub ruleset adds = (add_passed, add_wrong)
 
 module _ (ws : List ℕ) (s : Source) {r : Result (Unit {0}) Refusal} {ws' : List ℕ} where
   pub add_capped : (m : Limits) {c : Limits} → c ≡ capped m → Adds c ws s r ws' → Adds (capped m) ws s r ws'

@@ -319,13 +319,10 @@ fn add_listed<'a>(
                 &mut table,
             )
         }
-        Names::Refused { place } => {
-            day_file::check(format, limits, file)?;
-            Err(Refusal {
-                fault: Fault::BadLine,
-                place: place as usize,
-            })
-        }
+        Names::Refused { place } => day_file::check(format, limits, file).and(Err(Refusal {
+            fault: Fault::BadLine,
+            place: place as usize,
+        })),
     }
 }
 

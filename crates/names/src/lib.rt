@@ -51,7 +51,7 @@ fn is_number(n: Option<u64>) -> bool
 }
 
 // A line without its line feed is well-formed.
-#[tactic(auto, using(crate::proofs::Lines::line_ways))]
+#[tactic(auto, using(crate::proofs::Lines::ill_named, crate::proofs::Lines::well_named))]
 fn is_formed(line: &[u8]) -> bool
     ensures { result ≡ formed line.now }
 {
